@@ -7,5 +7,4 @@ ghost use Rattle.ap_symbol.specs.Words.{AreProper};
 /// nothing.
 pub fn one_rendering()
     ensures { (a b : List Symbol) → AreProper a → AreProper b → rendering a ≡ rendering b → a ≡ b }
-{
-}
+{}
