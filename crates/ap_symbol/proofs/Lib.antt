@@ -1,1 +1,9 @@
 pub mod OneRendering
+pub mod Letters
+pub mod Partners
+pub mod Changes
+pub mod Reading
+pub mod CaseLaws
+pub mod RecasedWords
+pub mod Alphabets
+pub mod FittingSymbols

@@ -1,0 +1,4 @@
+pub mod Scanning
+pub mod Spelling
+pub mod Lines
+pub mod Plans

@@ -1,0 +1,5 @@
+pub mod Derivation
+pub mod Refusals
+pub mod Soundness
+pub mod FirstForm
+pub mod Reading

@@ -1,0 +1,92 @@
+use Rattle.std.specs.Prelude.{◌≡◌, ℕ, ◌+◌, Bool, true, false, not, ◌&&◌, ◌==◌, nat_lt, nat_le, IsTrue, List, [], ◌∷◌, length}
+use Rattle.std.specs.List.{list_all}
+use Rattle.ap_symbol.specs.Words.{is_white, AreProper}
+use Rattle.ap_symbol.specs.TagNames.{is_tag_name}
+use Rattle.ap_symbol.specs.declared.symbol.Symbol.{Symbol}
+use Rattle.ap_symbol.specs.declared.symbol.Symbol.TheVariants.{Letter, Tag, Star, At}
+use Rattle.ap_dix.specs.declared.dictionary.Dictionary.{Dictionary}
+use Rattle.ap_dix.specs.declared.dictionary.Entry.{Entry}
+use Rattle.ap_dix.specs.declared.dictionary.EntryPart.{EntryPart}
+use Rattle.ap_dix.specs.declared.dictionary.EntryPart.TheVariants.{Identity, Pair, Paradigm}
+use Rattle.ap_dix.specs.declared.dictionary.Kind.TheVariants.{Standard}
+use Rattle.ap_dix.specs.declared.dictionary.Pardef.{Pardef}
+use Rattle.ap_dix.specs.declared.dictionary.Section.{Section}
+use Rattle.ap_dix.specs.declared.dictionary.Side.{Side}
+use Rattle.ap_dix.specs.declared.dictionary.Side.TheVariants.{Both}
+
+-- what a word of a dictionary may hold
+abbrev pub is_entry_symbol : Symbol → Bool
+is_entry_symbol Star = false
+is_entry_symbol At = false
+is_entry_symbol _ = true
+
+-- a paradigm has a number below this one, and no word holds a star or an at
+abbrev pub is_sound_part : ℕ → EntryPart → Bool
+is_sound_part bound (Identity word) = list_all is_entry_symbol word
+is_sound_part bound (Pair left right) = list_all is_entry_symbol left && list_all is_entry_symbol right
+is_sound_part bound (Paradigm n) = nat_lt n bound
+
+abbrev pub is_sound_entry : ℕ → Entry → Bool
+is_sound_entry bound entry = list_all (is_sound_part bound) entry.parts
+
+-- each paradigm, from this number on, names paradigms above it only
+abbrev pub are_sound_pardefs : ℕ → List Pardef → Bool
+are_sound_pardefs n [] = true
+are_sound_pardefs n (pardef ∷ pardefs) = list_all (is_sound_entry n) pardef.entries && are_sound_pardefs (n + 1) pardefs
+
+-- A dictionary is sound where each paradigm that an entry names is there, and stands above the paradigm that the
+-- entry is of; no word holds a star or an at; and the alphabet holds no white space.
+pub record IsSound (d : Dictionary) : Type 0 where
+  pub pardefs : IsTrue (are_sound_pardefs 0 d.pardefs)
+  pub sections : IsTrue (list_all (λ (section : Section). list_all (is_sound_entry (length d.pardefs)) section.entries) d.sections)
+  pub alphabet : IsTrue (list_all (λ c. not (is_white c)) d.alphabet)
+
+-- a letter from a to z
+abbrev pub is_small : ℕ → Bool
+is_small c = nat_le 97 c && nat_le c 122
+
+abbrev pub is_small_letter : Symbol → Bool
+is_small_letter (Letter c) = is_small c
+is_small_letter _ = false
+
+abbrev pub is_small_letter_or_tag : Symbol → Bool
+is_small_letter_or_tag (Letter c) = is_small c
+is_small_letter_or_tag (Tag name) = is_tag_name name
+is_small_letter_or_tag _ = false
+
+-- one or more letters from a to z
+abbrev pub is_plain_left : List Symbol → Bool
+is_plain_left word = not (length word == 0) && list_all is_small_letter word
+
+-- one word of letters for both sides, or a left word of letters and a right word of letters and tags
+abbrev pub is_plain_part : EntryPart → Bool
+is_plain_part (Identity word) = is_plain_left word
+is_plain_part (Pair left right) = is_plain_left left && list_all is_small_letter_or_tag right
+is_plain_part (Paradigm n) = false
+
+-- each word of the part is proper
+abbrev pub ArePartsProper : EntryPart → Type 0
+ArePartsProper (Identity word) = AreProper word
+ArePartsProper (Pair left right) = AreProper left × AreProper right
+ArePartsProper (Paradigm n) = Unit {0}
+
+abbrev pub is_plain_parts : List EntryPart → Bool
+is_plain_parts [] = false
+is_plain_parts (part ∷ []) = is_plain_part part
+is_plain_parts (part ∷ next ∷ parts) = false
+
+abbrev pub is_both : Side → Bool
+is_both Both = true
+is_both _ = false
+
+-- kept in both directions, and of one part
+abbrev pub is_plain_entry : Entry → Bool
+is_plain_entry entry = is_both entry.side && not entry.ignored && is_plain_parts entry.parts
+
+-- A dictionary is plain where it has no paradigms, and one standard section of plain entries.
+pub record IsPlain (d : Dictionary) : Type 0 where
+  pub entries : List Entry
+  pub pardefs : d.pardefs ≡ []
+  pub sections : let section : Section = record { kind = Standard; entries = entries } in d.sections ≡ section ∷ []
+  pub each : IsTrue (list_all is_plain_entry entries)
+  pub alphabet : IsTrue (list_all is_small d.alphabet)

@@ -1,0 +1,5 @@
+pub mod Causes
+pub mod Held
+pub mod Numbered
+pub mod StoreCauses
+pub mod Told

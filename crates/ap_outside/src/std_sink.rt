@@ -1,0 +1,44 @@
+ghost use Rattle.std.specs.Prelude.{◌≡◌, None};
+
+use crate::sink::Sink;
+use crate::source::Failed;
+use std::io::{self, Write};
+
+/// A sink over any writer. It tells nothing of what was written.
+#[derive(Drop)]
+pub struct StdSink<W: Drop> {
+    writer: W,
+    faults: u64,
+}
+
+impl<W: Write + Drop> StdSink<W> {
+    /// The sink that writes to this writer, with no faults.
+    pub fn new(writer: W) -> StdSink<W>
+        ensures { result.faults ≡ 0 }
+    {
+        StdSink { writer, faults: 0 }
+    }
+}
+
+/// Writes the whole piece and flushes it. A writer that takes nothing of bytes that are left is an
+/// error.
+fn write_out<W: Write>(writer: &mut W, piece: &[u8]) -> io::Result<()> {
+    writer.write_all(piece)?;
+    writer.flush()
+}
+
+impl<W: Write + Drop> Sink for StdSink<W> {
+    ghost written = { λ _. None };
+
+    ghost faults = { λ s. s.faults };
+
+    fn put(&mut self, piece: &[u8]) -> Result<(), Failed> {
+        match write_out(&mut self.writer, piece) {
+            Ok(()) => Ok(()),
+            Err(_) => {
+                self.faults = self.faults.saturating_add(1);
+                Err(Failed)
+            }
+        }
+    }
+}

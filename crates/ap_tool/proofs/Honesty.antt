@@ -1,0 +1,166 @@
+use Rattle.std.proofs.Common.{◌≡◌, ℕ, ◌+◌, ◌-◌, ◌^◌, ◌<◌, ◌≤◌, List, [], ◌∷◌, ◌++◌, arith, subst, sym, ap, ◌∙◌, refl, inl, inr, ◌⊎◌, Option, Some, None, Result, Ok, Err, length, append-nil, length-append}
+use Rattle.std.specs.Option.{IfSome, option_map}
+use Rattle.ap_outside.specs.Causes.{Rose}
+use Rattle.ap_outside.specs.Told.{Takes, IsEnd, Puts}
+use Rattle.ap_dix.specs.declared.dictionary.Dictionary.{Dictionary}
+use Rattle.ap_dix.specs.declared.refusal.DixFault.{DixFault}
+use Rattle.ap_dix.specs.FirstForm.{Spells, IsFirstFault}
+use Rattle.ap_dix.specs.Refusals.{kind_number}
+use Rattle.ap_dix.specs.Soundness.{IsPlain}
+use Rattle.ap_tool.specs.declared.status.Status.{Status}
+use Rattle.ap_tool.specs.declared.status.Status.TheVariants.{Done, Usage, FileFault, ReadFault, WriteFault, BadDictionary, BadRules, BadCompiled, Malformed, Limit, Memory}
+use Rattle.ap_tool.specs.declared.intake.Ending.{Ending}
+use Rattle.ap_tool.specs.declared.intake.Ending.TheVariants.{Clean, Failed, TooLong}
+use Rattle.ap_tool.specs.declared.words.Command.{Command}
+use Rattle.ap_tool.specs.declared.words.Command.TheVariants.{Proc}
+use Rattle.ap_tool.specs.declared.words.UsageFault.{UsageFault}
+use Rattle.ap_tool.specs.Words.{command_of}
+use Rattle.ap_tool.specs.Messages.{name_at}
+use Rattle.ap_tool.specs.Standing.{Standing, PutsAll, PutsSome}
+use Rattle.ap_tool.specs.Intake.{IsIntake, input_max}
+use Rattle.ap_tool.specs.Output.{stray_place, IsOutput}
+use Rattle.ap_tool.specs.Stream.{stream_status, Streams, Stops, StreamsOrStops}
+use Rattle.ap_tool.specs.Opening.{FilesStanding, IsFileRefusal, HasText, Opens, IsAccepted, IsFaultOf, file_max}
+use Rattle.ap_tool.specs.Answer.{Outside, IsAnswer, IsAnswerTo, IsCommandAnswer, Refuses, Proceeds}
+use Rattle.ap_tool.specs.Clauses.{IsCalm, Holds, IsHonest, IsExact, IsComplete, GivesUp, Reads, RefusesFaulty, RefusesLong}
+use Rattle.ap_tool.proofs.Endings.{calm-not-rose, text-told, stream-clean}
+
+-- the laws of the dictionary's text and of the output that the clauses below rest on
+pub record Laws : Type 0 where
+  pub one : (text : List ℕ) (c d : Dictionary) → Spells text c → Spells text d → c ≡ d
+  pub one_fault : (text : List ℕ) (e f : DixFault) → IsFirstFault text e → IsFirstFault text f → e ≡ f
+  pub no_fault : (text : List ℕ) (d : Dictionary) (f : DixFault) → Spells text d → IsFirstFault text f → ⊥
+  pub plain : (text : List ℕ) (d : Dictionary) → Spells text d → IsPlain d
+  pub output : (d : Dictionary) (input a b : List ℕ) → IsPlain d → IsOutput d input a → IsOutput d input b → a ≡ b
+
+refused : Laws → (words : List (List ℕ)) (file : ℕ) (old new : Outside) (d : Dictionary) (input : List ℕ) (status : Status) → IsHonest words file old new d input → IsFileRefusal old.files new.files (name_at words file) file status → status ≡ Memory
+refused laws words file old new d input (FileFault f) h r = absurd (calm-not-rose _ _ h.loads r.1)
+refused laws words file old new d input (BadDictionary f number line) h r =
+    let t = text-told old.files (name_at words file) h.text (λ text. IsFaultOf text number line) h.there r.1 in
+    absurd (laws.no_fault h.text d t.fault h.accepted.spelled t.first)
+refused laws words file old new d input (Limit stage kind place) h r =
+    let t = text-told old.files (name_at words file) h.text (λ text. file_max < length text) h.there r.3 in
+    absurd (let s : length h.text ≤ file_max = h.accepted.short in let l : file_max < length h.text = t in omega arith)
+refused laws words file old new d input Memory h r = refl
+refused laws words file old new d input Done h r = absurd r
+refused laws words file old new d input Usage h r = absurd r
+refused laws words file old new d input ReadFault h r = absurd r
+refused laws words file old new d input WriteFault h r = absurd r
+refused laws words file old new d input (BadRules f number line) h r = absurd r
+refused laws words file old new d input (BadCompiled f number line) h r = absurd r
+refused laws words file old new d input (Malformed stage kind place) h r = absurd r
+
+whole-taken : (old new : Option (List ℕ)) (input taken : List ℕ) → old ≡ Some input → Takes old new taken → IsEnd new → taken ≡ input
+whole-taken old None input taken e t n = absurd (let x : Some input ≡ None = sym e ∙ t in cc)
+whole-taken old (Some rest) input taken e t n =
+    let x : Some input ≡ Some (taken ++ rest) = sym e ∙ t in
+    let y : input ≡ taken ++ rest = cc in
+    sym (append-nil taken) ∙ ap (λ r. taken ++ r) (sym n) ∙ sym y
+
+too-much : (old new : Option (List ℕ)) (input taken more : List ℕ) → old ≡ Some input → Takes old new (taken ++ more) → length taken + length more ≤ length input
+too-much old None input taken more e t = absurd (let x : Some input ≡ None = sym e ∙ t in cc)
+too-much old (Some rest) input taken more e t =
+    let x : Some input ≡ Some ((taken ++ more) ++ rest) = sym e ∙ t in
+    let y : input ≡ (taken ++ more) ++ rest = cc in
+    omega (arith, ap length y, length-append (taken ++ more) rest, length-append taken more)
+
+-- the input is all that was left, and ended cleanly
+intake : (old new : Standing) (input taken : List ℕ) (ending : Ending) → old.bytes ≡ Some input → length input ≤ input_max → IsCalm old.faults new.faults → IsIntake old new taken ending → (taken ≡ input) × (ending ≡ Clean)
+intake old new input taken Clean e l c i = (whole-taken old.bytes new.bytes input taken e i.0 i.1, refl)
+intake old new input taken Failed e l c i = absurd (calm-not-rose _ _ c i.1)
+intake old new input taken TooLong e l c i =
+    absurd (let m : length taken + length i.0 ≤ length input = too-much old.bytes new.bytes input taken i.0 e i.1 in let p : 0 < length i.0 = i.2 in let q : length taken ≡ input_max = i.4 in omega arith)
+
+streamed : Laws → (words : List (List ℕ)) (file : ℕ) (old new : Outside) (d : Dictionary) (input text : List ℕ) (status : Status) → IsHonest words file old new d input → IsOutput d input text
+    → StreamsOrStops d old.source new.source old.sink new.sink status → (status ≡ Memory) ⊎ ((status ≡ stream_status input Clean) × Puts old.sink.bytes new.sink.bytes text)
+streamed laws words file old new d input text status h o (inr s) = inl s.memory
+streamed laws words file old new d input text status h o (inl s) =
+    let i = intake old.source new.source input s.input s.ending h.input_told h.input_short h.takes s.taken in
+    let same : s.text ≡ text = laws.output d input s.text text (laws.plain h.text d h.accepted.spelled) (subst (λ n. IsOutput d n s.text) i.0 s.output) o in
+    elim s.written [
+      | inl w ↦ inr (w.1 ∙ ap (λ x. stream_status x s.ending) i.0 ∙ ap (stream_status input) i.1, subst (λ x. Puts old.sink.bytes new.sink.bytes x) same w.0.put)
+      | inr w ↦ absurd (calm-not-rose _ _ h.puts w.0.rose)
+    ]
+
+proceeded : Laws → (words : List (List ℕ)) (file : ℕ) (old new : Outside) (d : Dictionary) (input text : List ℕ) (status : Status) → IsHonest words file old new d input → IsOutput d input text
+    → Proceeds (name_at words file) old new status → (status ≡ Memory) ⊎ ((status ≡ stream_status input Clean) × Puts old.sink.bytes new.sink.bytes text)
+proceeded laws words file old new d input text status h o p =
+    let t = text-told old.files (name_at words file) h.text (λ text. IsAccepted text p.dictionary) h.there p.opened in
+    let same : p.dictionary ≡ d = laws.one h.text p.dictionary d t.spelled h.accepted.spelled in
+    streamed laws words file old new d input text status h o (subst (λ e. StreamsOrStops e old.source new.source old.sink new.sink status) same p.stream)
+
+pub exact-from : Laws → (words : List (List ℕ)) (old new : Outside) (status : Status) → IsAnswer words old new status → IsExact words old new status
+exact-from laws words old new status a = λ file d input text h o.
+    elim (subst (λ r. IsAnswerTo words old new status r) h.command a.by_words) [
+      | inl r ↦ inl (refused laws words file old new d input status h r.refusal)
+      | inr p ↦ proceeded laws words file old new d input text status h o p
+    ]
+
+pub complete-from : Laws → ((d : Dictionary) (input : List ℕ) → IsPlain d → (text : List ℕ) × IsOutput d input text) → (words : List (List ℕ)) (old new : Outside) (status : Status) → IsAnswer words old new status → IsComplete words old new status
+complete-from laws some words old new status a = λ file d input h s.
+    (let o = some d input (laws.plain h.text d h.accepted.spelled) in
+    elim (exact-from laws words old new status a file d input o.0 h o.1) [
+      | inl m ↦ inr m
+      | inr e ↦ inl (e.0 ∙ stream-clean input s)
+    ])
+
+-- the file was refused with the fault that it has
+faulty-refused : Laws → (words : List (List ℕ)) (old new : Outside) (status : Status) (file number line : ℕ) (text : List ℕ) → Holds old.files (name_at words file) text → IsFaultOf text number line
+    → IsFileRefusal old.files new.files (name_at words file) file status → (status ≡ BadDictionary file number line) ⊎ GivesUp words file old new status
+faulty-refused laws words old new (FileFault f) file number line text h t r = inr (inr (ap FileFault r.0, r.1))
+faulty-refused laws words old new (BadDictionary f n l) file number line text h t r =
+    let u = text-told old.files (name_at words file) text (λ text. IsFaultOf text n l) h r.1 in
+    let same : u.fault ≡ t.fault = laws.one_fault text u.fault t.fault u.first t.first in
+    let numbers : n ≡ number = sym u.number_is ∙ ap (λ (x : DixFault). kind_number x.kind) same ∙ t.number_is in
+    let lines : l ≡ line = sym u.line_is ∙ ap (λ (x : DixFault). x.line) same ∙ t.line_is in
+    let files : f ≡ file = r.0 in
+    inl cc
+faulty-refused laws words old new (Limit stage kind place) file number line text h t r =
+    let u = text-told old.files (name_at words file) text (λ text. file_max < length text) h r.3 in
+    absurd (let s : length text ≤ file_max = t.short in let l : file_max < length text = u in omega arith)
+faulty-refused laws words old new Memory file number line text h t r = inr (inl refl)
+faulty-refused laws words old new Done file number line text h t r = absurd r
+faulty-refused laws words old new Usage file number line text h t r = absurd r
+faulty-refused laws words old new ReadFault file number line text h t r = absurd r
+faulty-refused laws words old new WriteFault file number line text h t r = absurd r
+faulty-refused laws words old new (BadRules f n l) file number line text h t r = absurd r
+faulty-refused laws words old new (BadCompiled f n l) file number line text h t r = absurd r
+faulty-refused laws words old new (Malformed stage kind place) file number line text h t r = absurd r
+
+pub faulty-from : Laws → (words : List (List ℕ)) (old new : Outside) (status : Status) → IsAnswer words old new status → RefusesFaulty words old new status
+faulty-from laws words old new status a = λ file number line text h t.
+    elim (subst (λ r. IsAnswerTo words old new status r) h.command a.by_words) [
+      | inl r ↦ elim (faulty-refused laws words old new status file number line text h.there t r.refusal) [
+        | inl e ↦ inl (e, r.source, r.sink)
+        | inr g ↦ inr g
+      ]
+      | inr p ↦ absurd (laws.no_fault text p.dictionary t.fault (text-told old.files (name_at words file) text (λ x. IsAccepted x p.dictionary) h.there p.opened).spelled t.first)
+    ]
+
+-- the file was refused since it is over the limit
+long-refused : (words : List (List ℕ)) (old new : Outside) (status : Status) (file : ℕ) (text : List ℕ) → Holds old.files (name_at words file) text → file_max < length text
+    → IsFileRefusal old.files new.files (name_at words file) file status → (status ≡ Limit 0 6 file) ⊎ GivesUp words file old new status
+long-refused words old new (FileFault f) file text h t r = inr (inr (ap FileFault r.0, r.1))
+long-refused words old new (BadDictionary f n l) file text h t r =
+    let u = text-told old.files (name_at words file) text (λ text. IsFaultOf text n l) h r.1 in
+    absurd (let s : length text ≤ file_max = u.short in omega arith)
+long-refused words old new (Limit stage kind place) file text h t r =
+    let a : stage ≡ 0 = r.0 in let b : kind ≡ 6 = r.1 in let c : place ≡ file = r.2 in inl cc
+long-refused words old new Memory file text h t r = inr (inl refl)
+long-refused words old new Done file text h t r = absurd r
+long-refused words old new Usage file text h t r = absurd r
+long-refused words old new ReadFault file text h t r = absurd r
+long-refused words old new WriteFault file text h t r = absurd r
+long-refused words old new (BadRules f n l) file text h t r = absurd r
+long-refused words old new (BadCompiled f n l) file text h t r = absurd r
+long-refused words old new (Malformed stage kind place) file text h t r = absurd r
+
+pub long-from : (words : List (List ℕ)) (old new : Outside) (status : Status) → IsAnswer words old new status → RefusesLong words old new status
+long-from words old new status a = λ file text h t.
+    elim (subst (λ r. IsAnswerTo words old new status r) h.command a.by_words) [
+      | inl r ↦ elim (long-refused words old new status file text h.there t r.refusal) [
+        | inl e ↦ inl (e, r.source, r.sink)
+        | inr g ↦ inr g
+      ]
+      | inr p ↦ absurd (let s : length text ≤ file_max = (text-told old.files (name_at words file) text (λ x. IsAccepted x p.dictionary) h.there p.opened).short in omega arith)
+    ]

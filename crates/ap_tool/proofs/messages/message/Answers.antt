@@ -1,0 +1,28 @@
+use Rattle.std.proofs.Common.{sym, ap, ◌∙◌, refl}
+use Rattle.std.specs.Prelude.{codes}
+use Rattle.ap_tool.specs.Messages.{message_of, dictionary_text, file_text, name_at}
+use Rattle.ap_tool.specs.Words.{texts}
+use Rattle.ap_tool.proofs.Told.{says-as}
+use Rattle.ap_tool.proofs.messages.message.Goals as goal
+
+pub returns-in-FileFault : goal.returns-in-FileFault
+unfolding message_of
+returns-in-FileFault g c =
+    says-as _ _ (ap (λ n. file_text n (codes ": file fault\n")) c.name.ensures ∙ sym (ap (λ s. message_of s (texts c.args.words.now)) c.in-FileFault.is)) c.say_file.ensures
+
+pub returns-in-ReadFault : goal.returns-in-ReadFault
+unfolding message_of
+returns-in-ReadFault g c = says-as _ _ (sym (ap (λ s. message_of s (texts c.args.words.now)) c.in-ReadFault.is)) c.say-in-ReadFault.ensures
+
+pub returns-in-WriteFault : goal.returns-in-WriteFault
+unfolding message_of
+returns-in-WriteFault g c = says-as _ _ (sym (ap (λ s. message_of s (texts c.args.words.now)) c.in-WriteFault.is)) c.say-in-WriteFault.ensures
+
+pub returns-in-BadDictionary : goal.returns-in-BadDictionary
+unfolding message_of
+returns-in-BadDictionary g c =
+    says-as _ _ (ap (λ n. dictionary_text n c.in-BadDictionary.line c.in-BadDictionary.fault c.dictionary_fault_name.result.now) c.name-in-BadDictionary.ensures ∙ ap (λ n. dictionary_text (name_at (texts c.args.words.now) c.in-BadDictionary.file) c.in-BadDictionary.line c.in-BadDictionary.fault n) c.dictionary_fault_name.ensures ∙ sym (ap (λ s. message_of s (texts c.args.words.now)) c.in-BadDictionary.is)) c.say_dictionary.ensures
+
+pub returns-in-Memory : goal.returns-in-Memory
+unfolding message_of
+returns-in-Memory g c = says-as _ _ (sym (ap (λ s. message_of s (texts c.args.words.now)) c.in-Memory.is)) c.say-in-Memory.ensures

@@ -1,0 +1,42 @@
+use Rattle.ap_tool.proofs.Honesty.{Laws, exact-from, complete-from, faulty-from, long-from}
+use Rattle.ap_tool.proofs.Endings.{usage-from, file-fault-from, read-fault-from, write-fault-from, no-write-fault-from, malformed-from, input-too-long-from, done-from}
+use Rattle.ap_tool.proofs.top.apertium.Goals as goal
+
+pub returns-clause-exact : goal.returns-clause-exact
+returns-clause-exact g c =
+    exact-from (record { one = c.spells_one.ensures; one_fault = c.has_one_fault.ensures; no_fault = c.spells_without_fault.ensures; plain = c.spells_plain.ensures.plain; output = c.one_output.ensures }) _ _ _ _ c.run-status.ensures.answer
+
+pub returns-clause-complete : goal.returns-clause-complete
+returns-clause-complete g c =
+    complete-from (record { one = c.spells_one.ensures; one_fault = c.has_one_fault.ensures; no_fault = c.spells_without_fault.ensures; plain = c.spells_plain.ensures.plain; output = c.one_output.ensures }) c.some_output.ensures _ _ _ _ c.run-status.ensures.answer
+
+pub returns-clause-faulty : goal.returns-clause-faulty
+returns-clause-faulty g c =
+    faulty-from (record { one = c.spells_one.ensures; one_fault = c.has_one_fault.ensures; no_fault = c.spells_without_fault.ensures; plain = c.spells_plain.ensures.plain; output = c.one_output.ensures }) _ _ _ _ c.run-status.ensures.answer
+
+pub returns-clause-long : goal.returns-clause-long
+returns-clause-long g c = long-from _ _ _ _ c.run-status.ensures.answer
+
+pub returns-clause-usage : goal.returns-clause-usage
+returns-clause-usage g c = usage-from _ _ _ _ c.run-status.ensures.answer
+
+pub returns-clause-file_fault : goal.returns-clause-file_fault
+returns-clause-file_fault g c = file-fault-from _ _ _ _ c.run-status.ensures.answer
+
+pub returns-clause-read_fault : goal.returns-clause-read_fault
+returns-clause-read_fault g c = read-fault-from _ _ _ _ c.run-status.ensures.answer
+
+pub returns-clause-malformed : goal.returns-clause-malformed
+returns-clause-malformed g c = malformed-from _ _ _ _ c.run-status.ensures.answer
+
+pub returns-clause-input_too_long : goal.returns-clause-input_too_long
+returns-clause-input_too_long g c = input-too-long-from _ _ _ _ c.run-status.ensures.answer
+
+pub returns-clause-done : goal.returns-clause-done
+returns-clause-done g c = done-from _ _ _ _ c.run-status.ensures.answer
+
+pub returns-clause-write_fault : goal.returns-clause-write_fault
+returns-clause-write_fault g c = write-fault-from _ _ _ _ c.run-status.ensures.answer
+
+pub returns-clause-no_write_fault : goal.returns-clause-no_write_fault
+returns-clause-no_write_fault g c = no-write-fault-from _ _ _ _ c.run-status.ensures.answer

@@ -1,0 +1,50 @@
+use Rattle.std.specs.Prelude.{◌≡◌, ℕ, ◌⊎◌, List, Result, Ok, Err}
+use Rattle.ap_dix.specs.declared.dictionary.Dictionary.{Dictionary}
+use Rattle.ap_tool.specs.declared.status.Status.{Status}
+use Rattle.ap_tool.specs.declared.status.Status.TheVariants.{Usage}
+use Rattle.ap_tool.specs.declared.words.Command.{Command}
+use Rattle.ap_tool.specs.declared.words.Command.TheVariants.{Proc}
+use Rattle.ap_tool.specs.declared.words.UsageFault.{UsageFault}
+use Rattle.ap_tool.specs.Words.{command_of}
+use Rattle.ap_tool.specs.Messages.{name_at}
+use Rattle.ap_tool.specs.Standing.{Standing, PutsAll, PutsSome}
+use Rattle.ap_tool.specs.Stream.{StreamsOrStops}
+use Rattle.ap_tool.specs.Opening.{FilesStanding, Opens, IsFileRefusal}
+
+-- how the objects stand that a command is handed: the files, the source and the sink
+pub record Outside : Type 0 where
+  pub files : FilesStanding
+  pub source : Standing
+  pub sink : Standing
+
+abbrev pub outside : FilesStanding → Standing → Standing → Outside
+outside files source sink = record { files = files; source = source; sink = sink }
+
+-- the dictionary was opened without a fault, and the stream went through it
+pub record Proceeds (name : List ℕ) (old new : Outside) (status : Status) : Type 0 where
+  pub dictionary : Dictionary
+  pub opened : Opens old.files name dictionary
+  pub files : new.files ≡ old.files
+  pub stream : StreamsOrStops dictionary old.source new.source old.sink new.sink status
+
+-- the file was refused, and nothing was taken or written
+pub record Refuses (name : List ℕ) (file : ℕ) (old new : Outside) (status : Status) : Type 0 where
+  pub refusal : IsFileRefusal old.files new.files name file status
+  pub source : new.source ≡ old.source
+  pub sink : new.sink ≡ old.sink
+
+abbrev pub IsCommandAnswer : List (List ℕ) → Outside → Outside → Status → Command → Type 0
+IsCommandAnswer words old new status (Proc file) = Refuses (name_at words file) file old new status ⊎ Proceeds (name_at words file) old new status
+
+abbrev pub IsAnswerTo : List (List ℕ) → Outside → Outside → Status → Result Command UsageFault → Type 0
+IsAnswerTo words old new status (Err fault) = (status ≡ Usage) × (new ≡ old)
+IsAnswerTo words old new status (Ok command) = IsCommandAnswer words old new status command
+
+-- What the words, the file and the stream let a run answer, and how it leaves what it was handed. Words that are no
+-- command are Usage, and nothing changes.
+pub record IsAnswer (words : List (List ℕ)) (old new : Outside) (status : Status) : Type 0 where
+  pub by_words : IsAnswerTo words old new status (command_of words)
+
+-- The message was put, or where a put failed a front of it.
+abbrev pub Tells : Standing → Standing → List ℕ → Type 0
+Tells old new message = PutsAll old new message ⊎ PutsSome old new message

@@ -1,0 +1,96 @@
+use Rattle.std.specs.Prelude.{◌≡◌, ℕ, ◌+◌, ◌-◌, ◌^◌, ◌<◌, ◌≤◌, ◌⊎◌, List, Option, Some, Result, Ok, length}
+use Rattle.ap_outside.specs.Causes.{Rose}
+use Rattle.ap_outside.specs.Told.{Puts, IsEnd}
+use Rattle.ap_dix.specs.declared.dictionary.Dictionary.{Dictionary}
+use Rattle.ap_dix.specs.FirstForm.{Spells}
+use Rattle.ap_tool.specs.declared.status.Status.{Status}
+use Rattle.ap_tool.specs.declared.status.Status.TheVariants.{Done, FileFault, ReadFault, BadDictionary, Malformed, Limit, Memory}
+use Rattle.ap_tool.specs.declared.words.Command.{Command}
+use Rattle.ap_tool.specs.declared.words.Command.TheVariants.{Proc}
+use Rattle.ap_tool.specs.declared.words.UsageFault.{UsageFault}
+use Rattle.ap_tool.specs.declared.intake.Ending.{Ending}
+use Rattle.ap_tool.specs.declared.intake.Ending.TheVariants.{Clean, Failed, TooLong}
+use Rattle.ap_tool.specs.Words.{command_of}
+use Rattle.ap_tool.specs.Messages.{name_at}
+use Rattle.ap_tool.specs.Standing.{Standing}
+use Rattle.ap_tool.specs.Opening.{FilesStanding, IsAccepted, IsFaultOf, file_max}
+use Rattle.ap_tool.specs.Intake.{IsIntake, input_max}
+use Rattle.ap_tool.specs.Output.{stray_place, IsOutput}
+use Rattle.ap_tool.specs.Stream.{stream_status}
+use Rattle.ap_tool.specs.Answer.{Outside}
+
+-- no call failed: the count stands where it stood, below its end
+abbrev pub IsCalm : ℕ → ℕ → Type 0
+IsCalm before now = (now ≡ before) × (before < 2 ^ 64 - 1)
+
+-- the files tell their contents, and the file of that name has this text
+pub record Holds (files : FilesStanding) (name text : List ℕ) : Type 0 where
+  pub at : List ℕ → Option (List ℕ)
+  pub told : files.contents ≡ Some at
+  pub there : at name ≡ Some text
+
+-- Everything that the command reads is told and accepted, the input is within its limit, and no call on an object failed.
+pub record IsHonest (words : List (List ℕ)) (file : ℕ) (old new : Outside) (d : Dictionary) (input : List ℕ) : Type 0 where
+  pub command : command_of words ≡ Ok (Proc file)
+  pub text : List ℕ
+  pub there : Holds old.files (name_at words file) text
+  pub accepted : IsAccepted text d
+  pub input_told : old.source.bytes ≡ Some input
+  pub input_short : length input ≤ input_max
+  pub loads : IsCalm (old.files.load_faults (name_at words file)) (new.files.load_faults (name_at words file))
+  pub takes : IsCalm old.source.faults new.source.faults
+  pub puts : IsCalm old.sink.faults new.sink.faults
+
+-- Then the status and the bytes are those of the meaning, unless memory ran out.
+abbrev pub IsExact : List (List ℕ) → Outside → Outside → Status → Type 0
+IsExact words old new status = (file : ℕ) (d : Dictionary) (input text : List ℕ) → IsHonest words file old new d input → IsOutput d input text
+    → (status ≡ Memory) ⊎ ((status ≡ stream_status input Clean) × Puts old.sink.bytes new.sink.bytes text)
+
+-- And where the stream has no stray byte, the answer is Done, unless memory ran out.
+abbrev pub IsComplete : List (List ℕ) → Outside → Outside → Status → Type 0
+IsComplete words old new status = (file : ℕ) (d : Dictionary) (input : List ℕ) → IsHonest words file old new d input → stray_place input ≡ length input → (status ≡ Done) ⊎ (status ≡ Memory)
+
+-- the file could not be loaded, or memory ran out
+abbrev pub GivesUp : List (List ℕ) → ℕ → Outside → Outside → Status → Type 0
+GivesUp words file old new status = (status ≡ Memory) ⊎ ((status ≡ FileFault file) × Rose (old.files.load_faults (name_at words file)) (new.files.load_faults (name_at words file)))
+
+-- the command's file is told and has this text
+pub record Reads (words : List (List ℕ)) (file : ℕ) (old : Outside) (text : List ℕ) : Type 0 where
+  pub command : command_of words ≡ Ok (Proc file)
+  pub there : Holds old.files (name_at words file) text
+
+-- A file within the limit whose first fault has this number and line is answered so, and nothing is taken or written.
+abbrev pub RefusesFaulty : List (List ℕ) → Outside → Outside → Status → Type 0
+RefusesFaulty words old new status = (file number line : ℕ) (text : List ℕ) → Reads words file old text → IsFaultOf text number line
+    → ((status ≡ BadDictionary file number line) × (new.source ≡ old.source) × (new.sink ≡ old.sink)) ⊎ GivesUp words file old new status
+
+-- A file over the limit is answered so, and nothing is taken or written.
+abbrev pub RefusesLong : List (List ℕ) → Outside → Outside → Status → Type 0
+RefusesLong words old new status = (file : ℕ) (text : List ℕ) → Reads words file old text → file_max < length text
+    → ((status ≡ Limit 0 6 file) × (new.source ≡ old.source) × (new.sink ≡ old.sink)) ⊎ GivesUp words file old new status
+
+-- Only a command's own file is answered as a fault of files, and only where a load of that very name failed; nothing is
+-- taken or written then.
+abbrev pub IsFileFault : List (List ℕ) → Outside → Outside → Status → Type 0
+IsFileFault words old new status = (file : ℕ) → status ≡ FileFault file
+    → (command_of words ≡ Ok (Proc file)) × Rose (old.files.load_faults (name_at words file)) (new.files.load_faults (name_at words file)) × (new.source ≡ old.source) × (new.sink ≡ old.sink)
+
+-- The source failed only where a take failed, what was taken has no stray byte, and no put failed.
+abbrev pub IsReadFault : Outside → Outside → Status → Type 0
+IsReadFault old new status = status ≡ ReadFault
+    → Rose old.source.faults new.source.faults × (new.sink.faults ≡ old.sink.faults) × ((input : List ℕ) × IsIntake old.source new.source input Failed × (stray_place input ≡ length input))
+
+-- Malformed is the first stray byte of what was taken, and no put failed.
+abbrev pub IsMalformed : Outside → Outside → Status → Type 0
+IsMalformed old new status = (stage kind place : ℕ) → status ≡ Malformed stage kind place
+    → (stage ≡ 1) × (kind ≡ 2) × (new.sink.faults ≡ old.sink.faults) × ((input : List ℕ) × (ending : Ending) × IsIntake old.source new.source input ending × (stray_place input ≡ place) × (place < length input))
+
+-- The input was too long only where it has more bytes than the limit, the first of them are without a stray byte, and no
+-- take and no put failed.
+abbrev pub IsInputTooLong : Outside → Outside → Status → Type 0
+IsInputTooLong old new status = status ≡ Limit 0 7 input_max
+    → (new.source.faults ≡ old.source.faults) × (new.sink.faults ≡ old.sink.faults) × ((input : List ℕ) × IsIntake old.source new.source input TooLong × (stray_place input ≡ length input))
+
+-- With Done the source was read to its end, and no call failed.
+abbrev pub IsDone : Outside → Outside → Status → Type 0
+IsDone old new status = status ≡ Done → IsEnd new.source.bytes × (new.source.faults ≡ old.source.faults) × (new.sink.faults ≡ old.sink.faults)

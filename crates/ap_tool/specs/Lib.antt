@@ -1,0 +1,11 @@
+pub mod Words
+pub mod Standing
+pub mod Statuses
+pub mod Messages
+pub mod Intake
+pub mod Pairs
+pub mod Output
+pub mod Stream
+pub mod Opening
+pub mod Answer
+pub mod Clauses

@@ -1,0 +1,22 @@
+//! The commands: their words, files and messages, and the one public call that runs them.
+#![tactic(auto)]
+
+mod intake;
+mod laws;
+mod messages;
+mod opening;
+mod pairs;
+mod status;
+mod stream;
+#[cfg(test)]
+mod tests;
+mod top;
+mod words;
+
+pub use intake::INPUT_MAX;
+pub use laws::{dictionary_has_its_lexicon, one_output, some_output};
+pub use messages::message;
+pub use opening::FILE_MAX;
+pub use status::Status;
+pub use top::apertium;
+pub use words::{Command, UsageFault, read_words};

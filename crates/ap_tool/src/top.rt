@@ -1,0 +1,117 @@
+ghost use Rattle.std.specs.Prelude.{◌≡◌, ◌↔◌, ℕ, length};
+ghost use Rattle.ap_outside.specs.Causes.{Rose};
+ghost use Rattle.ap_tool.specs.Messages.{message_of, IsTold};
+ghost use Rattle.ap_tool.specs.Words.{texts, command_of, usage};
+ghost use Rattle.ap_tool.specs.Standing.{standing};
+ghost use Rattle.ap_tool.specs.Opening.{files_standing};
+ghost use Rattle.ap_tool.specs.Answer.{IsAnswer, outside, Tells};
+ghost use Rattle.ap_tool.specs.Clauses.{IsExact, IsComplete, RefusesFaulty, RefusesLong, IsFileFault, IsReadFault, IsMalformed, IsInputTooLong, IsDone};
+
+use crate::laws::{one_output, some_output};
+use crate::messages::{message, name};
+use crate::opening::open;
+use crate::status::Status;
+use crate::stream::proceed;
+use crate::words::{Command, read_words};
+use ap_dix::{has_one_fault, spells_one, spells_plain, spells_without_fault};
+use ap_outside::{Files, Sink, Source};
+use std::alloc::Global;
+
+#[tactic(auto, using(crate::proofs::Named::naming))]
+fn run<F: Files, S: Source, K: Sink>(
+    alloc: Global,
+    words: &[String],
+    files: &mut F,
+    source: &mut S,
+    sink: &mut K,
+) -> Status
+    ensures told { IsTold result (length words.now) }
+    ensures kept { F.contents files.new ≡ F.contents files.old }
+    ensures answer { IsAnswer (texts words.now)
+        (outside (files_standing (F.contents files.old) (F.load_faults files.old) (F.store_faults files.old)) (standing (S.left source.old) (S.faults source.old)) (standing (K.written sink.old) (K.faults sink.old)))
+        (outside (files_standing (F.contents files.new) (F.load_faults files.new) (F.store_faults files.new)) (standing (S.left source.new) (S.faults source.new)) (standing (K.written sink.new) (K.faults sink.new)))
+        result }
+{
+    match read_words(words) {
+        Err(_) => Status::Usage,
+        Ok(Command::Proc { file }) => match open(alloc, files, name(words, file), file) {
+            Err(status) => status,
+            Ok(dictionary) => proceed(alloc, &dictionary, source, sink),
+        },
+    }
+}
+
+/// Runs the command that the words are (the program's own name left out) on the files, the source
+/// and the sink that it is handed, writes the message of its status to `err`, and answers the
+/// status. For now the one command is `lt-proc -a FILE`, over dictionaries of the first form and
+/// streams of letters from a to z, spaces and line feeds.
+///
+/// The clauses, in the order in which they stand: what a run may answer and how it leaves what it
+/// was handed; the exact bytes and status where nothing failed; Done or Memory where moreover the
+/// stream has no stray byte; the first fault of a dictionary, and a file over the limit, where
+/// nothing is taken or written; when each other answer comes; that files stay; the message.
+/// Memory may come at any growth.
+pub fn apertium<F: Files, S: Source, K: Sink, E: Sink>(
+    alloc: Global,
+    words: &[String],
+    files: &mut F,
+    source: &mut S,
+    sink: &mut K,
+    err: &mut E,
+) -> Status
+    ensures answer { IsAnswer (texts words.now)
+        (outside (files_standing (F.contents files.old) (F.load_faults files.old) (F.store_faults files.old)) (standing (S.left source.old) (S.faults source.old)) (standing (K.written sink.old) (K.faults sink.old)))
+        (outside (files_standing (F.contents files.new) (F.load_faults files.new) (F.store_faults files.new)) (standing (S.left source.new) (S.faults source.new)) (standing (K.written sink.new) (K.faults sink.new)))
+        result }
+    ensures exact { IsExact (texts words.now)
+        (outside (files_standing (F.contents files.old) (F.load_faults files.old) (F.store_faults files.old)) (standing (S.left source.old) (S.faults source.old)) (standing (K.written sink.old) (K.faults sink.old)))
+        (outside (files_standing (F.contents files.new) (F.load_faults files.new) (F.store_faults files.new)) (standing (S.left source.new) (S.faults source.new)) (standing (K.written sink.new) (K.faults sink.new)))
+        result }
+    ensures complete { IsComplete (texts words.now)
+        (outside (files_standing (F.contents files.old) (F.load_faults files.old) (F.store_faults files.old)) (standing (S.left source.old) (S.faults source.old)) (standing (K.written sink.old) (K.faults sink.old)))
+        (outside (files_standing (F.contents files.new) (F.load_faults files.new) (F.store_faults files.new)) (standing (S.left source.new) (S.faults source.new)) (standing (K.written sink.new) (K.faults sink.new)))
+        result }
+    ensures faulty { RefusesFaulty (texts words.now)
+        (outside (files_standing (F.contents files.old) (F.load_faults files.old) (F.store_faults files.old)) (standing (S.left source.old) (S.faults source.old)) (standing (K.written sink.old) (K.faults sink.old)))
+        (outside (files_standing (F.contents files.new) (F.load_faults files.new) (F.store_faults files.new)) (standing (S.left source.new) (S.faults source.new)) (standing (K.written sink.new) (K.faults sink.new)))
+        result }
+    ensures long { RefusesLong (texts words.now)
+        (outside (files_standing (F.contents files.old) (F.load_faults files.old) (F.store_faults files.old)) (standing (S.left source.old) (S.faults source.old)) (standing (K.written sink.old) (K.faults sink.old)))
+        (outside (files_standing (F.contents files.new) (F.load_faults files.new) (F.store_faults files.new)) (standing (S.left source.new) (S.faults source.new)) (standing (K.written sink.new) (K.faults sink.new)))
+        result }
+    ensures usage { (result ≡ Status.Usage) ↔ (command_of (texts words.now) ≡ usage) }
+    ensures file_fault { IsFileFault (texts words.now)
+        (outside (files_standing (F.contents files.old) (F.load_faults files.old) (F.store_faults files.old)) (standing (S.left source.old) (S.faults source.old)) (standing (K.written sink.old) (K.faults sink.old)))
+        (outside (files_standing (F.contents files.new) (F.load_faults files.new) (F.store_faults files.new)) (standing (S.left source.new) (S.faults source.new)) (standing (K.written sink.new) (K.faults sink.new)))
+        result }
+    ensures read_fault { IsReadFault
+        (outside (files_standing (F.contents files.old) (F.load_faults files.old) (F.store_faults files.old)) (standing (S.left source.old) (S.faults source.old)) (standing (K.written sink.old) (K.faults sink.old)))
+        (outside (files_standing (F.contents files.new) (F.load_faults files.new) (F.store_faults files.new)) (standing (S.left source.new) (S.faults source.new)) (standing (K.written sink.new) (K.faults sink.new)))
+        result }
+    ensures malformed { IsMalformed
+        (outside (files_standing (F.contents files.old) (F.load_faults files.old) (F.store_faults files.old)) (standing (S.left source.old) (S.faults source.old)) (standing (K.written sink.old) (K.faults sink.old)))
+        (outside (files_standing (F.contents files.new) (F.load_faults files.new) (F.store_faults files.new)) (standing (S.left source.new) (S.faults source.new)) (standing (K.written sink.new) (K.faults sink.new)))
+        result }
+    ensures input_too_long { IsInputTooLong
+        (outside (files_standing (F.contents files.old) (F.load_faults files.old) (F.store_faults files.old)) (standing (S.left source.old) (S.faults source.old)) (standing (K.written sink.old) (K.faults sink.old)))
+        (outside (files_standing (F.contents files.new) (F.load_faults files.new) (F.store_faults files.new)) (standing (S.left source.new) (S.faults source.new)) (standing (K.written sink.new) (K.faults sink.new)))
+        result }
+    ensures done { IsDone
+        (outside (files_standing (F.contents files.old) (F.load_faults files.old) (F.store_faults files.old)) (standing (S.left source.old) (S.faults source.old)) (standing (K.written sink.old) (K.faults sink.old)))
+        (outside (files_standing (F.contents files.new) (F.load_faults files.new) (F.store_faults files.new)) (standing (S.left source.new) (S.faults source.new)) (standing (K.written sink.new) (K.faults sink.new)))
+        result }
+    ensures write_fault { result ≡ Status.WriteFault → Rose (K.faults sink.old) (K.faults sink.new) }
+    ensures no_write_fault { (result ≡ Status.WriteFault → ⊥) → K.faults sink.new ≡ K.faults sink.old }
+    ensures kept { F.contents files.new ≡ F.contents files.old }
+    ensures message { Tells (standing (E.written err.old) (E.faults err.old)) (standing (E.written err.new) (E.faults err.new)) (message_of result (texts words.now)) }
+{
+    spells_one();
+    has_one_fault();
+    spells_without_fault();
+    spells_plain();
+    one_output();
+    some_output();
+    let status = run(alloc, words, files, source, sink);
+    let _ = message(&status, words, err);
+    status
+}
