@@ -48,9 +48,9 @@ right-found : (names : List (List ℕ)) (text letters after : List ℕ) (done : 
 unfolding tags_text
 right-found names text letters after done rest right tags more small run found begins =
     let words : (letters ≡ right) × (after ≡ tags_text tags ++ (codes "</r></p></e>\n" ++ more)) =
-    run-same is_small letters right after _ run.small (word-small right begins.small) run.stopped (tags-stop tags (10 ∷ more)) (sym run.text_is ∙ begins.text_is) in
+        run-same is_small letters right after _ run.small (word-small right begins.small) run.stopped (tags-stop tags (10 ∷ more)) (sym run.text_is ∙ begins.text_is) in
     let rests : (done ≡ tags) × (rest ≡ codes "</r></p></e>\n" ++ more) =
-    names-unique (codes "<s n=\"") done tags rest (codes "</r></p></e>\n" ++ more) found.small (tags-small names tags small begins.declared) found.stopped (end-no-tag (10 ∷ more)) (sym found.text_is ∙ words.1) in
+        names-unique (codes "<s n=\"") done tags rest (codes "</r></p></e>\n" ++ more) found.small (tags-small names tags small begins.declared) found.stopped (end-no-tag (10 ∷ more)) (sym found.text_is ∙ words.1) in
     (words.0, rests.0, rests.1)
 
 pub right-undeclared : (names : List (List ℕ)) (text letters after : List ℕ) (done : List (List ℕ)) (rest : List ℕ) → IsTrue (list_all is_small_word names)

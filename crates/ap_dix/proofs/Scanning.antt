@@ -182,6 +182,5 @@ names-fall front back rest name follows word =
   where
     word-some : (w : List ℕ) → IsTrue (is_small_word w) → 0 < length w
     word-some w h = grind (arith, nat_tests, and-left (not (length w == 0)) (are_small w) h)
-
     lengths : (a b d e : List ℕ) → length (a ++ (b ++ (d ++ e))) ≡ length a + (length b + (length d + length e))
     lengths a b d e = simp length-append

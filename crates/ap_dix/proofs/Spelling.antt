@@ -103,9 +103,9 @@ pub right-unique : (names : List (List ℕ)) (a b : List ℕ) (s t : List (List 
 unfolding tags_text
 right-unique names a b s t x y ha hb hs ht e =
     let words : (a ≡ b) × (tags_text s ++ (codes "</r></p></e>" ++ x) ≡ tags_text t ++ (codes "</r></p></e>" ++ y)) =
-    run-same is_small a b _ _ (word-small a ha) (word-small b hb) (tags-stop s x) (tags-stop t y) e in
+        run-same is_small a b _ _ (word-small a ha) (word-small b hb) (tags-stop s x) (tags-stop t y) e in
     let tags : (s ≡ t) × (codes "</r></p></e>" ++ x ≡ codes "</r></p></e>" ++ y) =
-    names-unique (codes "<s n=\"") s t (codes "</r></p></e>" ++ x) (codes "</r></p></e>" ++ y) hs ht (end-no-tag x) (end-no-tag y) words.1 in
+        names-unique (codes "<s n=\"") s t (codes "</r></p></e>" ++ x) (codes "</r></p></e>" ++ y) hs ht (end-no-tag x) (end-no-tag y) words.1 in
     (words.0, tags.0, append_cancel_left (codes "</r></p></e>") x y tags.1)
 
 pub one-no-two : (word left right : List ℕ) (tags : List (List ℕ)) (x y : List ℕ) → entry_line (One word) ++ x ≡ entry_line (Two left right tags) ++ y → ⊥

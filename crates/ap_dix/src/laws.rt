@@ -1,4 +1,4 @@
-ghost use Rattle.std.specs.Prelude.{◌≡◌, ℕ, List, IsTrue};
+ghost use Rattle.std.specs.Prelude.{◌≡◌, ◌⊎◌, ℕ, List, IsTrue};
 ghost use Rattle.ap_dix.specs.declared.dictionary.Dictionary.{Dictionary};
 ghost use Rattle.ap_dix.specs.declared.dictionary.EntryPart.{EntryPart};
 ghost use Rattle.ap_dix.specs.declared.refusal.DixFault.{DixFault};
@@ -19,6 +19,11 @@ pub fn has_one_fault()
 /// A text that spells a dictionary has no fault.
 pub fn spells_without_fault()
     ensures { (text : List ℕ) (d : Dictionary) (f : DixFault) → Spells text d → IsFirstFault text f → ⊥ }
+{}
+
+/// Each text spells a dictionary or has a first fault.
+pub fn spells_or_faults()
+    ensures { (text : List ℕ) → ((d : Dictionary) × Spells text d) ⊎ ((f : DixFault) × IsFirstFault text f) }
 {}
 
 /// What a text spells is sound and plain, and the words of a plain part are proper.

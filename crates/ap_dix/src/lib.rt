@@ -14,5 +14,5 @@ pub use dictionary::{
     Sections, Side,
 };
 pub use first_form::read_dictionary;
-pub use laws::{has_one_fault, spells_one, spells_plain, spells_without_fault};
+pub use laws::{has_one_fault, spells_one, spells_or_faults, spells_plain, spells_without_fault};
 pub use refusal::{DixFault, DixKind, DixRefusal};
