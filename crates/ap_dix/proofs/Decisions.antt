@@ -1,8 +1,8 @@
-use Rattle.std.proofs.Common.{◌≡◌, ℕ, zero, suc, ◌+◌, ◌<◌, ◌≤◌, Bool, true, false, ◌&&◌, ◌⊎◌, inl, inr, List, [], ◌∷◌, ◌++◌, length, map, take, drop, arith, sym, ap, ◌∙◌, refl, nat_eq}
-use Rattle.std.specs.Prelude.{not, IsTrue, ◌==◌, codes}
+use Rattle.std.proofs.Common.{◌≡◌, ℕ, zero, suc, ◌+◌, ◌≤◌, Bool, true, false, ◌⊎◌, inl, inr, List, [], ◌∷◌, ◌++◌, length, map, take, drop, arith, sym, ap, ◌∙◌, refl, nat_eq}
+use Rattle.std.specs.Prelude.{IsTrue, ◌==◌, codes}
 use Rattle.std.specs.List.{list_all, prefix_len}
 use Rattle.std.specs.Cmp.Lexicographic.{pointwise}
-use Rattle.std.proofs.lemmas.List.{append_assoc, length-append}
+use Rattle.std.proofs.lemmas.List.{append_assoc}
 use Rattle.ap_symbol.specs.declared.symbol.Symbol.{Symbol}
 use Rattle.ap_symbol.specs.declared.symbol.Symbol.TheVariants.{Letter, Tag}
 use Rattle.ap_dix.specs.Soundness.{is_small}
@@ -10,9 +10,9 @@ use Rattle.ap_dix.specs.declared.dictionary.Dictionary.{Dictionary}
 use Rattle.ap_dix.specs.declared.dictionary.EntryPart.{EntryPart}
 use Rattle.ap_dix.specs.declared.dictionary.EntryPart.TheVariants.{Identity, Pair}
 use Rattle.ap_dix.specs.declared.refusal.DixFault.{DixFault}
-use Rattle.ap_dix.specs.FirstForm.{Written, Spells, IsFirstFault, is_small_word, is_declared, is_formed_entry, between, name_end, names_text, tags_text, entry_line, text_of, with_feed, section_end, dictionary_end, dictionary_of}
-use Rattle.ap_dix.specs.Reading.{BeginsLetters, BeginsBetween, BeginsBetweenNone, BeginsWord, BeginsWordNone, BeginsNames, BeginsRightWord, BeginsRightNone, BeginsPart, BeginsEntry, BeginsEntryNone, BeginsOneNone, BeginsTwoNone, BeginsDeclared, BeginsDeclaredNone, BeginsHead, ends_letters, head_lines}
-use Rattle.ap_dix.proofs.Scanning.{and-left, and-both, after-found, after-none, letters-begin, between-none, between-begins, word-none, word-begins, between-none-word, names-fall}
+use Rattle.ap_dix.specs.FirstForm.{Written, Spells, IsFirstFault, is_small_word, is_declared, is_formed_entry, between, name_end, names_text, entry_line, text_of, with_feed, dictionary_of}
+use Rattle.ap_dix.specs.Reading.{BeginsLetters, BeginsBetween, BeginsBetweenNone, BeginsWord, BeginsWordNone, BeginsNames, BeginsRightWord, BeginsRightNone, BeginsPart, BeginsEntryNone, BeginsOneNone, BeginsDeclared, BeginsDeclaredNone, BeginsHead, ends_letters, head_lines}
+use Rattle.ap_dix.proofs.Scanning.{and-both, after-found, after-none, letters-begin, between-none, between-begins, word-none, word-begins, between-none-word, names-fall}
 use Rattle.ap_dix.proofs.Lines.{one-none, one-part, right-empty, right-undeclared, right-open, right-word, two-none-left, two-none-right, two-part, entry-none, declared-begins, declared-none-front, declared-none-back, entries-fall}
 use Rattle.ap_dix.proofs.Plans.{Stands, begun, fault, fault-1, head-2, head-3, head-4, head-begins, texts-append, fault-5, fault-6, fault-7, spells, end-is, end-none, close-is, close-none, not-empty, is-empty}
 
@@ -35,6 +35,7 @@ between-either front back text ends = first (after-either text front)
         → ((letters : List ℕ) × (rest : List ℕ) × BeginsBetween front back text letters rest) ⊎ BeginsBetweenNone front back text
     second inner e run (inl found) = inl (run.0, found.0, between-begins front back text inner run.0 run.1 found.0 e run.2 found.1)
     second inner e run (inr none) = inr (between-none front back text inner run.0 run.1 ends e run.2 none)
+
     first : ((rest : List ℕ) × (text ≡ front ++ rest)) ⊎ ((rest : List ℕ) → text ≡ front ++ rest → ⊥) → ((letters : List ℕ) × (rest : List ℕ) × BeginsBetween front back text letters rest) ⊎ BeginsBetweenNone front back text
     first (inl found) = second found.0 found.1 (letters-of found.0) (after-either (letters-of found.0).1 back)
     first (inr none) = inr (λ letters rest b. none _ (b.text_is ∙ append_assoc front (letters ++ back) rest))
@@ -45,6 +46,7 @@ word-either front back text ends = first (between-either front back text ends)
     second : (letters rest : List ℕ) → BeginsBetween front back text letters rest → (b : Bool) → (length letters == 0) ≡ b → ((word : List ℕ) × (rest : List ℕ) × BeginsWord front back text word rest) ⊎ BeginsWordNone front back text
     second letters rest p true e = inr (word-none front back text letters rest ends p e)
     second letters rest p false e = inl (letters, rest, word-begins front back text letters rest p e)
+
     first : ((letters : List ℕ) × (rest : List ℕ) × BeginsBetween front back text letters rest) ⊎ BeginsBetweenNone front back text → ((word : List ℕ) × (rest : List ℕ) × BeginsWord front back text word rest) ⊎ BeginsWordNone front back text
     first (inl p) = second p.0 p.1 p.2 (length p.0 == 0) refl
     first (inr none) = inr (between-none-word front back text none)
@@ -91,13 +93,16 @@ right-either names text small = some (letters-of text) (names-of (codes "<s n=\"
         → list_all (is_declared names) tags.0 ≡ true → ((rest : List ℕ) × (tags.1 ≡ codes "</r></p></e>\n" ++ rest)) ⊎ ((rest : List ℕ) → tags.1 ≡ codes "</r></p></e>\n" ++ rest → ⊥) → RightEither names text
     last run s tags d (inl found) = inl (map Letter run.0 ++ map Tag tags.0, found.0, right-word names text run.0 run.1 tags.0 tags.1 found.0 (map Letter run.0 ++ map Tag tags.0) run.2 s tags.2 d found.1 refl)
     last run s tags d (inr none) = inr (right-open names text run.0 run.1 tags.0 tags.1 small run.2 tags.2 none)
+
     declared : (run : (letters : List ℕ) × (rest : List ℕ) × BeginsLetters text letters rest) → (length run.0 == 0) ≡ false → (tags : (tags : List (List ℕ)) × (rest : List ℕ) × BeginsNames (codes "<s n=\"") run.1 tags rest)
         → (b : Bool) → list_all (is_declared names) tags.0 ≡ b → RightEither names text
     declared run s tags true e = last run s tags e (after-either tags.1 (codes "</r></p></e>\n"))
     declared run s tags false e = inr (right-undeclared names text run.0 run.1 tags.0 tags.1 small run.2 tags.2 e)
+
     empty : (run : (letters : List ℕ) × (rest : List ℕ) × BeginsLetters text letters rest) → (tags : (tags : List (List ℕ)) × (rest : List ℕ) × BeginsNames (codes "<s n=\"") run.1 tags rest) → (b : Bool) → (length run.0 == 0) ≡ b → RightEither names text
     empty run tags true e = inr (right-empty names text run.0 run.1 run.2 e)
     empty run tags false e = declared run e tags (list_all (is_declared names) tags.0) refl
+
     some : (run : (letters : List ℕ) × (rest : List ℕ) × BeginsLetters text letters rest) → (tags : (tags : List (List ℕ)) × (rest : List ℕ) × BeginsNames (codes "<s n=\"") run.1 tags rest) → RightEither names text
     some run tags = empty run tags (length run.0 == 0) refl
 
@@ -110,9 +115,11 @@ part-either names text small = one (word-either (codes "<e><i>") (codes "</i></e
     right : BeginsOneNone names text → (w : (word : List ℕ) × (rest : List ℕ) × BeginsWord (codes "<e><p><l>") (codes "</l><r>") text word rest) → RightEither names w.1 → PartEither names text
     right none w (inl r) = inl (Pair (map Letter w.0) r.0, r.1, two-part names text w.0 w.1 r.0 r.1 (map Letter w.0) w.2 r.2 refl)
     right none w (inr closed) = inr (entry-none names text none (two-none-right names text w.0 w.1 w.2 closed))
+
     two : BeginsOneNone names text → ((word : List ℕ) × (rest : List ℕ) × BeginsWord (codes "<e><p><l>") (codes "</l><r>") text word rest) ⊎ BeginsWordNone (codes "<e><p><l>") (codes "</l><r>") text → PartEither names text
     two none (inl w) = right none w (right-either names w.1 small)
     two none (inr closed) = inr (entry-none names text none (two-none-left names text closed))
+
     one : ((word : List ℕ) × (rest : List ℕ) × BeginsWord (codes "<e><i>") (codes "</i></e>\n") text word rest) ⊎ BeginsWordNone (codes "<e><i>") (codes "</i></e>\n") text → PartEither names text
     one (inl w) = inl (Identity (map Letter w.0), w.1, one-part text w.0 w.1 names (map Letter w.0) w.2 refl)
     one (inr none) = two (one-none text names none) (word-either (codes "<e><p><l>") (codes "</l><r>") text refl)
@@ -169,9 +176,11 @@ body-either text letters names after head l =
     over : Stands text letters names l.written l.rest → (one : (rest : List ℕ) × (l.rest ≡ codes "</section>\n" ++ rest)) → (two : (rest : List ℕ) × (one.0 ≡ codes "</dictionary>\n" ++ rest)) → (b : Bool) → (length two.0 == 0) ≡ b → Either text
     over s one two true e = inl (dictionary_of (begun letters names l.written), spells text letters names l.written l.rest one.0 two.0 _ s (end-is l.rest one.0 one.1) (close-is one.0 two.0 two.1) (is-empty two.0 e) refl)
     over s one two false e = inr (fault (5 + length l.written + 2), fault-7 text letters names l.written l.rest one.0 two.0 (5 + length l.written) refl s (end-is l.rest one.0 one.1) (close-is one.0 two.0 two.1) (not-empty two.0 e))
+
     closed : Stands text letters names l.written l.rest → (one : (rest : List ℕ) × (l.rest ≡ codes "</section>\n" ++ rest)) → ((rest : List ℕ) × (one.0 ≡ codes "</dictionary>\n" ++ rest)) ⊎ ((rest : List ℕ) → one.0 ≡ codes "</dictionary>\n" ++ rest → ⊥) → Either text
     closed s one (inl two) = over s one two (length two.0 == 0) refl
     closed s one (inr none) = inr (fault (5 + length l.written + 1), fault-6 text letters names l.written l.rest one.0 (5 + length l.written) refl s (end-is l.rest one.0 one.1) (close-none one.0 none))
+
     ended : Stands text letters names l.written l.rest → ((rest : List ℕ) × (l.rest ≡ codes "</section>\n" ++ rest)) ⊎ ((rest : List ℕ) → l.rest ≡ codes "</section>\n" ++ rest → ⊥) → Either text
     ended s (inl one) = closed s one (after-either one.0 (codes "</dictionary>\n"))
     ended s (inr none) = inr (fault (5 + length l.written), fault-5 text letters names l.written l.rest (5 + length l.written) refl s l.stopped (end-none l.rest none))
@@ -183,6 +192,7 @@ declared-either text = first (after-either text (codes "<sdefs>"))
         → ((rest : List ℕ) × (n.1 ≡ codes "</sdefs>\n" ++ rest)) ⊎ ((rest : List ℕ) → n.1 ≡ codes "</sdefs>\n" ++ rest → ⊥) → ((names : List (List ℕ)) × (rest : List ℕ) × BeginsDeclared text names rest) ⊎ BeginsDeclaredNone text
     second one n (inl two) = inl (n.0, two.0, declared-begins text one.0 n.0 n.1 two.0 one.1 n.2 two.1)
     second one n (inr none) = inr (declared-none-back text one.0 n.0 n.1 one.1 n.2 none)
+
     first : ((rest : List ℕ) × (text ≡ codes "<sdefs>" ++ rest)) ⊎ ((rest : List ℕ) → text ≡ codes "<sdefs>" ++ rest → ⊥) → ((names : List (List ℕ)) × (rest : List ℕ) × BeginsDeclared text names rest) ⊎ BeginsDeclaredNone text
     first (inl one) = second one (names-of (codes "<sdef n=\"") one.0) (after-either (names-of (codes "<sdef n=\"") one.0).1 (codes "</sdefs>\n"))
     first (inr none) = inr (declared-none-front text none)
@@ -196,13 +206,16 @@ either text = first (after-either text (codes "<dictionary>\n"))
     fourth one two three (inl four) =
         body-either text two.0 three.0 four.0 (head-begins text one.0 two.1 three.1 four.0 two.0 two.0 three.0 one.1 two.2 three.2 four.1 refl) (lines-within three.0 (length four.0) four.0 three.2.small (omega arith))
     fourth one two three (inr none) = inr (fault 4, head-4 text one.0 two.1 three.1 two.0 three.0 one.1 two.2 three.2 none)
+
     third : (one : (rest : List ℕ) × (text ≡ codes "<dictionary>\n" ++ rest)) → (two : (letters : List ℕ) × (rest : List ℕ) × BeginsBetween (codes "<alphabet>") (codes "</alphabet>\n") one.0 letters rest)
         → ((names : List (List ℕ)) × (rest : List ℕ) × BeginsDeclared two.1 names rest) ⊎ BeginsDeclaredNone two.1 → Either text
     third one two (inl three) = fourth one two three (after-either three.1 (codes "<section id=\"main\" type=\"standard\">\n"))
     third one two (inr none) = inr (fault 3, head-3 text one.0 two.1 two.0 one.1 two.2 none)
+
     second : (one : (rest : List ℕ) × (text ≡ codes "<dictionary>\n" ++ rest)) → ((letters : List ℕ) × (rest : List ℕ) × BeginsBetween (codes "<alphabet>") (codes "</alphabet>\n") one.0 letters rest) ⊎ BeginsBetweenNone (codes "<alphabet>") (codes "</alphabet>\n") one.0 → Either text
     second one (inl two) = third one two (declared-either two.1)
     second one (inr none) = inr (fault 2, head-2 text one.0 one.1 none)
+
     first : ((rest : List ℕ) × (text ≡ codes "<dictionary>\n" ++ rest)) ⊎ ((rest : List ℕ) → text ≡ codes "<dictionary>\n" ++ rest → ⊥) → Either text
     first (inl one) = second one (between-either (codes "<alphabet>") (codes "</alphabet>\n") one.0 refl)
     first (inr none) = inr (fault 1, fault-1 text none)

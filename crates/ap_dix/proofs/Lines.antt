@@ -1,18 +1,17 @@
-use Rattle.std.proofs.Common.{◌≡◌, ℕ, suc, ◌+◌, ◌<◌, ◌≤◌, Bool, true, false, cond, ◌&&◌, ◌||◌, ◌⊎◌, inl, inr, List, [], ◌∷◌, ◌++◌, length, map, take, drop, Option, Some, None, arith, rules, sym, ap, ◌∙◌, refl}
-use Rattle.std.specs.Prelude.{not, IsTrue, ◌==◌, codes, bytes_eq}
+use Rattle.std.proofs.Common.{◌≡◌, ℕ, suc, ◌+◌, ◌<◌, ◌≤◌, true, false, ◌&&◌, List, [], ◌∷◌, ◌++◌, length, map, Option, Some, None, arith, sym, ap, ◌∙◌, refl}
+use Rattle.std.specs.Prelude.{not, IsTrue, ◌==◌, codes}
 use Rattle.std.specs.Option.{MatchOption}
-use Rattle.std.specs.List.{list_all, list_any, flat_map}
-use Rattle.std.proofs.lemmas.Bool.Decides.{nat_tests}
-use Rattle.std.proofs.lemmas.List.{append_assoc, append_cancel_left, append_cancel_right, append-nil, map-append, flat_map_more, length-append}
+use Rattle.std.specs.List.{list_all}
+use Rattle.std.proofs.lemmas.List.{append_assoc, append_cancel_left, map-append, flat_map_more, length-append}
 use Rattle.ap_symbol.specs.declared.symbol.Symbol.{Symbol}
 use Rattle.ap_symbol.specs.declared.symbol.Symbol.TheVariants.{Letter, Tag}
 use Rattle.ap_dix.specs.Soundness.{is_small}
 use Rattle.ap_dix.specs.declared.dictionary.Entry.{Entry}
 use Rattle.ap_dix.specs.declared.dictionary.EntryPart.{EntryPart}
 use Rattle.ap_dix.specs.declared.dictionary.EntryPart.TheVariants.{Identity, Pair}
-use Rattle.ap_dix.specs.FirstForm.{Written, are_small, is_small_word, is_declared, is_formed_entry, between, names_text, name_end, tags_text, entry_line, text_of, with_feed, part_of, entry_of, entries_of, plain_entry}
+use Rattle.ap_dix.specs.FirstForm.{Written, is_small_word, is_declared, is_formed_entry, names_text, tags_text, entry_line, text_of, with_feed, entry_of, entries_of, plain_entry}
 use Rattle.ap_dix.specs.FirstForm.Written.{One, Two}
-use Rattle.ap_dix.specs.Reading.{stops, BeginsBetween, BeginsWord, BeginsWordNone, BeginsLetters, BeginsNames, BeginsEntry, BeginsPart, BeginsOneNone, BeginsTwoNone, BeginsEntryNone, BeginsRight, BeginsRightWord, BeginsRightNone, BeginsDeclared, BeginsDeclaredNone, BeginsEntries}
+use Rattle.ap_dix.specs.Reading.{BeginsBetween, BeginsWord, BeginsWordNone, BeginsLetters, BeginsNames, BeginsPart, BeginsOneNone, BeginsTwoNone, BeginsEntryNone, BeginsRight, BeginsRightWord, BeginsRightNone, BeginsDeclared, BeginsDeclaredNone, BeginsEntries}
 use Rattle.ap_dix.proofs.Scanning.{and-left, and-right, and-both, not-true, all-append, run-same, between-apart, between-same, word-small, word-between}
 use Rattle.ap_dix.proofs.Spelling.{tags-small, names-unique, names-apart, end-no-tag, end-no-name, one-apart, two-apart, tags-stop}
 
@@ -48,9 +47,9 @@ right-found : (names : List (List ℕ)) (text letters after : List ℕ) (done : 
 unfolding tags_text
 right-found names text letters after done rest right tags more small run found begins =
     let words : (letters ≡ right) × (after ≡ tags_text tags ++ (codes "</r></p></e>\n" ++ more)) =
-        run-same is_small letters right after _ run.small (word-small right begins.small) run.stopped (tags-stop tags (10 ∷ more)) (sym run.text_is ∙ begins.text_is) in
+    run-same is_small letters right after _ run.small (word-small right begins.small) run.stopped (tags-stop tags (10 ∷ more)) (sym run.text_is ∙ begins.text_is) in
     let rests : (done ≡ tags) × (rest ≡ codes "</r></p></e>\n" ++ more) =
-        names-unique (codes "<s n=\"") done tags rest (codes "</r></p></e>\n" ++ more) found.small (tags-small names tags small begins.declared) found.stopped (end-no-tag (10 ∷ more)) (sym found.text_is ∙ words.1) in
+    names-unique (codes "<s n=\"") done tags rest (codes "</r></p></e>\n" ++ more) found.small (tags-small names tags small begins.declared) found.stopped (end-no-tag (10 ∷ more)) (sym found.text_is ∙ words.1) in
     (words.0, rests.0, rests.1)
 
 pub right-undeclared : (names : List (List ℕ)) (text letters after : List ℕ) (done : List (List ℕ)) (rest : List ℕ) → IsTrue (list_all is_small_word names)

@@ -1,6 +1,6 @@
-use Rattle.std.proofs.Common.{◌≡◌, ℕ, suc, ◌+◌, ◌<◌, ◌≤◌, Bool, true, false, ◌&&◌, ◌||◌, ◌⊎◌, inl, inr, List, [], ◌∷◌, ◌++◌, length, map, take, drop, get_or, arith, rules, sym, ap, ◌∙◌, refl, subst}
-use Rattle.std.specs.Prelude.{not, IsTrue, ◌==◌, codes, nat_lt}
-use Rattle.std.specs.List.{list_all, flat_map}
+use Rattle.std.proofs.Common.{◌≡◌, ℕ, suc, ◌+◌, ◌<◌, ◌≤◌, Bool, true, false, ◌&&◌, ◌⊎◌, inl, inr, List, [], ◌∷◌, ◌++◌, length, map, drop, get_or, arith, sym, ap, ◌∙◌, refl, subst}
+use Rattle.std.specs.Prelude.{not, IsTrue, ◌==◌, codes}
+use Rattle.std.specs.List.{list_all}
 use Rattle.std.proofs.lemmas.Bool.Decides.{nat_tests}
 use Rattle.std.proofs.lemmas.List.{append_assoc, append_cancel_left, append-nil, length-append, length-map}
 use Rattle.ap_symbol.specs.Words.{is_white, is_proper}
@@ -16,11 +16,11 @@ use Rattle.ap_dix.specs.declared.dictionary.EntryPart.{EntryPart}
 use Rattle.ap_dix.specs.declared.dictionary.EntryPart.TheVariants.{Identity, Pair, Paradigm}
 use Rattle.ap_dix.specs.declared.refusal.DixFault.{DixFault}
 use Rattle.ap_dix.specs.declared.refusal.DixKind.TheVariants.{Unsupported}
-use Rattle.ap_dix.specs.FirstForm.{Written, Plan, IsFormed, Spells, Begins, IsFirstFault, are_small, is_small_word, is_declared, is_formed_entry, between, names_text, name_end, tags_text, dictionary_line, alphabet_line, names_line, section_line, entry_line, section_end, dictionary_end, lines_of, text_of, with_feed, part_of, entry_of, entries_of, dictionary_of, standard_section}
+use Rattle.ap_dix.specs.FirstForm.{Written, Plan, IsFormed, Spells, Begins, IsFirstFault, are_small, is_small_word, is_formed_entry, between, names_text, name_end, tags_text, dictionary_line, alphabet_line, names_line, section_line, entry_line, section_end, dictionary_end, lines_of, text_of, with_feed, part_of, entries_of, dictionary_of, standard_section}
 use Rattle.ap_dix.specs.FirstForm.Written.{One, Two}
 use Rattle.ap_dix.specs.Reading.{stops, head_lines, BeginsHead, BeginsEntries, BeginsEntryNone, BeginsBetween, BeginsBetweenNone, BeginsDeclared, BeginsDeclaredNone}
-use Rattle.ap_dix.proofs.Scanning.{and-left, and-right, and-both, all-append, all-first, all-last, all-weaken, run-same, word-small, between-apart, small-name}
-use Rattle.ap_dix.proofs.Spelling.{tags-small, alphabet-same, names-same, entry-same, entry-no-end, dictionary-no-end, alphabet-apart, names-apart}
+use Rattle.ap_dix.proofs.Scanning.{and-left, and-right, and-both, all-append, all-first, all-weaken, run-same, word-small, between-apart, small-name}
+use Rattle.ap_dix.proofs.Spelling.{tags-small, alphabet-same, names-same, entry-same, entry-no-end, alphabet-apart}
 
 -- no line of the form holds a line feed
 
@@ -112,7 +112,7 @@ text-split a [] rest ha hb e = (a, refl, sym e)
 text-split [] (l ∷ b) rest ha hb e = absurd (no-feed l (text_of b ++ rest) (e ∙ fed l (text_of b) rest))
 text-split (k ∷ a) (l ∷ b) rest ha hb e =
     let same : (k ≡ l) × (10 ∷ text_of a ≡ 10 ∷ (text_of b ++ rest)) =
-        run-same is_line_byte k l _ _ (and-left _ _ ha) (and-left _ _ hb) (stops-feed (text_of a)) (stops-feed (text_of b ++ rest)) (sym (append_assoc k (10 ∷ []) (text_of a)) ∙ (e ∙ fed l (text_of b) rest)) in
+    run-same is_line_byte k l _ _ (and-left _ _ ha) (and-left _ _ hb) (stops-feed (text_of a)) (stops-feed (text_of b ++ rest)) (sym (append_assoc k (10 ∷ []) (text_of a)) ∙ (e ∙ fed l (text_of b) rest)) in
     let tails : text_of a ≡ text_of b ++ rest = append_cancel_left (10 ∷ []) _ _ same.1 in
     let more : (more : List (List ℕ)) × (a ≡ b ++ more) × (rest ≡ text_of more) = text-split a b rest (and-right (is_line k) _ ha) (and-right (is_line l) _ hb) tails in
     (more.0, ap (λ x. x ∷ a) same.0 ∙ ap (λ x. l ∷ x) more.1, more.2)
@@ -147,7 +147,7 @@ pub one-dictionary : (text : List ℕ) (c d : Dictionary) → Spells text c → 
 one-dictionary text c d p q =
     let nil : text_of (lines_of p.plan) ≡ text_of (lines_of q.plan) ++ [] = sym p.text_is ∙ (q.text_is ∙ sym (append-nil (text_of (lines_of q.plan)))) in
     let split : (more : List (List ℕ)) × (lines_of p.plan ≡ lines_of q.plan ++ more) × ([] ≡ text_of more) =
-        text-split (lines_of p.plan) (lines_of q.plan) [] (plan-lines p.plan p.formed) (plan-lines q.plan q.formed) nil in
+    text-split (lines_of p.plan) (lines_of q.plan) [] (plan-lines p.plan p.formed) (plan-lines q.plan q.formed) nil in
     let whole : lines_of p.plan ≡ lines_of q.plan = no-more (lines_of p.plan) (lines_of q.plan) split.0 split.1 split.2 in
     p.value_is ∙ (plans-same p.plan q.plan p.formed q.formed whole ∙ sym q.value_is)
   where
@@ -164,10 +164,10 @@ reach [] (l ∷ b) x y ha hb h e = (l, b, refl, sym e ∙ fed l (text_of b) y)
 reach (k ∷ a) [] x y ha hb h e = absurd (omega (arith, h))
 reach (k ∷ a) (l ∷ b) x y ha hb h e =
     let same : (l ≡ k) × (10 ∷ (text_of b ++ y) ≡ 10 ∷ (text_of a ++ x)) =
-        run-same is_line_byte l k _ _ (and-left _ _ hb) (and-left _ _ ha) (stops-feed (text_of b ++ y)) (stops-feed (text_of a ++ x)) (sym (fed l (text_of b) y) ∙ (e ∙ fed k (text_of a) x)) in
+    run-same is_line_byte l k _ _ (and-left _ _ hb) (and-left _ _ ha) (stops-feed (text_of b ++ y)) (stops-feed (text_of a ++ x)) (sym (fed l (text_of b) y) ∙ (e ∙ fed k (text_of a) x)) in
     let tails : text_of b ++ y ≡ text_of a ++ x = append_cancel_left (10 ∷ []) _ _ same.1 in
     let found : (line : List ℕ) × (more : List (List ℕ)) × (b ≡ a ++ line ∷ more) × (x ≡ line ++ 10 ∷ (text_of more ++ y)) =
-        reach a b x y (and-right (is_line k) _ ha) (and-right (is_line l) _ hb) (omega (arith, h)) tails in
+    reach a b x y (and-right (is_line k) _ ha) (and-right (is_line l) _ hb) (omega (arith, h)) tails in
     (found.0, found.1, ap (λ t. t ∷ b) same.0 ∙ ap (λ t. k ∷ t) found.2, found.3)
 
 -- the first lines of a dictionary are the first lines of those first lines
@@ -182,7 +182,7 @@ fewer a more line b = record {
 earlier : (text : List ℕ) (e f : DixFault) (p : IsFirstFault text e) (q : IsFirstFault text f) → length p.above < length q.above → ⊥
 earlier text e f p q h =
     let found : (line : List ℕ) × (more : List (List ℕ)) × (q.above ≡ p.above ++ line ∷ more) × (p.below ≡ line ++ 10 ∷ (text_of more ++ q.below)) =
-        reach p.above q.above p.below q.below (begun-lines p.above p.begins) (begun-lines q.above q.begins) h (sym q.text_is ∙ p.text_is) in
+    reach p.above q.above p.below q.below (begun-lines p.above p.begins) (begun-lines q.above q.begins) h (sym q.text_is ∙ p.text_is) in
     p.breaks found.0 (text_of found.1 ++ q.below) found.3 (fewer p.above found.1 found.0 (rw found.2 at q.begins))
 
 pub one-fault : (text : List ℕ) (e f : DixFault) → IsFirstFault text e → IsFirstFault text f → e ≡ f
@@ -194,6 +194,7 @@ one-fault text e f p q =
   where
     level : (a b : ℕ) → (a < b → ⊥) → (b < a → ⊥) → a ≡ b
     level a b l h = omega (arith, l, h)
+
     fault-same : (e f : DixFault) → e.kind ≡ f.kind → e.line ≡ f.line → e ≡ f
     fault-same e f k l = ap (λ x. let d : DixFault = record { kind = x; line = e.line } in d) k ∙ ap (λ x. let d : DixFault = record { kind = f.kind; line = x } in d) l
 
@@ -313,14 +314,14 @@ fault-5 text letters names ws below n number s none_entry none_end =
     fault-at text below (entry_lines letters names ws) n (omega (arith, lines-count letters names ws)) s.text_is
     record { plan = begun letters names ws; formed = formed-of text letters names ws below s; more = section_end ∷ dictionary_end ∷ []; lines_are = refl }
     (λ line more e b.
-      let declared : names_line b.plan.names ≡ names_line names = ap (λ t. get_or t 2 []) b.lines_are in
-      let same : b.plan.names ≡ names = names-same b.plan.names names b.formed.names s.named declared in
-      let bodies : map entry_line b.plan.entries ++ section_end ∷ dictionary_end ∷ [] ≡ map entry_line ws ++ line ∷ b.more = ap (drop 4) b.lines_are ∙ append_assoc (map entry_line ws) (line ∷ []) b.more in
-      let next : ((w : Written) × IsTrue (is_formed_entry names w) × (line ≡ entry_line w)) ⊎ (line ≡ section_end) = next-line names b.plan.entries ws line b.more (rw same at b.formed.entries) bodies in
-      elim next as (λ _. ⊥) [
-        | inl found ↦ none_entry found.0 more record { formed = found.1; text_is = e ∙ ap (λ l. l ++ 10 ∷ more) found.2 }
-        | inr last ↦ none_end more (e ∙ ap (λ l. l ++ 10 ∷ more) last)
-      ]) (λ e plan h f. no-end plan.entries ws (ap (drop 4) f))
+    let declared : names_line b.plan.names ≡ names_line names = ap (λ t. get_or t 2 []) b.lines_are in
+    let same : b.plan.names ≡ names = names-same b.plan.names names b.formed.names s.named declared in
+    let bodies : map entry_line b.plan.entries ++ section_end ∷ dictionary_end ∷ [] ≡ map entry_line ws ++ line ∷ b.more = ap (drop 4) b.lines_are ∙ append_assoc (map entry_line ws) (line ∷ []) b.more in
+    let next : ((w : Written) × IsTrue (is_formed_entry names w) × (line ≡ entry_line w)) ⊎ (line ≡ section_end) = next-line names b.plan.entries ws line b.more (rw same at b.formed.entries) bodies in
+    elim next as (λ _. ⊥) [
+      | inl found ↦ none_entry found.0 more record { formed = found.1; text_is = e ∙ ap (λ l. l ++ 10 ∷ more) found.2 }
+      | inr last ↦ none_end more (e ∙ ap (λ l. l ++ 10 ∷ more) last)
+    ]) (λ e plan h f. no-end plan.entries ws (ap (drop 4) f))
 
 pub fault-6 : (text letters : List ℕ) (names : List (List ℕ)) (ws : List Written) (below after : List ℕ) (n : ℕ) → n ≡ 5 + length ws → Stands text letters names ws below → below ≡ section_end ++ 10 ∷ after → ((rest : List ℕ) → after ≡ dictionary_end ++ 10 ∷ rest → ⊥)
     → IsFirstFault text (fault (n + 1))
@@ -328,9 +329,9 @@ fault-6 text letters names ws below after n number s ended none =
     fault-at text after (entry_lines letters names ws ++ section_end ∷ []) (n + 1) (omega (arith, lines-count letters names ws, length-append (entry_lines letters names ws) (section_end ∷ []))) (text-step text (entry_lines letters names ws) below section_end after s.text_is ended)
     record { plan = begun letters names ws; formed = formed-of text letters names ws below s; more = dictionary_end ∷ []; lines_are = sym (append_assoc (entry_lines letters names ws) (section_end ∷ []) (dictionary_end ∷ [])) }
     (λ line more e b.
-      let bodies : map entry_line b.plan.entries ++ section_end ∷ dictionary_end ∷ [] ≡ map entry_line ws ++ section_end ∷ line ∷ b.more =
-          ap (drop 4) b.lines_are ∙ (append_assoc (map entry_line ws ++ section_end ∷ []) (line ∷ []) b.more ∙ append_assoc (map entry_line ws) (section_end ∷ []) (line ∷ b.more)) in
-      none more (e ∙ ap (λ l. l ++ 10 ∷ more) (ap (λ t. get_or t 0 []) (last-line b.plan.entries ws (line ∷ b.more) bodies))))
+    let bodies : map entry_line b.plan.entries ++ section_end ∷ dictionary_end ∷ [] ≡ map entry_line ws ++ section_end ∷ line ∷ b.more =
+    ap (drop 4) b.lines_are ∙ (append_assoc (map entry_line ws ++ section_end ∷ []) (line ∷ []) b.more ∙ append_assoc (map entry_line ws) (section_end ∷ []) (line ∷ b.more)) in
+    none more (e ∙ ap (λ l. l ++ 10 ∷ more) (ap (λ t. get_or t 0 []) (last-line b.plan.entries ws (line ∷ b.more) bodies))))
     (λ e plan h f. let none : [] ≡ dictionary_end ∷ [] = last-line plan.entries ws [] (ap (drop 4) f) in absurd (omega (arith, ap length none)))
 
 pub fault-7 : (text letters : List ℕ) (names : List (List ℕ)) (ws : List Written) (below after rest : List ℕ) (n : ℕ) → n ≡ 5 + length ws → Stands text letters names ws below → below ≡ section_end ++ 10 ∷ after → after ≡ dictionary_end ++ 10 ∷ rest → (rest ≡ [] → ⊥)
@@ -341,11 +342,11 @@ fault-7 text letters names ws below after rest n number s ended closed more_foll
     (text-step text (entry_lines letters names ws ++ section_end ∷ []) after dictionary_end rest (text-step text (entry_lines letters names ws) below section_end after s.text_is ended) closed)
     record { plan = begun letters names ws; formed = formed-of text letters names ws below s; more = []; lines_are = sym (append-nil ((entry_lines letters names ws ++ section_end ∷ []) ++ dictionary_end ∷ []) ∙ append_assoc (entry_lines letters names ws) (section_end ∷ []) (dictionary_end ∷ [])) }
     (λ line more e b.
-      let bodies : map entry_line b.plan.entries ++ section_end ∷ dictionary_end ∷ [] ≡ map entry_line ws ++ section_end ∷ dictionary_end ∷ line ∷ b.more =
-          ap (drop 4) b.lines_are ∙ (append_assoc ((map entry_line ws ++ section_end ∷ []) ++ dictionary_end ∷ []) (line ∷ []) b.more
-          ∙ (append_assoc (map entry_line ws ++ section_end ∷ []) (dictionary_end ∷ []) (line ∷ b.more) ∙ append_assoc (map entry_line ws) (section_end ∷ []) (dictionary_end ∷ line ∷ b.more))) in
-      let none : dictionary_end ∷ line ∷ b.more ≡ dictionary_end ∷ [] = last-line b.plan.entries ws (dictionary_end ∷ line ∷ b.more) bodies in
-      absurd (omega (arith, ap length none)))
+    let bodies : map entry_line b.plan.entries ++ section_end ∷ dictionary_end ∷ [] ≡ map entry_line ws ++ section_end ∷ dictionary_end ∷ line ∷ b.more =
+    ap (drop 4) b.lines_are ∙ (append_assoc ((map entry_line ws ++ section_end ∷ []) ++ dictionary_end ∷ []) (line ∷ []) b.more
+    ∙ (append_assoc (map entry_line ws ++ section_end ∷ []) (dictionary_end ∷ []) (line ∷ b.more) ∙ append_assoc (map entry_line ws) (section_end ∷ []) (dictionary_end ∷ line ∷ b.more))) in
+    let none : dictionary_end ∷ line ∷ b.more ≡ dictionary_end ∷ [] = last-line b.plan.entries ws (dictionary_end ∷ line ∷ b.more) bodies in
+    absurd (omega (arith, ap length none)))
     (λ e plan h f. more_follows e)
 
 pub spells : (text letters : List ℕ) (names : List (List ℕ)) (ws : List Written) (below after rest : List ℕ) (d : Dictionary) → Stands text letters names ws below → below ≡ section_end ++ 10 ∷ after → after ≡ dictionary_end ++ 10 ∷ rest → rest ≡ []

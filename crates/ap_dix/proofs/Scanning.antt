@@ -1,11 +1,9 @@
-use Rattle.std.proofs.Common.{◌≡◌, ℕ, suc, ◌+◌, ◌<◌, ◌≤◌, Bool, true, false, cond, ◌&&◌, List, [], ◌∷◌, ◌++◌, length, take, drop, arith, rules, sym, ap, ◌∙◌, refl, Option, Some, None, Bor, nat_eq}
-use Rattle.std.specs.Prelude.{not, IsTrue, ◌==◌, IfSome}
-use Rattle.std.specs.Option.{MatchOption, IfNone}
-use Rattle.std.specs.List.{list_all, list_any, prefix_len, flat_map}
+use Rattle.std.proofs.Common.{◌≡◌, ℕ, suc, ◌+◌, ◌<◌, Bool, true, false, cond, ◌&&◌, List, [], ◌∷◌, ◌++◌, length, take, drop, arith, sym, ap, ◌∙◌, refl, nat_eq}
+use Rattle.std.specs.Prelude.{not, IsTrue, ◌==◌}
+use Rattle.std.specs.List.{list_all, list_any, prefix_len}
 use Rattle.std.specs.Cmp.Lexicographic.{pointwise, same_text, other_text}
-use Rattle.std.proofs.lemmas.Bool.{cases_Bool}
 use Rattle.std.proofs.lemmas.Bool.Decides.{nat_tests}
-use Rattle.std.proofs.lemmas.List.{append_assoc, append_cancel_left, append_cancel_right, take-append-drop, take_at, length-append, flat_map_more, append-nil}
+use Rattle.std.proofs.lemmas.List.{append_assoc, append_cancel_left, take-append-drop, take_at, length-append, flat_map_more}
 use Rattle.ap_symbol.specs.TagNames.{is_tag_name, is_reserved_lem}
 use Rattle.ap_dix.specs.Soundness.{is_small}
 use Rattle.ap_dix.specs.FirstForm.{are_small, is_small_word, between, names_text, name_end}
@@ -182,5 +180,6 @@ names-fall front back rest name follows word =
   where
     word-some : (w : List ℕ) → IsTrue (is_small_word w) → 0 < length w
     word-some w h = grind (arith, nat_tests, and-left (not (length w == 0)) (are_small w) h)
+
     lengths : (a b d e : List ℕ) → length (a ++ (b ++ (d ++ e))) ≡ length a + (length b + (length d + length e))
     lengths a b d e = simp length-append

@@ -1,14 +1,14 @@
-use Rattle.std.proofs.Common.{◌≡◌, ℕ, suc, ◌+◌, ◌<◌, ◌≤◌, Bool, true, false, cond, ◌&&◌, ◌||◌, ◌⊎◌, inl, inr, List, [], ◌∷◌, ◌++◌, length, map, take, drop, get_or, arith, rules, sym, ap, ◌∙◌, refl}
-use Rattle.std.specs.Prelude.{not, IsTrue, ◌==◌, codes, bytes_eq}
-use Rattle.std.specs.List.{list_all, list_any, flat_map}
+use Rattle.std.proofs.Common.{◌≡◌, ℕ, Bool, true, false, ◌&&◌, ◌||◌, List, [], ◌∷◌, ◌++◌, get_or, arith, sym, ap, ◌∙◌, refl}
+use Rattle.std.specs.Prelude.{IsTrue, ◌==◌, codes, bytes_eq}
+use Rattle.std.specs.List.{list_all}
 use Rattle.std.specs.Cmp.Lexicographic.{same_text}
 use Rattle.std.proofs.lemmas.Bool.Decides.{nat_tests}
 use Rattle.std.proofs.lemmas.List.{append_assoc, append_cancel_left, append_cancel_right}
 use Rattle.ap_dix.specs.Soundness.{is_small}
-use Rattle.ap_dix.specs.FirstForm.{Written, are_small, is_small_word, is_declared, is_formed_entry, between, names_text, name_end, tags_text, dictionary_line, alphabet_line, names_line, section_line, entry_line, section_end, dictionary_end}
+use Rattle.ap_dix.specs.FirstForm.{Written, is_small_word, is_declared, is_formed_entry, between, names_text, name_end, tags_text, alphabet_line, names_line, entry_line, section_end, dictionary_end}
 use Rattle.ap_dix.specs.FirstForm.Written.{One, Two}
-use Rattle.ap_dix.specs.Reading.{stops, BeginsBetween, BeginsWord, BeginsWordNone}
-use Rattle.ap_dix.proofs.Scanning.{and-left, and-right, and-both, all-append, all-weaken, run-same, between-apart, between-same, word-small, word-between}
+use Rattle.ap_dix.specs.Reading.{stops, BeginsBetween, BeginsWordNone}
+use Rattle.ap_dix.proofs.Scanning.{and-left, and-right, all-weaken, run-same, between-apart, between-same, word-small}
 
 -- two bytes that differ
 other-byte : (a b : ℕ) → (a == b) ≡ false → a ≡ b → ⊥
@@ -103,9 +103,9 @@ pub right-unique : (names : List (List ℕ)) (a b : List ℕ) (s t : List (List 
 unfolding tags_text
 right-unique names a b s t x y ha hb hs ht e =
     let words : (a ≡ b) × (tags_text s ++ (codes "</r></p></e>" ++ x) ≡ tags_text t ++ (codes "</r></p></e>" ++ y)) =
-        run-same is_small a b _ _ (word-small a ha) (word-small b hb) (tags-stop s x) (tags-stop t y) e in
+    run-same is_small a b _ _ (word-small a ha) (word-small b hb) (tags-stop s x) (tags-stop t y) e in
     let tags : (s ≡ t) × (codes "</r></p></e>" ++ x ≡ codes "</r></p></e>" ++ y) =
-        names-unique (codes "<s n=\"") s t (codes "</r></p></e>" ++ x) (codes "</r></p></e>" ++ y) hs ht (end-no-tag x) (end-no-tag y) words.1 in
+    names-unique (codes "<s n=\"") s t (codes "</r></p></e>" ++ x) (codes "</r></p></e>" ++ y) hs ht (end-no-tag x) (end-no-tag y) words.1 in
     (words.0, tags.0, append_cancel_left (codes "</r></p></e>") x y tags.1)
 
 pub one-no-two : (word left right : List ℕ) (tags : List (List ℕ)) (x y : List ℕ) → entry_line (One word) ++ x ≡ entry_line (Two left right tags) ++ y → ⊥

@@ -172,10 +172,7 @@ fn entries<'a>(
 }
 
 /// The names of a line of declared names, and what follows the line.
-fn declared<'a>(
-    alloc: Global,
-    text: &'a [u8],
-) -> Result<Option<(Vec<TagName>, &'a [u8])>, Memory>
+fn declared<'a>(alloc: Global, text: &'a [u8]) -> Result<Option<(Vec<TagName>, &'a [u8])>, Memory>
     ensures { IfOk result (λ read. MatchOption read (BeginsDeclaredNone text.now) (λ r. BeginsDeclared text.now r.0.items r.1.now)) }
 {
     match after(text, "<sdefs>".as_bytes()) {
@@ -198,18 +195,17 @@ fn head<'a>(alloc: Global, text: &'a [u8]) -> Result<(Letters, Vec<TagName>, &'a
     let Some(rest) = after(text, "<dictionary>\n".as_bytes()) else {
         return Err(unsupported(1));
     };
-    let Some((alphabet, rest)) =
-        letters_between(rest, "<alphabet>".as_bytes(), "</alphabet>\n".as_bytes())
-    else {
+    let Some((alphabet, rest)) = letters_between(
+        rest,
+        "<alphabet>".as_bytes(),
+        "</alphabet>\n".as_bytes(),
+    ) else {
         return Err(unsupported(2));
     };
     let Some((names, rest)) = declared(alloc, rest)? else {
         return Err(unsupported(3));
     };
-    let Some(rest) = after(
-        rest,
-        "<section id=\"main\" type=\"standard\">\n".as_bytes(),
-    ) else {
+    let Some(rest) = after(rest, "<section id=\"main\" type=\"standard\">\n".as_bytes()) else {
         return Err(unsupported(4));
     };
     Ok((alphabet_of(alloc, alphabet)?, names, rest))

@@ -22,7 +22,9 @@ pub(crate) fn after<'a>(text: &'a [u8], front: &[u8]) -> Option<&'a [u8]>
 fn count_letters(text: &[u8]) -> usize
     ensures { result ≡ prefix_len is_small text.now }
 {
-    text.iter().take_while(|b| b'a' <= **b && **b <= b'z').count()
+    text.iter()
+        .take_while(|b| b'a' <= **b && **b <= b'z')
+        .count()
 }
 
 /// The letters from a to z with which the text begins, and what follows them.

@@ -5,8 +5,11 @@ use ap_symbol::Bytes;
 use std::alloc::Global;
 use std::test::Fail;
 
-const HEAD: &str = "<dictionary>\n<alphabet>abin</alphabet>\n<sdefs><sdef n=\"n\"/><sdef n=\"sg\"/></sdefs>\n<section id=\"main\" type=\"standard\">\n";
+const HEAD: &str =
+    "<dictionary>\n<alphabet>abin</alphabet>\n<sdefs><sdef n=\"n\"/><sdef n=\"sg\"/></sdefs>\n<section id=\"main\" type=\"standard\">\n";
+
 const END: &str = "</section>\n</dictionary>\n";
+
 const TWO: &str = "<e><p><l>saw</l><r>see<s n=\"n\"/><s n=\"sg\"/></r></p></e>\n";
 
 fn joined(alloc: Global, pieces: &[&str]) -> Result<String, Fail> {
@@ -49,7 +52,10 @@ fn a_whole_file_is_read(rt: HostRuntime) -> Result<(), Fail> {
     let alloc = rt.alloc();
     let text = joined(alloc, &[HEAD, "<e><i>in</i></e>\n", TWO, END])?;
     let dictionary = read_dictionary(alloc, text.as_bytes())?;
-    assert_eq!(rt; dictionary.alphabet.as_slice(), ['a', 'b', 'i', 'n'].as_slice());
+    assert_eq!(rt;
+        dictionary.alphabet.as_slice(),
+        ['a', 'b', 'i', 'n'].as_slice()
+    );
     assert_eq!(rt; dictionary.pardefs.len(), 0);
     assert_eq!(rt; dictionary.sections.len(), 1);
     let mut words = Bytes::new(alloc);
@@ -80,7 +86,15 @@ fn other_texts_have_a_first_fault(rt: HostRuntime) -> Result<(), Fail> {
         (&["<dictionary>\n<alphabet>aB</alphabet>\n"], 2),
         (&[HEAD, "<e r=\"LR\"><i>a</i></e>\n", END], 5),
         (&[HEAD, "<e><i></i></e>\n", END], 5),
-        (&[HEAD, TWO, "<e><p><l>a</l><r>b<s n=\"pl\"/></r></p></e>\n", END], 6),
+        (
+            &[
+                HEAD,
+                TWO,
+                "<e><p><l>a</l><r>b<s n=\"pl\"/></r></p></e>\n",
+                END,
+            ],
+            6,
+        ),
         (&[HEAD, "<e><i>é</i></e>\n", END], 5),
         (&[HEAD, TWO], 6),
         (&[HEAD, "</section>\n"], 6),

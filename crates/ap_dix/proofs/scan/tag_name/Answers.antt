@@ -1,4 +1,4 @@
-use Rattle.std.proofs.Common.{◌≡◌, refl, ◌∙◌, List, ℕ, Option, Some, None, take, length, arith}
+use Rattle.std.proofs.Common.{◌≡◌, refl, ◌∙◌, List, ℕ, Option, Some, None, arith}
 use Rattle.std.specs.Prelude.{IsTrue}
 use Rattle.std.specs.Option.{IsSome, SomeIff}
 use Rattle.std.proofs.lemmas.List.{take_all}
