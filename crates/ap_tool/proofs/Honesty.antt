@@ -6,7 +6,7 @@ use Rattle.ap_dix.specs.declared.dictionary.Dictionary.{Dictionary}
 use Rattle.ap_dix.specs.declared.refusal.DixFault.{DixFault}
 use Rattle.ap_dix.specs.FirstForm.{Spells, IsFirstFault}
 use Rattle.ap_dix.specs.Refusals.{kind_number}
-use Rattle.ap_dix.specs.Soundness.{IsPlain}
+use Rattle.ap_dix.specs.Soundness.{IsSound}
 use Rattle.ap_tool.specs.declared.status.Status.{Status}
 use Rattle.ap_tool.specs.declared.status.Status.TheVariants.{Done, Usage, FileFault, ReadFault, WriteFault, BadDictionary, BadRules, BadCompiled, Malformed, Limit, Memory}
 use Rattle.ap_tool.specs.declared.intake.Ending.{Ending}
@@ -30,8 +30,8 @@ pub record Laws : Type 0 where
   pub one : (text : List ℕ) (c d : Dictionary) → Spells text c → Spells text d → c ≡ d
   pub one_fault : (text : List ℕ) (e f : DixFault) → IsFirstFault text e → IsFirstFault text f → e ≡ f
   pub no_fault : (text : List ℕ) (d : Dictionary) (f : DixFault) → Spells text d → IsFirstFault text f → ⊥
-  pub plain : (text : List ℕ) (d : Dictionary) → Spells text d → IsPlain d
-  pub output : (d : Dictionary) (input a b : List ℕ) → IsPlain d → IsOutput d input a → IsOutput d input b → a ≡ b
+  pub sound : (text : List ℕ) (d : Dictionary) → Spells text d → IsSound d
+  pub output : (d : Dictionary) (input a b : List ℕ) → IsSound d → IsOutput d input a → IsOutput d input b → a ≡ b
 
 refused : Laws → (words : List (List ℕ)) (file : ℕ) (old new : Outside) (d : Dictionary) (input : List ℕ) (status : Status) → IsHonest words file old new d input → IsFileRefusal old.files new.files (name_at words file) file status → status ≡ Memory
 refused laws words file old new d input (FileFault f) h r = absurd (calm-not-rose _ _ h.loads r.1)
@@ -71,38 +71,51 @@ intake old new input taken Failed e l c i = absurd (calm-not-rose _ _ c i.1)
 intake old new input taken TooLong e l c i =
     absurd (let m : length taken + length i.0 ≤ length input = too-much old.bytes new.bytes input taken i.0 e i.1 in let p : 0 < length i.0 = i.2 in let q : length taken ≡ input_max = i.4 in omega arith)
 
-streamed : Laws → (words : List (List ℕ)) (file : ℕ) (old new : Outside) (d : Dictionary) (input text : List ℕ) (status : Status) → IsHonest words file old new d input → IsOutput d input text
-    → StreamsOrStops d old.source new.source old.sink new.sink status → (status ≡ Memory) ⊎ ((status ≡ stream_status input Clean) × Puts old.sink.bytes new.sink.bytes text)
-streamed laws words file old new d input text status h o (inr s) = inl s.memory
-streamed laws words file old new d input text status h o (inl s) =
+-- The stream of an honest run ran out of memory, or went as it should with the output of its input.
+pub record WentWell (old new : Outside) (d : Dictionary) (input : List ℕ) (status : Status) : Type 0 where
+  pub text : List ℕ
+  pub output : IsOutput d input text
+  pub status_is : status ≡ stream_status input Clean
+  pub put : Puts old.sink.bytes new.sink.bytes text
+
+streamed : Laws → (words : List (List ℕ)) (file : ℕ) (old new : Outside) (d : Dictionary) (input : List ℕ) (status : Status) → IsHonest words file old new d input
+    → StreamsOrStops d old.source new.source old.sink new.sink status → (status ≡ Memory) ⊎ WentWell old new d input status
+streamed laws words file old new d input status h (inr s) = inl s.memory
+streamed laws words file old new d input status h (inl s) =
     let i = intake old.source new.source input s.input s.ending h.input_told h.input_short h.takes s.taken in
-    let same : s.text ≡ text = laws.output d input s.text text (laws.plain h.text d h.accepted.spelled) (subst (λ n. IsOutput d n s.text) i.0 s.output) o in
     elim s.written [
-      | inl w ↦ inr (w.1 ∙ ap (λ x. stream_status x s.ending) i.0 ∙ ap (stream_status input) i.1, subst (λ x. Puts old.sink.bytes new.sink.bytes x) same w.0.put)
+      | inl w ↦ inr (record {
+        text = s.text;
+        output = subst (λ n. IsOutput d n s.text) i.0 s.output;
+        status_is = w.1 ∙ ap (λ x. stream_status x s.ending) i.0 ∙ ap (stream_status input) i.1;
+        put = w.0.put;
+      })
       | inr w ↦ absurd (calm-not-rose _ _ h.puts w.0.rose)
     ]
 
-proceeded : Laws → (words : List (List ℕ)) (file : ℕ) (old new : Outside) (d : Dictionary) (input text : List ℕ) (status : Status) → IsHonest words file old new d input → IsOutput d input text
-    → Proceeds (name_at words file) old new status → (status ≡ Memory) ⊎ ((status ≡ stream_status input Clean) × Puts old.sink.bytes new.sink.bytes text)
-proceeded laws words file old new d input text status h o p =
-    let t = text-told old.files (name_at words file) h.text (λ text. IsAccepted text p.dictionary) h.there p.opened in
-    let same : p.dictionary ≡ d = laws.one h.text p.dictionary d t.spelled h.accepted.spelled in
-    streamed laws words file old new d input text status h o (subst (λ e. StreamsOrStops e old.source new.source old.sink new.sink status) same p.stream)
+ran : Laws → (words : List (List ℕ)) (file : ℕ) (old new : Outside) (d : Dictionary) (input : List ℕ) (status : Status) → IsHonest words file old new d input
+    → IsAnswer words old new status → (status ≡ Memory) ⊎ WentWell old new d input status
+ran laws words file old new d input status h a =
+    elim (subst (λ r. IsAnswerTo words old new status r) h.command a.by_words) [
+      | inl r ↦ inl (refused laws words file old new d input status h r.refusal)
+      | inr p ↦ (let t = text-told old.files (name_at words file) h.text (λ text. IsAccepted text p.dictionary) h.there p.opened in
+          let same : p.dictionary ≡ d = laws.one h.text p.dictionary d t.spelled h.accepted.spelled in
+          streamed laws words file old new d input status h (subst (λ e. StreamsOrStops e old.source new.source old.sink new.sink status) same p.stream))
+    ]
 
 pub exact-from : Laws → (words : List (List ℕ)) (old new : Outside) (status : Status) → IsAnswer words old new status → IsExact words old new status
 exact-from laws words old new status a = λ file d input text h o.
-    elim (subst (λ r. IsAnswerTo words old new status r) h.command a.by_words) [
-      | inl r ↦ inl (refused laws words file old new d input status h r.refusal)
-      | inr p ↦ proceeded laws words file old new d input text status h o p
+    elim (ran laws words file old new d input status h a) [
+      | inl m ↦ inl m
+      | inr w ↦ inr (w.status_is, subst (λ x. Puts old.sink.bytes new.sink.bytes x) (laws.output d input w.text text (laws.sound h.text d h.accepted.spelled) w.output o) w.put)
     ]
 
-pub complete-from : Laws → ((d : Dictionary) (input : List ℕ) → IsPlain d → (text : List ℕ) × IsOutput d input text) → (words : List (List ℕ)) (old new : Outside) (status : Status) → IsAnswer words old new status → IsComplete words old new status
-complete-from laws some words old new status a = λ file d input h s.
-    (let o = some d input (laws.plain h.text d h.accepted.spelled) in
-    elim (exact-from laws words old new status a file d input o.0 h o.1) [
+pub complete-from : Laws → (words : List (List ℕ)) (old new : Outside) (status : Status) → IsAnswer words old new status → IsComplete words old new status
+complete-from laws words old new status a = λ file d input h s.
+    elim (ran laws words file old new d input status h a) [
       | inl m ↦ inr m
-      | inr e ↦ inl (e.0 ∙ stream-clean input s)
-    ])
+      | inr w ↦ inl (w.status_is ∙ stream-clean input s)
+    ]
 
 -- the file was refused with the fault that it has
 faulty-refused : Laws → (words : List (List ℕ)) (old new : Outside) (status : Status) (file number line : ℕ) (text : List ℕ) → Holds old.files (name_at words file) text → IsFaultOf text number line

@@ -5,7 +5,7 @@ use Rattle.ap_dix.specs.declared.dictionary.Dictionary.{Dictionary}
 use Rattle.ap_dix.specs.declared.refusal.DixFault.{DixFault}
 use Rattle.ap_dix.specs.FirstForm.{Spells, IsFirstFault}
 use Rattle.ap_dix.specs.Refusals.{kind_number}
-use Rattle.ap_dix.specs.Soundness.{IsPlain}
+use Rattle.ap_dix.specs.Soundness.{IsSound}
 use Rattle.ap_tool.specs.declared.status.Status.{Status}
 use Rattle.ap_tool.specs.declared.status.Status.TheVariants.{FileFault, BadDictionary, Limit, Memory}
 
@@ -63,5 +63,5 @@ IsReadRefusal file text Memory = Unit {0}
 IsReadRefusal file text _ = ⊥
 
 abbrev pub Reads : ℕ → List ℕ → Result Dictionary Status → Type 0
-Reads file text (Ok d) = Spells text d × IsPlain d
+Reads file text (Ok d) = Spells text d × IsSound d
 Reads file text (Err status) = IsReadRefusal file text status

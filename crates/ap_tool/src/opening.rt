@@ -1,5 +1,5 @@
 ghost use Rattle.std.specs.Prelude.{◌≡◌, ◌<◌, length, IfOk, IfErr, ℕ};
-ghost use Rattle.ap_dix.specs.Soundness.{IsPlain};
+ghost use Rattle.ap_dix.specs.Soundness.{IsSound};
 ghost use Rattle.ap_tool.specs.Messages.{name_at, IsTold};
 ghost use Rattle.ap_tool.specs.Words.{texts};
 ghost use Rattle.ap_tool.specs.Opening.{files_standing, Opens, IsFileRefusal, Reads};
@@ -35,7 +35,7 @@ pub(crate) fn open<F: Files>(
     file: usize,
 ) -> Result<Dictionary, Status>
     ensures opened { IfOk result (λ d. Opens (files_standing (F.contents files.old) (F.load_faults files.old) (F.store_faults files.old)) name.now d) }
-    ensures plain { IfOk result (λ d. IsPlain d) }
+    ensures sound { IfOk result (λ d. IsSound d) }
     ensures calm { IfOk result (λ _. files_standing (F.contents files.new) (F.load_faults files.new) (F.store_faults files.new) ≡ files_standing (F.contents files.old) (F.load_faults files.old) (F.store_faults files.old)) }
     ensures refused { IfErr result (λ s. IsFileRefusal (files_standing (F.contents files.old) (F.load_faults files.old) (F.store_faults files.old)) (files_standing (F.contents files.new) (F.load_faults files.new) (F.store_faults files.new)) name.now file s) }
     ensures told { IfErr result (λ s. (words : ℕ) → file < words → IsTold s words) }

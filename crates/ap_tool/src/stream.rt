@@ -1,5 +1,5 @@
 ghost use Rattle.std.specs.Prelude.{◌≡◌, ◌≤◌, length, IfOk, ℕ};
-ghost use Rattle.ap_dix.specs.Soundness.{IsPlain};
+ghost use Rattle.ap_dix.specs.Soundness.{IsSound};
 ghost use Rattle.ap_tool.specs.Standing.{standing};
 ghost use Rattle.ap_tool.specs.Messages.{IsTold};
 ghost use Rattle.ap_tool.specs.Output.{stray_place, is_readable_lem, IsOutput};
@@ -9,8 +9,8 @@ use crate::intake::{Ending, INPUT_MAX, take_all};
 use crate::laws::dictionary_has_its_lexicon;
 use crate::pairs::pairs;
 use crate::status::Status;
-use ap_analysis::analyse;
-use ap_dix::Dictionary;
+use ap_analysis::{analyse, right_words_are_proper};
+use ap_dix::{Dictionary, Direction, Kind};
 use ap_outside::{Sink, Source};
 use ap_symbol::{Bytes, Memory};
 use std::alloc::Global;
@@ -66,11 +66,12 @@ fn output(
 ) -> Result<Bytes, Memory>
     requires place { place ≡ stray_place input.now }
     requires within { place ≤ length input.now }
-    requires plain { IsPlain dictionary.now }
+    requires sound { IsSound dictionary.now }
     ensures { IfOk result (λ out. IsOutput dictionary.now input.now out) }
 {
     dictionary_has_its_lexicon();
-    let pairs = pairs(alloc, dictionary)?;
+    let pairs = pairs(alloc, dictionary, Direction::Lr, Kind::Standard)?;
+    right_words_are_proper(pairs.as_slice());
     let (front, _) = input.split_at(place);
     analyse(
         alloc,
@@ -88,7 +89,7 @@ pub(crate) fn proceed<S: Source, K: Sink>(
     source: &mut S,
     sink: &mut K,
 ) -> Status
-    requires { IsPlain dictionary.now }
+    requires { IsSound dictionary.now }
     ensures told { (words : ℕ) → IsTold result words }
     ensures streams { StreamsOrStops dictionary.now (standing (S.left source.old) (S.faults source.old)) (standing (S.left source.new) (S.faults source.new)) (standing (K.written sink.old) (K.faults sink.old)) (standing (K.written sink.new) (K.faults sink.new)) result }
 {

@@ -7,7 +7,7 @@ ghost use Rattle.ap_tool.specs.Opening.{files_standing};
 ghost use Rattle.ap_tool.specs.Answer.{IsAnswer, outside, Tells};
 ghost use Rattle.ap_tool.specs.Clauses.{IsExact, IsComplete, RefusesFaulty, RefusesLong, IsFileFault, IsReadFault, IsMalformed, IsInputTooLong, IsDone};
 
-use crate::laws::{one_output, some_output};
+use crate::laws::one_output;
 use crate::messages::{message, name};
 use crate::opening::open;
 use crate::status::Status;
@@ -110,7 +110,6 @@ pub fn apertium<F: Files, S: Source, K: Sink, E: Sink>(
     spells_without_fault();
     spells_plain();
     one_output();
-    some_output();
     let status = run(alloc, words, files, source, sink);
     let _ = message(&status, words, err);
     status

@@ -4,15 +4,15 @@ use Rattle.ap_tool.proofs.top.apertium.Goals as goal
 
 pub returns-clause-exact : goal.returns-clause-exact
 returns-clause-exact g c =
-    exact-from (record { one = c.spells_one.ensures; one_fault = c.has_one_fault.ensures; no_fault = c.spells_without_fault.ensures; plain = c.spells_plain.ensures.plain; output = c.one_output.ensures }) _ _ _ _ c.run-status.ensures.answer
+    exact-from (record { one = c.spells_one.ensures; one_fault = c.has_one_fault.ensures; no_fault = c.spells_without_fault.ensures; sound = c.spells_plain.ensures.sound; output = c.one_output.ensures }) _ _ _ _ c.run-status.ensures.answer
 
 pub returns-clause-complete : goal.returns-clause-complete
 returns-clause-complete g c =
-    complete-from (record { one = c.spells_one.ensures; one_fault = c.has_one_fault.ensures; no_fault = c.spells_without_fault.ensures; plain = c.spells_plain.ensures.plain; output = c.one_output.ensures }) c.some_output.ensures _ _ _ _ c.run-status.ensures.answer
+    complete-from (record { one = c.spells_one.ensures; one_fault = c.has_one_fault.ensures; no_fault = c.spells_without_fault.ensures; sound = c.spells_plain.ensures.sound; output = c.one_output.ensures }) _ _ _ _ c.run-status.ensures.answer
 
 pub returns-clause-faulty : goal.returns-clause-faulty
 returns-clause-faulty g c =
-    faulty-from (record { one = c.spells_one.ensures; one_fault = c.has_one_fault.ensures; no_fault = c.spells_without_fault.ensures; plain = c.spells_plain.ensures.plain; output = c.one_output.ensures }) _ _ _ _ c.run-status.ensures.answer
+    faulty-from (record { one = c.spells_one.ensures; one_fault = c.has_one_fault.ensures; no_fault = c.spells_without_fault.ensures; sound = c.spells_plain.ensures.sound; output = c.one_output.ensures }) _ _ _ _ c.run-status.ensures.answer
 
 pub returns-clause-long : goal.returns-clause-long
 returns-clause-long g c = long-from _ _ _ _ c.run-status.ensures.answer
