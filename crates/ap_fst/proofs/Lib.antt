@@ -1,0 +1,14 @@
+pub mod Listing
+pub mod Growing
+pub mod Commons
+pub mod PlaceLaws
+pub mod WalkLaws
+pub mod OrderLaws
+pub mod Trims
+pub mod SilenceLaws
+pub mod CycleLaws
+pub mod Gluing
+pub mod Laws
+pub mod QuietLaws
+pub mod Adding
+pub mod Removals

@@ -1,0 +1,14 @@
+pub mod Lists
+pub mod Order
+pub mod Sides
+pub mod Places
+pub mod Sketches
+pub mod Paths
+pub mod Machines
+pub mod Walks
+pub mod Graphs
+pub mod Trimming
+pub mod Silence
+pub mod Quiet
+pub mod Removal
+pub mod Sections

@@ -1,0 +1,24 @@
+use Rattle.std.specs.Prelude.{◌≡◌, ◌⊎◌, ℕ, List, [], ◌++◌}
+use Rattle.std.specs.Option.{option_to_list}
+use Rattle.ap_fst.specs.Lists.{IsIn}
+use Rattle.ap_fst.specs.Sketches.{Sketch}
+use Rattle.ap_fst.specs.declared.draft.Move.{Move}
+use Rattle.ap_fst.specs.declared.label.Label.{Label}
+
+-- Over these moves, from a state, with these labels, to a state.
+pub data Path (moves : List Move) : ℕ → List Label → ℕ → Type 0 where
+  here : {s t : ℕ} → s ≡ t → Path moves s [] t
+  on : {s t : ℕ} {labels whole : List Label} (m : Move) → IsIn m moves → s ≡ m.from → whole ≡ option_to_list m.label ++ labels → Path moves m.to labels t → Path moves s whole t
+
+abbrev pub Accepts : Sketch → List Label → Type 0
+Accepts s labels = Path s.moves s.start labels s.finish
+
+pub record IsJoined (a b : Sketch) (labels : List Label) : Type 0 where
+  pub front : List Label
+  pub back : List Label
+  pub whole : labels ≡ front ++ back
+  pub first : Accepts a front
+  pub second : Accepts b back
+
+abbrev pub IsEither : Sketch → Sketch → List Label → Type 0
+IsEither a b labels = Accepts a labels ⊎ Accepts b labels

@@ -1,0 +1,132 @@
+ghost use Rattle.std.specs.Prelude.{◌≡◌, ◌<◌, ◌↔◌, IsTrue, nat_lt, nat_le, ◌≤◌, ◌==◌, length, true, false};
+ghost use Rattle.std.specs.List.{filter};
+ghost use Rattle.std.specs.Ordering.{nat_cmp};
+ghost use Rattle.std.specs.List.Sorted.{IsNonDecreasingBy, IsPartitionPoint};
+ghost use Rattle.ap_fst.specs.Lists.{IsIn, IsKeyRange, Ascends};
+ghost use Rattle.ap_fst.specs.Machines.{edge_from, edges_of, IsSpan};
+
+use crate::label::{Edge, Edges, Finals};
+use std::marker::Model;
+
+fn low_of(edges: &[Edge], state: usize) -> usize
+    requires { IsNonDecreasingBy edge_from edges.now }
+    ensures point { IsPartitionPoint (λ e. nat_lt (edge_from e) state ≡ true) (λ e. nat_lt (edge_from e) state ≡ false) edges.now result }
+    ensures bound { result ≤ length edges.now }
+{
+    edges.partition_point(|e| e.from < state)
+}
+
+fn high_of(edges: &[Edge], state: usize) -> usize
+    requires { IsNonDecreasingBy edge_from edges.now }
+    ensures point { IsPartitionPoint (λ e. nat_le (edge_from e) state ≡ true) (λ e. nat_le (edge_from e) state ≡ false) edges.now result }
+    ensures bound { result ≤ length edges.now }
+{
+    edges.partition_point(|e| e.from <= state)
+}
+
+/// Where the edges of a state begin and end, by halving.
+fn range_of(edges: &[Edge], state: usize) -> (usize, usize)
+    requires { IsNonDecreasingBy edge_from edges.now }
+    ensures { IsKeyRange edge_from state edges.now result.0 result.1 }
+{
+    let low = low_of(edges, state);
+    let high = high_of(edges, state);
+    (low, high)
+}
+
+fn part_of(edges: &[Edge], state: usize) -> &[Edge]
+    requires { IsNonDecreasingBy edge_from edges.now }
+    ensures { result.now ≡ filter (λ e. edge_from e == state) edges.now }
+{
+    let (low, high) = range_of(edges, state);
+    &edges[low..high]
+}
+
+fn is_listed(states: &[usize], state: usize) -> bool
+    requires { Ascends nat_cmp states.now }
+    ensures { IsTrue result ↔ IsIn state states.now }
+{
+    states.binary_search(&state).is_ok()
+}
+
+/// A transducer. State 0 is the start; edges and final states are kept in strictly ascending order.
+#[derive(Debug, Drop)]
+pub struct Fst {
+    states: usize,
+    edges: Edges,
+    finals: Finals,
+}
+
+impl Model for Fst {
+    ghost use Rattle.ap_fst.specs.Machines.{Machine, IsMachine};
+
+    ghost Value = { Machine };
+
+    ghost view = { λ f. record { states = f.states; edges = f.edges; finals = f.finals } };
+
+    ghost invariant = { λ f. IsMachine (record { states = f.states; edges = f.edges; finals = f.finals }) };
+}
+
+impl Fst {
+    ghost use Rattle.ap_fst.specs.Machines.{Machine, IsMachine};
+
+    /// The transducer of these parts. It takes no memory.
+    pub fn build(states: usize, edges: Edges, finals: Finals) -> Fst
+        requires { IsMachine (record { states = states; edges = edges; finals = finals }) }
+        ensures { result ≡ record { states = states; edges = edges; finals = finals } }
+    {
+        Fst {
+            states,
+            edges,
+            finals,
+        }
+    }
+
+    /// The number of states.
+    pub fn states(&self) -> usize
+        ensures value { result ≡ self.now.states }
+        ensures sound { IsMachine self.now }
+    {
+        self.states
+    }
+
+    /// All edges, in their order.
+    pub fn edges(&self) -> &[Edge]
+        ensures value { result.now ≡ self.now.edges }
+        ensures sound { IsMachine self.now }
+    {
+        self.edges.as_slice()
+    }
+
+    /// The final states, in their order.
+    pub fn finals(&self) -> &[usize]
+        ensures value { result.now ≡ self.now.finals }
+        ensures sound { IsMachine self.now }
+    {
+        self.finals.as_slice()
+    }
+
+    /// The edges that leave a state, in their order. They are found by halving.
+    pub fn edges_from(&self, state: usize) -> &[Edge]
+        ensures value { result.now ≡ edges_of self.now state }
+        ensures sound { IsMachine self.now }
+    {
+        part_of(self.edges.as_slice(), state)
+    }
+
+    /// The places in `edges` from the first up to the second that hold the edges of a state.
+    pub fn span(&self, state: usize) -> (usize, usize)
+        ensures span { IsSpan self.now.edges state result.0 result.1 }
+        ensures sound { IsMachine self.now }
+    {
+        range_of(self.edges.as_slice(), state)
+    }
+
+    /// Whether the state is final. It is found by halving.
+    pub fn is_final(&self, state: usize) -> bool
+        ensures holds { IsTrue result ↔ IsIn state self.now.finals }
+        ensures sound { IsMachine self.now }
+    {
+        is_listed(self.finals.as_slice(), state)
+    }
+}

@@ -1,0 +1,25 @@
+//! Transducers: states with edges that carry a left and a right symbol, drafts of them with empty
+//! moves, and the constructions that keep the accepted label strings exactly.
+#![tactic(auto)]
+
+mod arcs;
+mod compiled;
+mod cycles;
+mod draft;
+mod fst;
+mod graph;
+mod label;
+mod order;
+mod removal;
+mod silence;
+mod trimming;
+
+pub use compiled::{Compiled, Kind2};
+pub use cycles::{empty_cycle, empty_cycle_law};
+pub use draft::Draft;
+pub use fst::Fst;
+pub use label::{Edge, Edges, Finals, Label};
+pub use order::compare_edges;
+pub use removal::without_empty;
+pub use silence::empty_side;
+pub use trimming::trim;

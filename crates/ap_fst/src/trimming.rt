@@ -1,0 +1,133 @@
+ghost use Rattle.std.specs.Prelude.{◌≡◌, ◌↔◌, ◌++◌, ℕ, List, IfOk, OnOk};
+ghost use Rattle.std.specs.List.{flat_map};
+ghost use Rattle.std.specs.Ordering.{nat_cmp};
+ghost use Rattle.ap_fst.specs.Lists.{IsIn, Ascends};
+ghost use Rattle.ap_fst.specs.Graphs.{place_of, AddsCommon};
+ghost use Rattle.ap_fst.specs.Walks.{AcceptsLabels};
+ghost use Rattle.ap_fst.specs.Trimming.{IsUseful, IsTrimmed, IsTrimOf, kept_edge, kept_state};
+ghost use Rattle.ap_fst.specs.declared.label.Label.{Label};
+
+use crate::arcs::{backward_arcs, forward_arcs};
+use crate::fst::Fst;
+use crate::graph::{StateSet, reach};
+use crate::label::{Edge, Edges, Finals};
+use ap_symbol::Memory;
+use std::alloc::Global;
+
+fn add_common(a: &StateSet, b: &StateSet, at: usize, both: &mut Vec<usize>) -> Result<(), Memory>
+    ensures { OnOk result (AddsCommon a.now b.now at both.old.items both.new.items) }
+{
+    let Some(state) = a.get(at) else {
+        return Ok(());
+    };
+    if !b.contains(state) {
+        return Ok(());
+    }
+    both.push(state)?;
+    Ok(())
+}
+
+fn both_lists(alloc: Global, a: &StateSet, b: &StateSet) -> Result<Vec<usize>, Memory>
+    ensures { IfOk result (λ both. (s : ℕ) → IsIn s both.items ↔ IsIn s a.now × IsIn s b.now) }
+{
+    let mut both = Vec::new(alloc);
+    for at in 0..a.len() {
+        add_common(a, b, at, &mut both)?;
+    }
+    Ok(both)
+}
+
+/// The states that are in both, ascending.
+fn common_states(alloc: Global, a: &StateSet, b: &StateSet) -> Result<Vec<usize>, Memory>
+    ensures ascend { IfOk result (λ both. Ascends nat_cmp both.items) }
+    ensures exactly { IfOk result (λ both. (s : ℕ) → IsIn s both.items ↔ IsIn s a.now × IsIn s b.now) }
+{
+    let mut both = both_lists(alloc, a, b)?;
+    both.sort_unstable();
+    both.dedup();
+    Ok(both)
+}
+
+/// The states that are reached from the start and reach a final one, ascending.
+fn useful_states(alloc: Global, fst: &Fst) -> Result<Vec<usize>, Memory>
+    ensures ascend { IfOk result (λ states. Ascends nat_cmp states.items) }
+    ensures exactly { IfOk result (λ states. (s : ℕ) → IsIn s states.items ↔ IsUseful fst.now s) }
+{
+    let edges = fst.edges();
+    let arcs = forward_arcs(alloc, edges)?;
+    let ahead = reach(alloc, arcs.as_slice(), &[0])?;
+    let turned = backward_arcs(alloc, edges)?;
+    let behind = reach(alloc, turned.as_slice(), fst.finals())?;
+    let states = common_states(alloc, &ahead, &behind)?;
+    Ok(states)
+}
+
+/// The new number of a state, by halving.
+fn number_of(states: &[usize], state: usize) -> Option<usize>
+    requires { Ascends nat_cmp states.now }
+    ensures { result ≡ place_of states.now state }
+{
+    states.binary_search(&state).ok()
+}
+
+fn add_edge(alloc: Global, states: &[usize], edge: &Edge, into: &mut Edges) -> Result<(), Memory>
+    requires { Ascends nat_cmp states.now }
+    ensures { OnOk result (into.new ≡ into.old ++ kept_edge states.now edge.now) }
+{
+    let Some(from) = number_of(states, edge.from) else {
+        return Ok(());
+    };
+    let Some(to) = number_of(states, edge.to) else {
+        return Ok(());
+    };
+    let label = edge.label.copy(alloc)?;
+    into.push(Edge { from, label, to })
+}
+
+fn kept_edges(alloc: Global, states: &[usize], edges: &[Edge]) -> Result<Edges, Memory>
+    requires { Ascends nat_cmp states.now }
+    ensures { IfOk result (λ kept. kept ≡ flat_map (kept_edge states.now) edges.now) }
+{
+    let mut kept = Edges::new(alloc);
+    for edge in edges {
+        add_edge(alloc, states, edge, &mut kept)?;
+    }
+    Ok(kept)
+}
+
+fn add_final(states: &[usize], state: usize, into: &mut Finals) -> Result<(), Memory>
+    requires { Ascends nat_cmp states.now }
+    ensures { OnOk result (into.new ≡ into.old ++ kept_state states.now state) }
+{
+    match number_of(states, state) {
+        None => Ok(()),
+        Some(number) => into.push(number),
+    }
+}
+
+fn kept_finals(alloc: Global, states: &[usize], finals: &[usize]) -> Result<Finals, Memory>
+    requires { Ascends nat_cmp states.now }
+    ensures { IfOk result (λ kept. kept ≡ flat_map (kept_state states.now) finals.now) }
+{
+    let mut kept = Finals::new(alloc);
+    for state in finals {
+        add_final(states, *state, &mut kept)?;
+    }
+    Ok(kept)
+}
+
+/// The transducer without the states that are not reached from the start or reach no final one, and
+/// without their edges. The states that stay are numbered in their old order, so a trimmed
+/// transducer is given back as it is. The label strings stay the same. Memory is taken by the edges
+/// and final states, not by the number of states.
+pub fn trim(alloc: Global, fst: &Fst) -> Result<Fst, Memory>
+    ensures same { IfOk result (λ made. (labels : List Label) → AcceptsLabels made labels ↔ AcceptsLabels fst.now labels) }
+    ensures trimmed { IfOk result (λ made. IsTrimmed made) }
+    ensures exact { IfOk result (λ made. IsTrimOf fst.now made) }
+    ensures unchanged { IfOk result (λ made. IsTrimmed fst.now → made ≡ fst.now) }
+{
+    let states = useful_states(alloc, fst)?;
+    let edges = kept_edges(alloc, states.as_slice(), fst.edges())?;
+    let finals = kept_finals(alloc, states.as_slice(), fst.finals())?;
+    Ok(Fst::build(states.len().max(1), edges, finals))
+}

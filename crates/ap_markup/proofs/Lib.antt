@@ -1,0 +1,11 @@
+pub mod Spans
+pub mod Resolved
+pub mod Attributes
+pub mod ViewLemmas
+pub mod Closing
+pub mod OnePiece
+pub mod LinesAfter
+pub mod Steps
+pub mod Deeper
+pub mod Roots
+pub mod Repeated

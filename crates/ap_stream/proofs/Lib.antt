@@ -1,0 +1,5 @@
+pub mod Stop
+pub mod Encoding
+pub mod Spells
+pub mod Trying
+pub mod Moved

@@ -1,0 +1,145 @@
+-- What is decided of an item within the limit, and what one byte more decides.
+use Rattle.std.specs.Prelude.{◌≡◌, ◌≢◌, ℕ, zero, suc, ◌+◌, ◌-◌, ◌<◌, ◌≤◌, List, [], ◌∷◌, ◌++◌, drop, take, length, Bool, true, false, cond, leb, refl}
+use Rattle.std.proofs.Common.{arith, ap, sym, subst, ◌∙◌, append_assoc, length-append, get_or, inl, inr}
+use Rattle.std.proofs.lemmas.List.{append-nil, take-append-le, take-append-drop, length-take, length-drop}
+use Rattle.std.proofs.lemmas.Bool.Decides.{nat_tests}
+use Rattle.std.proofs.lemmas.Bool.{cases_lt}
+use Rattle.std.proofs.Math.Seq.{take-append-add, take-append_seam}
+use Rattle.ap_stream.specs.declared.dialect.Dialect.{Dialect}
+use Rattle.ap_stream.specs.declared.fault.LimitKind.TheVariants.{ItemTooLong}
+use Rattle.ap_stream.specs.declared.fault.MalformedKind.TheVariants.{Unfinished}
+use Rattle.ap_stream.specs.declared.item.Item.{Item}
+use Rattle.ap_stream.specs.declared.item.Item.TheVariants as item
+use Rattle.ap_stream.specs.declared.examine.Mode.{Mode}
+use Rattle.ap_stream.specs.declared.examine.Seen.{Seen}
+use Rattle.ap_stream.specs.declared.examine.Seen.TheVariants as seen
+use Rattle.ap_stream.specs.Reading.{First, Needs, Whole, Faulty, Kind, Bad, Past, first, limited, past, at_limit, unit_max, unit_max_is, plain}
+use Rattle.ap_stream.specs.Stands.{Stands, Always, InBlank, blank_ends}
+use Rattle.ap_stream.specs.Step.{Stood, Sees}
+use Rattle.ap_stream.specs.AtEnd.{Begins, begun, begun_blank}
+
+abbrev pub IsDecided : First → Type 0
+IsDecided Needs = ⊥
+IsDecided (Whole thing n) = Unit {0}
+IsDecided (Faulty kind) = Unit {0}
+
+past_decided : (most : ℕ) (f next : First) → IsDecided f → past most f next ≡ f
+past_decided most Needs next d = absurd d
+past_decided most (Whole thing n) next d = refl
+past_decided most (Faulty kind) next d = refl
+
+-- a few bytes are read without the limit
+pub limited_within : (most : ℕ) (dialect : Dialect) (held : List ℕ) → length held ≤ most → limited most dialect held ≡ first dialect held
+unfolding limited
+limited_within most dialect held fits =
+    let short : leb (length held) most ≡ true = grind (arith, nat_tests) in rw short refl
+
+-- what is decided within the limit
+pub limited_decided : (most : ℕ) (dialect : Dialect) (held : List ℕ) (f : First) → length held ≤ most → Always dialect held f → IsDecided f → (x : List ℕ) → limited most dialect (held ++ x) ≡ f
+unfolding limited
+limited_decided most dialect held f fits h d x =
+    let k : most ≡ length held + (most - length held) = omega arith in
+    let t : take most (held ++ x) ≡ held ++ take (most - length held) x = ap (λ n. take n (held ++ x)) k ∙ take-append-add held x (most - length held) in
+    let e : past most (first dialect (take most (held ++ x))) (first dialect (take (suc most) (held ++ x))) ≡ f = rw (t, h (take (most - length held) x)) (past_decided most f _ d) in
+    rw (h x, e) (both (leb (length (held ++ x)) most))
+  where
+    both : (b : Bool) → cond b f f ≡ f
+    both true = refl
+    both false = refl
+
+-- one byte past the limit
+pub limited_past : (most : ℕ) (dialect : Dialect) (held : List ℕ) → length held ≡ suc most → first dialect (take most held) ≡ Needs → (x : List ℕ) → limited most dialect (held ++ x) ≡ at_limit most (first dialect held)
+unfolding limited
+limited_past most dialect held l h x =
+    let long : leb (length (held ++ x)) most ≡ false = grind (arith, nat_tests, length-append held x) in
+    let a : take most (held ++ x) ≡ take most held = take-append-le most held x (omega arith) in
+    let b : take (suc most) (held ++ x) ≡ held = ap (λ n. take n (held ++ x)) (sym l) ∙ take-append_seam held x in
+    rw (long, a, b, h) refl
+
+-- however the text goes on, this is the item at its front within the limit
+abbrev pub Surely : Dialect → List ℕ → First → Type 0
+Surely dialect held f = (x : List ℕ) → limited unit_max dialect (held ++ x) ≡ f
+
+-- what is made of one more byte, with the limit
+abbrev pub Looks : Dialect → Mode → ℕ → List ℕ → Seen → Type 0
+Looks dialect at done held seen.Waits = Stands at (take done held) (drop done held) × (length held ≤ 1048576)
+Looks dialect at done held (seen.Goes to) = Stands to held [] × (length held ≤ 1048576)
+Looks dialect at done held (seen.Plain c) = Surely dialect held (Whole (plain c.letter c.escaped) (length held)) × (length held ≤ 1048576)
+Looks dialect at done held seen.BlankEnds = (0 < length (take done held)) × (drop done held ≡ get_or (drop done held) 0 0 ∷ []) × Surely dialect held (Whole (item.Blank (take done held)) (length (take done held))) × (length (take done held) ≤ 1048576)
+Looks dialect at done held (seen.Bad kind) = Surely dialect held (Faulty (Bad kind)) × (kind ≢ Unfinished)
+Looks dialect at done held seen.TooLong = Surely dialect held (Faulty (Past ItemTooLong))
+
+module _ (dialect : Dialect) (at : Mode) (done : ℕ) (held : List ℕ) where
+  whole : (f : First) → Always dialect (take done held ++ drop done held) f → Always dialect held f
+  whole f h = rw (take-append-drop done held) at h
+
+  surely : (f : First) → length held ≤ 1048576 → Always dialect (take done held ++ drop done held) f → IsDecided f → Surely dialect held f
+  surely f fits h d = limited_decided unit_max dialect held f (rw unit_max_is fits) (whole f h) d
+
+  front_short : (drop done held ≡ get_or (drop done held) 0 0 ∷ []) → length held ≡ length (take done held) + 1
+  front_short h = ap length (sym (take-append-drop done held)) ∙ length-append (take done held) (drop done held) ∙ ap (λ n. length (take done held) + n) (ap length h)
+
+  pub looks_short : (s : Seen) → length held ≤ 1048576 → Sees dialect at (take done held) (drop done held) s → Looks dialect at done held s
+  looks_short seen.Waits fits h = (h, fits)
+  looks_short (seen.Goes to) fits h = (let P : List ℕ → Type 0 = λ q. Stands to q [] in subst P (take-append-drop done held) h, fits)
+  looks_short (seen.Plain c) fits h = (let l = surely (Whole (plain c.letter c.escaped) (length (take done held ++ drop done held))) fits h tt in rw (take-append-drop done held) at l, fits)
+  looks_short seen.BlankEnds fits h = (h.0, h.1, surely (Whole (item.Blank (take done held)) (length (take done held))) fits h.2 tt, omega (arith, front_short h.1))
+  looks_short (seen.Bad kind) fits h = (surely (Faulty (Bad kind)) fits h.0 tt, h.1)
+  looks_short seen.TooLong fits h = absurd h
+
+  -- before the byte past the limit, more was needed
+  pub needs_before : Stood at (take done held) (drop done held) → length held ≡ 1048577 → first dialect (take unit_max held) ≡ Needs
+  needs_before h l =
+      let old : List ℕ = take done held ++ h.old in
+      let is : held ≡ old ++ h.byte ∷ [] = sym (take-append-drop done held) ∙ ap (λ q. take done held ++ q) h.part_is ∙ sym (append_assoc (take done held) h.old (h.byte ∷ [])) in
+      let len : length old ≡ 1048576 = let m = ap length is ∙ length-append old (h.byte ∷ []) in omega (arith, m, l) in
+      let cut : take unit_max held ≡ old = ap (take unit_max) is ∙ ap (λ n. take n (old ++ h.byte ∷ [])) (unit_max_is ∙ sym len) ∙ take-append_seam old (h.byte ∷ []) in
+      ap (first dialect) cut ∙ (begun dialect at (take done held) h.old h.stands (omega (arith, len))).needs
+
+  past_all : Stood at (take done held) (drop done held) → length held ≡ 1048577 → (f : First) → first dialect held ≡ f → Surely dialect held (at_limit unit_max f)
+  past_all h l f e x = limited_past unit_max dialect held (l ∙ ap suc (sym unit_max_is)) (needs_before h l) x ∙ ap (at_limit unit_max) e
+
+  all_now : (f : First) → Always dialect (take done held ++ drop done held) f → first dialect held ≡ f
+  all_now f h = rw append-nil at (whole f h [])
+
+  pub looks_blank : Stood at (take done held) (drop done held) → length held ≡ 1048577 → Sees dialect at (take done held) (drop done held) seen.BlankEnds → Looks dialect at done held seen.BlankEnds
+  looks_blank h l s =
+      let n : length (take done held) ≡ 1048576 = omega (arith, front_short s.1, l) in
+      let fine : leb (length (take done held)) unit_max ≡ true = rw (unit_max_is, n) refl in
+      (s.0, s.1, λ x. past_all h l (Whole (item.Blank (take done held)) (length (take done held))) (all_now (Whole (item.Blank (take done held)) (length (take done held))) s.2) x ∙ rw fine refl, omega (arith, n))
+
+  needs_all : (to : Mode) (front part : List ℕ) → front ++ part ≡ held → Stands to front part → length held ≡ 1048577 → first dialect held ≡ Needs
+  needs_all to front part e h l =
+      let len : length (front ++ part) ≡ 1048577 = ap length e ∙ l in
+      let k : first dialect (front ++ part) ≡ Needs = (begun dialect to front part h (omega (arith, len))).needs in
+      ap (first dialect) (sym e) ∙ k
+
+  pub looks_long : (s : Seen) → s ≢ seen.BlankEnds → Stood at (take done held) (drop done held) → length held ≡ 1048577 → Sees dialect at (take done held) (drop done held) s → Looks dialect at done held seen.TooLong
+  looks_long seen.Waits differs h l s = past_all h l Needs (needs_all at (take done held) (drop done held) (take-append-drop done held) s l)
+  looks_long (seen.Goes to) differs h l s = past_all h l Needs (needs_all to (take done held ++ drop done held) [] (append-nil _ ∙ take-append-drop done held) s l)
+  looks_long (seen.Plain c) differs h l s =
+      let n : length (take done held ++ drop done held) ≡ 1048577 = ap length (take-append-drop done held) ∙ l in
+      let f : First = Whole (plain c.letter c.escaped) (length (take done held ++ drop done held)) in
+      let long : leb (length (take done held ++ drop done held)) unit_max ≡ false = rw (unit_max_is, n) refl in
+      λ x. past_all h l (Whole (plain c.letter c.escaped) (length (take done held ++ drop done held))) (all_now (Whole (plain c.letter c.escaped) (length (take done held ++ drop done held))) s) x ∙ rw long refl
+  looks_long seen.BlankEnds differs h l s = absurd (differs refl)
+  looks_long (seen.Bad kind) differs h l s = past_all h l (Faulty (Bad kind)) (all_now (Faulty (Bad kind)) s.0)
+  looks_long seen.TooLong differs h l s = absurd s
+
+ends_past : (most : ℕ) (dialect : Dialect) (held : List ℕ) → length held ≡ most → InBlank held → Always dialect (held ++ 97 ∷ []) (Whole (item.Blank held) (length held)) → limited most dialect ((held ++ 97 ∷ []) ++ []) ≡ Whole (item.Blank held) (length held)
+ends_past most dialect held l on always =
+    let cut : take most (held ++ 97 ∷ []) ≡ held = rw (← l) (take-append_seam held (97 ∷ [])) in
+    let needs : first dialect (take most (held ++ 97 ∷ [])) ≡ Needs = ap (first dialect) cut ∙ (begun_blank dialect held on).needs in
+    let len : length (held ++ 97 ∷ []) ≡ suc most = rw (length-append, l) (omega arith) in
+    let now : first dialect (held ++ 97 ∷ []) ≡ Whole (item.Blank held) (length held) = rw append-nil at (always []) in
+    let fine : leb (length held) most ≡ true = grind (arith, nat_tests) in
+    limited_past most dialect (held ++ 97 ∷ []) len needs [] ∙ rw (now, fine) refl
+
+-- a blank within the limit that a letter ends
+pub limited_ends : (most : ℕ) (dialect : Dialect) (held : List ℕ) → length held ≤ most → InBlank held → limited most dialect ((held ++ 97 ∷ []) ++ []) ≡ Whole (item.Blank held) (length held)
+limited_ends most dialect held fits on =
+    let always : Always dialect (held ++ 97 ∷ []) (Whole (item.Blank held) (length held)) = blank_ends dialect held 97 on refl refl in
+    elim (cases_lt (length held) most) [
+      | inl less ↦ limited_decided most dialect (held ++ 97 ∷ []) (Whole (item.Blank held) (length held)) (rw length-append (omega arith)) always tt []
+      | inr more ↦ ends_past most dialect held (omega arith) on always
+    ]

@@ -1,0 +1,190 @@
+-- The items of a text, and what stops it, by the Apertium stream format. A text is cut item by item. Places and sizes
+-- are in bytes. Units and chunks aren't among the items yet: this is the whole of reading in a dialect that has none.
+use Rattle.std.specs.Prelude.{◌≡◌, ◌≢◌, ℕ, zero, suc, ◌+◌, ◌-◌, ◌^◌, ◌<◌, ◌≤◌, pred, min, List, [], ◌∷◌, ◌++◌, drop, take, length, Option, Some, None, Bool, true, false, cond, eqb, leb, ◌||◌, refl}
+use Rattle.std.proofs.Common.{arith, ap, sym, ◌∙◌}
+use Rattle.ap_stream.specs.declared.dialect.Dialect.{Dialect}
+use Rattle.ap_stream.specs.declared.fault.StreamFault.{StreamFault}
+use Rattle.ap_stream.specs.declared.fault.StreamFault.TheVariants.{Malformed, Limit}
+use Rattle.ap_stream.specs.declared.fault.MalformedKind.{MalformedKind}
+use Rattle.ap_stream.specs.declared.fault.MalformedKind.TheVariants.{NotUtf8, Stray, Unfinished}
+use Rattle.ap_stream.specs.declared.fault.LimitKind.{LimitKind}
+use Rattle.ap_stream.specs.declared.fault.LimitKind.TheVariants.{ItemTooLong}
+use Rattle.ap_stream.specs.declared.item.Item.{Item}
+use Rattle.ap_stream.specs.declared.item.Item.TheVariants as item
+use Rattle.ap_stream.specs.declared.item.Read.{Read}
+use Rattle.ap_stream.specs.Dialects.{is_refused}
+use Rattle.ap_stream.specs.Chars.{Front, Part, NotChar, Char, char_at}
+use Rattle.ap_stream.specs.Blanks.{Run, Open, Inside, BadChar, Done, blank, is_white}
+
+-- the items of a text, and what stops it
+pub record Reads : Type 0 where
+  pub items : List Read
+  pub stop : Option StreamFault
+
+-- why no whole item stands at the front
+pub data Kind : Type 0 where
+  Bad : MalformedKind → Kind
+  Past : LimitKind → Kind
+
+abbrev pub fault_at : Kind → ℕ → StreamFault
+fault_at (Bad kind) place = Malformed kind place
+fault_at (Past kind) place = Limit kind place
+
+-- what the bytes so far say of the item at their front, where bytes may follow: more are needed, or it is whole and has
+-- so many bytes, or no whole item can follow
+pub data First : Type 0 where
+  Needs : First
+  Whole : Item → ℕ → First
+  Faulty : Kind → First
+
+-- what they say where no byte follows
+pub data Last : Type 0 where
+  Complete : Item → Last
+  Broken : Kind → Last
+
+abbrev pub plain : ℕ → Bool → Item
+plain letter escaped = item.Plain (record { letter = letter; escaped = escaped })
+
+abbrev pub begins_blank : ℕ → Bool
+begins_blank b = is_white b || eqb b 91
+
+abbrev pub of_run : List ℕ → Run → First
+of_run bytes Open = Needs
+of_run bytes Inside = Needs
+of_run bytes BadChar = Faulty (Bad NotUtf8)
+of_run bytes (Done n) = Whole (item.Blank (take n bytes)) n
+
+-- behind a backslash any one character is plain
+abbrev pub of_escaped : Front → First
+of_escaped Part = Needs
+of_escaped NotChar = Faulty (Bad NotUtf8)
+of_escaped (Char c n) = Whole (plain c true) (1 + n)
+
+-- a bare character is plain where the dialect allows it
+abbrev pub of_char : Dialect → Front → First
+of_char dialect Part = Needs
+of_char dialect NotChar = Faulty (Bad NotUtf8)
+of_char dialect (Char c n) = cond (is_refused dialect c) (Faulty (Bad Stray)) (Whole (plain c false) n)
+
+-- the item at the front: a blank where a blank begins, and else an escaped or a bare character
+unfoldable pub first : Dialect → List ℕ → First
+first dialect [] = Needs
+first dialect (b ∷ bs) = cond (begins_blank b) (of_run (b ∷ bs) (blank 0 (b ∷ bs))) (cond (eqb b 92) (of_escaped (char_at bs)) (of_char dialect (char_at (b ∷ bs))))
+
+abbrev pub last_run : List ℕ → Run → Last
+last_run bytes Open = Complete (item.Blank bytes)
+last_run bytes Inside = Broken (Bad Unfinished)
+last_run bytes BadChar = Broken (Bad Unfinished)
+last_run bytes (Done n) = Broken (Bad Unfinished)
+
+-- where the text ends, a blank may be whole, and nothing else that needs more is
+unfoldable pub last : List ℕ → Last
+last [] = Broken (Bad Unfinished)
+last (b ∷ bs) = cond (begins_blank b) (last_run (b ∷ bs) (blank 0 (b ∷ bs))) (Broken (Bad Unfinished))
+
+-- the most bytes of an item
+unfoldable pub unit_max : ℕ
+unit_max = 1048576
+
+-- what one byte more than the limit shows: an item of just so many bytes that this byte ends is whole, and all else is
+-- too long
+abbrev pub at_limit : ℕ → First → First
+at_limit most Needs = Faulty (Past ItemTooLong)
+at_limit most (Whole thing n) = cond (leb n most) (Whole thing n) (Faulty (Past ItemTooLong))
+at_limit most (Faulty kind) = Faulty (Past ItemTooLong)
+
+-- an item that the bytes within the limit decide is what they say
+abbrev pub past : ℕ → First → First → First
+past most Needs next = at_limit most next
+past most (Whole thing n) next = Whole thing n
+past most (Faulty kind) next = Faulty kind
+
+-- the item at the front, where it may have so many bytes
+unfoldable pub limited : ℕ → Dialect → List ℕ → First
+limited most dialect bs = cond (leb (length bs) most) (first dialect bs) (past most (first dialect (take most bs)) (first dialect (take (suc most) bs)))
+
+-- a place, or the greatest that is counted
+abbrev pub counted : ℕ → ℕ
+counted n = min n (2 ^ 64 - 1)
+
+abbrev pub read_at : ℕ → Item → ℕ → Read
+read_at place thing size = record { item = thing; place = place; size = size }
+
+abbrev pub nothing : Reads
+nothing = record { items = []; stop = None }
+
+abbrev pub stopped : StreamFault → Reads
+stopped fault = record { items = []; stop = Some fault }
+
+abbrev pub followed : Option Read → Reads → Reads
+followed None more = more
+followed (Some read) more = record { items = read ∷ more.items; stop = more.stop }
+
+abbrev pub size_of : Option Read → ℕ
+size_of None = 0
+size_of (Some read) = read.size
+
+abbrev pub at_end : ℕ → List ℕ → Last → Reads
+at_end place bytes (Complete thing) = followed (Some (read_at place thing (length bytes))) nothing
+at_end place bytes (Broken kind) = stopped (fault_at kind place)
+
+-- goes on behind the item at the front
+abbrev pub walked : ℕ → List ℕ → First → (ℕ → ℕ → Reads) → Reads
+walked place bytes Needs more = at_end place bytes (last bytes)
+walked place bytes (Whole thing size) more = followed (Some (read_at place thing size)) (more (counted (place + size)) (pred size))
+walked place bytes (Faulty kind) more = stopped (fault_at kind place)
+
+-- reads behind so many bytes
+unfoldable pub walk : Dialect → ℕ → ℕ → List ℕ → Reads
+walk dialect place skip [] = nothing
+walk dialect place (suc skip) (b ∷ bs) = walk dialect place skip bs
+walk dialect place zero (b ∷ bs) = walked place (b ∷ bs) (limited unit_max dialect (b ∷ bs)) (λ at skip. walk dialect at skip bs)
+
+-- the items of a text whose first byte has this place, and what stops it
+unfoldable pub reads : Dialect → ℕ → List ℕ → Reads
+reads dialect place bytes = walk dialect place 0 bytes
+
+-- an item as reading gives it: some text begins with it
+pub record IsRead (dialect : Dialect) (read : Read) : Type 0 where
+  pub text : List ℕ
+  pub whole : limited unit_max dialect text ≡ Whole read.item read.size
+  pub some : 0 < read.size
+  pub short : read.size ≤ 1048576
+
+-- laws
+
+pub unit_max_is : unit_max ≡ 1048576
+unfolding unit_max
+unit_max_is = refl
+
+pub first_nil : (dialect : Dialect) → first dialect [] ≡ Needs
+unfolding first
+first_nil dialect = refl
+
+walk_skip : (dialect : Dialect) (place n : ℕ) (bs : List ℕ) → walk dialect place n bs ≡ walk dialect place 0 (drop n bs)
+unfolding walk
+walk_skip dialect place zero bs = refl
+walk_skip dialect place (suc n) [] = refl
+walk_skip dialect place (suc n) (b ∷ bs) = walk_skip dialect place n bs
+
+pub reads_nil : (dialect : Dialect) (place : ℕ) → reads dialect place [] ≡ nothing
+unfolding reads walk
+reads_nil dialect place = refl
+
+-- behind a whole item the text goes on
+pub reads_whole : (dialect : Dialect) (place : ℕ) (bs : List ℕ) (thing : Item) (n : ℕ) → limited unit_max dialect bs ≡ Whole thing n → 0 < n → 0 < length bs →
+    reads dialect place bs ≡ followed (Some (read_at place thing n)) (reads dialect (counted (place + n)) (drop n bs))
+unfolding reads walk
+reads_whole dialect place [] thing n h some more = absurd (omega arith)
+reads_whole dialect place (b ∷ bs) thing zero h some more = absurd (omega arith)
+reads_whole dialect place (b ∷ bs) thing (suc n) h some more = rw h (ap (followed (Some (read_at place thing (suc n)))) (walk_skip dialect (counted (place + suc n)) n bs))
+
+pub reads_faulty : (dialect : Dialect) (place : ℕ) (bs : List ℕ) (kind : Kind) → limited unit_max dialect bs ≡ Faulty kind → 0 < length bs → reads dialect place bs ≡ stopped (fault_at kind place)
+unfolding reads walk
+reads_faulty dialect place [] kind h more = absurd (omega arith)
+reads_faulty dialect place (b ∷ bs) kind h more = rw h refl
+
+pub reads_needs : (dialect : Dialect) (place : ℕ) (bs : List ℕ) → limited unit_max dialect bs ≡ Needs → 0 < length bs → reads dialect place bs ≡ at_end place bs (last bs)
+unfolding reads walk
+reads_needs dialect place [] h more = absurd (omega arith)
+reads_needs dialect place (b ∷ bs) h more = rw h refl

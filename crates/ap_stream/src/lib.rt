@@ -1,0 +1,41 @@
+//! The stream between the stages: its items, a reader for each dialect, pipes, and stages over bytes.
+#![tactic(auto)]
+
+mod blank;
+mod crossing;
+mod decode;
+mod dialect;
+mod examine;
+mod fault;
+mod handler;
+mod item;
+mod pipe;
+mod reader;
+mod stage;
+mod staged;
+mod unit;
+mod write;
+
+pub use blank::Blank;
+pub use dialect::Dialect;
+pub use fault::{LimitKind, MalformedKind, StageFault, StreamFault};
+pub use handler::{Handler, Turn};
+pub use item::{Character, Chunk, Content, Inner, Item, Read};
+pub use pipe::Pipe;
+pub use reader::{Fed, Reader};
+pub use stage::{Finish, Stage};
+pub use staged::Staged;
+pub use unit::Unit;
+pub use write::write_item;
+
+/// The most bytes that one unit, blank or chunk of a stream may have.
+pub const UNIT_MAX: usize = 1_048_576;
+
+/// The most bytes of input that are held for one match, and the most bytes that one rule gives.
+pub const SPAN_MAX: usize = 4_194_304;
+
+/// The most bytes that one pipe may hold.
+pub const ROOM_MAX: usize = 1_048_576;
+
+#[cfg(test)]
+mod tests;

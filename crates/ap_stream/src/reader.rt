@@ -1,0 +1,396 @@
+ghost use Rattle.std.specs.Prelude.{◌≡◌, ◌≢◌, ℕ, ◌+◌, ◌-◌, ◌<◌, ◌≤◌, List, [], ◌∷◌, ◌++◌, take, drop, length, Some, None, true, false, IfOk, IfErr, OnOk, OnErr, OnSome, IfSome, slice_index};
+ghost use Rattle.ap_stream.specs.Given.{Gives, Stopped, Feeds, Shows, Ends, CanGoOn, NeededMore};
+ghost use Rattle.ap_stream.specs.AtEnd.{at_blank};
+ghost use Rattle.ap_stream.specs.declared.fault.StreamFault.{StreamFault};
+ghost use Rattle.ap_stream.specs.Dialects.{has_units as units_test};
+ghost use Rattle.ap_stream.specs.Reading.{counted, reads, stopped, nothing, IsRead};
+
+use crate::UNIT_MAX;
+use crate::blank::Blank;
+use crate::crossing::superblank_run;
+use crate::dialect::Dialect;
+use crate::examine::{Mode, Seen, look};
+use crate::fault::{LimitKind, MalformedKind, StreamFault};
+use crate::item::{Item, Read};
+use ap_symbol::Memory;
+use std::alloc::Global;
+use std::marker::Model;
+use std::mem;
+
+/// How much of a piece was used, and the item that became whole.
+#[derive(Debug, Drop)]
+pub struct Fed {
+    pub used: usize,
+    pub item: Option<Read>,
+}
+
+/// Reads the items of a text in any pieces. It holds the bytes of no whole item alone, and looks at no byte twice.
+#[derive(Drop)]
+pub struct Reader {
+    alloc: Global,
+    dialect: Dialect,
+    held: Vec<u8>,
+    /// The bytes before it are behind, and those from it on are the start of a character.
+    done: usize,
+    mode: Mode,
+    /// Whether the last byte was looked at. Behind a blank the byte that ended it wasn't.
+    looked: bool,
+    place: u64,
+    fault: Option<StreamFault>,
+}
+
+impl Model for Reader {
+    ghost use Rattle.std.specs.Prelude.{◌≡◌, ◌≤◌, length, None};
+    ghost use Rattle.ap_stream.specs.Begun.{Begun};
+    ghost use Rattle.ap_stream.specs.Given.{Standing};
+
+    ghost Value = { Begun };
+
+    ghost view = { λ r. record { dialect = r.dialect; held = r.held.items; place = r.place; looked = r.looked; fault = r.fault } };
+
+    ghost invariant = { λ r. (length r.held.items ≤ 1048577) × (r.fault ≡ None → Standing r.looked r.mode r.done r.held.items) };
+}
+
+/// How far ahead the next byte of a superblank that needs a look is sought at once.
+const CROSSED_AT_ONCE: usize = 256;
+
+fn place_after(place: u64, size: u64) -> u64
+    ensures { result ≡ counted (place + size) }
+{
+    place.saturating_add(size)
+}
+
+fn is_blank(mode: Mode) -> bool
+    ensures { result ≡ at_blank mode }
+{
+    match mode {
+        Mode::Blank => true,
+        Mode::Start | Mode::Escape | Mode::Inside | Mode::InsideEscape => false,
+    }
+}
+
+/// Takes the bytes before `at` out, and leaves the one there.
+fn cut(alloc: Global, held: &mut Vec<u8>, at: usize) -> Result<Vec<u8>, Memory>
+    requires { at < length held.old.items }
+    ensures bytes { IfOk result (λ bytes. bytes.items ≡ take at held.old.items) }
+    ensures left { OnOk result (held.new.items ≡ slice_index held.old.items at ∷ []) }
+    ensures short { length held.new.items ≤ length held.old.items }
+{
+    let mut next = Vec::new(alloc);
+    let last = held[at];
+    next.push(last)?;
+    held.truncate(at);
+    mem::swap(held, &mut next);
+    Ok(next)
+}
+
+impl Reader {
+    /// A reader at the start of a text. Units and chunks aren't read yet, so the dialect is one that has none.
+    pub fn new(alloc: Global, dialect: Dialect) -> Reader
+        requires { units_test dialect ≡ false }
+        ensures dialect { result.dialect ≡ dialect }
+        ensures held { result.held ≡ [] }
+        ensures place { result.place ≡ 0 }
+        ensures looked { result.looked ≡ true }
+        ensures fault { result.fault ≡ None }
+    {
+        Reader {
+            alloc,
+            dialect,
+            held: Vec::new(alloc),
+            done: 0,
+            mode: Mode::Start,
+            looked: true,
+            place: 0,
+            fault: None,
+        }
+    }
+
+    /// The number of bytes that it holds.
+    pub fn begun(&self) -> usize
+        ensures count { result ≡ length self.now.held }
+        ensures most { result ≤ UNIT_MAX + 1 }
+    {
+        self.held.len()
+    }
+
+    /// Takes one more byte, and doesn't look at it yet.
+    fn push(&mut self, byte: u8) -> Result<(), StreamFault>
+        requires going { self.old.fault ≡ None }
+        requires looked { self.old.looked ≡ true }
+        ensures ok { OnOk result ((self.new.held ≡ self.old.held ++ byte ∷ []) × (self.new.looked ≡ false) × (self.new.fault ≡ None)) }
+        ensures dialect { self.new.dialect ≡ self.old.dialect }
+        ensures place { self.new.place ≡ self.old.place }
+        ensures holds { length self.new.held ≤ UNIT_MAX + 1 }
+        ensures err { IfErr result (λ f. (f ≡ StreamFault.Memory) × (self.new.fault ≡ Some f)) }
+    {
+        match self.held.push(byte) {
+            Ok(()) => {
+                self.looked = false;
+                Ok(())
+            }
+            Err(_) => {
+                self.fault = Some(StreamFault::Memory);
+                Err(StreamFault::Memory)
+            }
+        }
+    }
+
+    /// Within a superblank, takes the bytes that only go on with it, as far as a look ahead shows.
+    fn cross(&mut self, piece: &[u8]) -> Result<usize, StreamFault>
+        requires going { self.old.fault ≡ None }
+        requires looked { self.old.looked ≡ true }
+        ensures count { IfOk result (λ n. n ≤ length piece.now) }
+        ensures ok { IfOk result (λ n. (self.new.held ≡ self.old.held ++ take n piece.now) × (self.new.looked ≡ true) × (self.new.fault ≡ None)) }
+        ensures dialect { self.new.dialect ≡ self.old.dialect }
+        ensures place { self.new.place ≡ self.old.place }
+        ensures holds { length self.new.held ≤ UNIT_MAX + 1 }
+        ensures err { IfErr result (λ f. (f ≡ StreamFault.Memory) × (self.new.fault ≡ Some f)) }
+    {
+        match self.mode {
+            Mode::Inside => {}
+            _ => return Ok(0),
+        }
+        if self.done < self.held.len() {
+            return Ok(0);
+        }
+        let most = piece
+            .len()
+            .min(CROSSED_AT_ONCE)
+            .min(UNIT_MAX - self.held.len());
+        let count = superblank_run(&piece[..most]);
+        match self.held.extend_from_slice(&piece[..count]) {
+            Ok(()) => {
+                self.done = self.held.len();
+                Ok(count)
+            }
+            Err(_) => {
+                self.fault = Some(StreamFault::Memory);
+                Err(StreamFault::Memory)
+            }
+        }
+    }
+
+    /// Takes at least one byte: those that only go on with a superblank, or one that it doesn't look at yet.
+    fn advance(&mut self, piece: &[u8]) -> Result<usize, StreamFault>
+        requires going { self.old.fault ≡ None }
+        requires looked { self.old.looked ≡ true }
+        requires some { 0 < length piece.now }
+        ensures count { IfOk result (λ n. (0 < n) × (n ≤ length piece.now)) }
+        ensures ok { IfOk result (λ n. (self.new.held ≡ self.old.held ++ take n piece.now) × (self.new.fault ≡ None)) }
+        ensures dialect { self.new.dialect ≡ self.old.dialect }
+        ensures place { self.new.place ≡ self.old.place }
+        ensures holds { length self.new.held ≤ UNIT_MAX + 1 }
+        ensures err { IfErr result (λ f. (f ≡ StreamFault.Memory) × (self.new.fault ≡ Some f)) }
+    {
+        match self.cross(piece) {
+            Ok(count) => {
+                if count > 0 {
+                    return Ok(count);
+                }
+            }
+            Err(fault) => return Err(fault),
+        }
+        match self.push(piece[0]) {
+            Ok(()) => Ok(1),
+            Err(fault) => Err(fault),
+        }
+    }
+
+    /// Looks at the last byte, if it has not been looked at.
+    fn step(&mut self) -> Result<Option<Read>, StreamFault>
+        requires going { self.old.fault ≡ None }
+        ensures given { IfOk result (λ item. Gives self.old item self.new) }
+        ensures item { IfOk result (λ item. IfSome item (IsRead self.old.dialect)) }
+        ensures dialect { self.new.dialect ≡ self.old.dialect }
+        ensures going { OnOk result (self.new.fault ≡ None) }
+        ensures looked { IfOk result (λ item. item ≡ None → self.new.looked ≡ true) }
+        ensures short { IfOk result (λ item. OnSome item (length self.new.held ≤ 1)) }
+        ensures holds { length self.new.held ≤ UNIT_MAX + 1 }
+        ensures held { IfOk result (λ item. item ≡ None → (self.new.held ≡ self.old.held) × (self.new.place ≡ self.old.place) × CanGoOn self.new) }
+        ensures fault { IfErr result (λ f. self.new.fault ≡ Some f) }
+        ensures shown { IfErr result (λ f. f ≢ StreamFault.Memory → (self.new.held ≡ self.old.held) × (self.new.place ≡ self.old.place) × Stopped f self.new × ((place : ℕ) → f ≢ StreamFault.Malformed MalformedKind.Unfinished place) × NeededMore self.new) }
+    {
+        if self.looked {
+            return Ok(None);
+        }
+        let seen = look(self.dialect, self.mode, self.done, self.held.as_slice());
+        match seen {
+            Seen::Waits => {
+                self.looked = true;
+                Ok(None)
+            }
+            Seen::Goes(mode) => {
+                self.mode = mode;
+                self.done = self.held.len();
+                self.looked = true;
+                Ok(None)
+            }
+            Seen::Bad(kind) => {
+                let fault = StreamFault::Malformed {
+                    kind,
+                    place: self.place,
+                };
+                self.fault = Some(fault);
+                Err(fault)
+            }
+            Seen::TooLong => {
+                let fault = StreamFault::Limit {
+                    kind: LimitKind::ItemTooLong,
+                    place: self.place,
+                };
+                self.fault = Some(fault);
+                Err(fault)
+            }
+            Seen::Plain(character) => {
+                let read = Read {
+                    item: Item::Plain(character),
+                    place: self.place,
+                    size: self.held.len() as u64,
+                };
+                self.place = place_after(self.place, read.size);
+                self.held.clear();
+                self.mode = Mode::Start;
+                self.done = 0;
+                self.looked = true;
+                Ok(Some(read))
+            }
+            Seen::BlankEnds => {
+                let bytes = match cut(self.alloc, &mut self.held, self.done) {
+                    Ok(bytes) => bytes,
+                    Err(_) => {
+                        self.fault = Some(StreamFault::Memory);
+                        return Err(StreamFault::Memory);
+                    }
+                };
+                let read = Read {
+                    item: Item::Blank(Blank::from_vec(bytes)),
+                    place: self.place,
+                    size: self.done as u64,
+                };
+                self.place = place_after(self.place, read.size);
+                self.mode = Mode::Start;
+                self.done = 0;
+                Ok(Some(read))
+            }
+        }
+    }
+
+    /// Uses bytes of the piece until an item is whole or the piece is used up. An item that is whole is given with its
+    /// place and size, and at most one byte is held behind it. A fault is that of the items in the Apertium stream
+    /// format, and comes once it is certain however the text goes on; `Memory` means want of memory. After a fault it
+    /// answers that fault from then on, and uses nothing more.
+    pub fn feed(&mut self, piece: &[u8]) -> Result<Fed, StreamFault>
+        ensures given { IfOk result (λ fed. Feeds self.old (take fed.used piece.now) fed.item self.new) }
+        ensures used { IfOk result (λ fed. fed.used ≤ length piece.now) }
+        ensures all_used { IfOk result (λ fed. fed.item ≡ None → fed.used ≡ length piece.now) }
+        ensures begun { IfOk result (λ fed. fed.item ≡ None → CanGoOn self.new) }
+        ensures item { IfOk result (λ fed. IfSome fed.item (IsRead self.old.dialect)) }
+        ensures dialect { self.new.dialect ≡ self.old.dialect }
+        ensures short { IfOk result (λ fed. OnSome fed.item (length self.new.held ≤ 1)) }
+        ensures holds { length self.new.held ≤ UNIT_MAX + 1 }
+        ensures going { OnOk result (self.new.fault ≡ None) }
+        ensures fault { IfErr result (λ f. self.new.fault ≡ Some f) }
+        ensures shown { IfErr result (λ f. self.old.fault ≡ None → f ≢ StreamFault.Memory → Shows f self.old piece.now self.new) }
+        ensures stays { (f : StreamFault) → self.old.fault ≡ Some f → (result ≡ Err f) × (self.new ≡ self.old) }
+    {
+        if let Some(fault) = self.fault {
+            return Err(fault);
+        }
+        match self.step() {
+            Ok(Some(read)) => {
+                return Ok(Fed {
+                    used: 0,
+                    item: Some(read),
+                });
+            }
+            Ok(None) => {}
+            Err(fault) => return Err(fault),
+        }
+        let mut used = 0;
+        while used < piece.len() {
+            match self.advance(&piece[used..]) {
+                Ok(count) => used += count,
+                Err(fault) => return Err(fault),
+            }
+            match self.step() {
+                Ok(Some(read)) => {
+                    return Ok(Fed {
+                        used,
+                        item: Some(read),
+                    });
+                }
+                Ok(None) => {}
+                Err(fault) => return Err(fault),
+            }
+        }
+        Ok(Fed { used, item: None })
+    }
+
+    /// What is begun, where the text ends.
+    fn last(&mut self) -> Result<Option<Read>, StreamFault>
+        requires going { self.old.fault ≡ None }
+        requires looked { self.old.looked ≡ true }
+        ensures given { IfOk result (λ item. Ends self.old item self.new) }
+        ensures item { IfOk result (λ item. IfSome item (IsRead self.old.dialect)) }
+        ensures none { result ≡ Ok None → self.new.held ≡ [] }
+        ensures dialect { self.new.dialect ≡ self.old.dialect }
+        ensures short { IfOk result (λ item. OnSome item (self.new.held ≡ [])) }
+        ensures holds { length self.new.held ≤ UNIT_MAX + 1 }
+        ensures going { OnOk result (self.new.fault ≡ None) }
+        ensures fault { IfErr result (λ f. self.new.fault ≡ Some f) }
+        ensures shown { IfErr result (λ f. f ≢ StreamFault.Memory → (self.new.held ≡ self.old.held) × (self.new.place ≡ self.old.place) × (reads self.new.dialect self.new.place self.new.held ≡ stopped f)) }
+    {
+        if self.held.is_empty() {
+            return Ok(None);
+        }
+        if is_blank(self.mode) {
+            let bytes = mem::replace(&mut self.held, Vec::new(self.alloc));
+            let read = Read {
+                size: bytes.len() as u64,
+                item: Item::Blank(Blank::from_vec(bytes)),
+                place: self.place,
+            };
+            self.place = place_after(self.place, read.size);
+            self.mode = Mode::Start;
+            self.done = 0;
+            Ok(Some(read))
+        } else {
+            let fault = StreamFault::Malformed {
+                kind: MalformedKind::Unfinished,
+                place: self.place,
+            };
+            self.fault = Some(fault);
+            Err(fault)
+        }
+    }
+
+    #[tactic(auto, using(crate::specs::Reading::reads_nil))]
+    /// Gives the last item, and then none, once the text has ended. The faults are those of `feed`, and `Unfinished`
+    /// where the text ends inside an item.
+    pub fn end(&mut self) -> Result<Option<Read>, StreamFault>
+        ensures given { IfOk result (λ item. Ends self.old item self.new) }
+        ensures item { IfOk result (λ item. IfSome item (IsRead self.old.dialect)) }
+        ensures none { result ≡ Ok None → (self.new.held ≡ []) × (self.old.held ≡ []) }
+        ensures over { result ≡ Ok None → (reads self.old.dialect self.old.place self.old.held ≡ nothing) × (reads self.new.dialect self.new.place self.new.held ≡ nothing) }
+        ensures dialect { self.new.dialect ≡ self.old.dialect }
+        ensures short { IfOk result (λ item. OnSome item (length self.new.held ≤ 1)) }
+        ensures holds { length self.new.held ≤ UNIT_MAX + 1 }
+        ensures going { OnOk result (self.new.fault ≡ None) }
+        ensures fault { IfErr result (λ f. self.new.fault ≡ Some f) }
+        ensures shown { IfErr result (λ f. self.old.fault ≡ None → f ≢ StreamFault.Memory → (self.new.held ≡ self.old.held) × (self.new.place ≡ self.old.place) × (reads self.new.dialect self.new.place self.new.held ≡ stopped f)) }
+        ensures stays { (f : StreamFault) → self.old.fault ≡ Some f → (result ≡ Err f) × (self.new ≡ self.old) }
+    {
+        if let Some(fault) = self.fault {
+            return Err(fault);
+        }
+        match self.step() {
+            Ok(Some(read)) => Ok(Some(read)),
+            Ok(None) => match self.last() {
+                Ok(item) => Ok(item),
+                Err(fault) => Err(fault),
+            },
+            Err(fault) => Err(fault),
+        }
+    }
+}

@@ -1,0 +1,5 @@
+mod copies;
+mod drive;
+mod pairs;
+mod reading;
+mod running;
