@@ -1,5 +1,4 @@
-pub mod Scanning
-pub mod Spelling
-pub mod Lines
-pub mod Plans
-pub mod Decisions
+pub mod Keys
+pub mod Walks
+pub mod Sound
+pub mod Read

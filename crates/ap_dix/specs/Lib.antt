@@ -1,5 +1,9 @@
 pub mod Derivation
 pub mod Refusals
 pub mod Soundness
-pub mod FirstForm
-pub mod Reading
+pub mod Names
+pub mod Said
+pub mod WordText
+pub mod Value
+pub mod Faults
+pub mod Spelling

@@ -2,17 +2,23 @@
 #![tactic(auto)]
 
 mod dictionary;
-mod first_form;
+mod entries;
+mod faults;
 mod laws;
+mod names;
+mod pardefs;
+mod reading;
 mod refusal;
-mod scan;
+mod said;
+mod sections;
 #[cfg(test)]
 mod tests;
+mod words;
 
 pub use dictionary::{
     Dictionary, Direction, Entries, Entry, EntryPart, EntryParts, Kind, Pardef, Pardefs, Section,
     Sections, Side,
 };
-pub use first_form::read_dictionary;
-pub use laws::{has_one_fault, spells_one, spells_or_faults, spells_plain, spells_without_fault};
+pub use laws::{has_one_fault, spells_is_sound, spells_one, spells_without_fault};
+pub use reading::read_dictionary;
 pub use refusal::{DixFault, DixKind, DixRefusal};

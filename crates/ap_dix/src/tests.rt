@@ -1,122 +1,201 @@
-use crate::dictionary::{Direction, Entry, EntryPart, Kind, Side};
-use crate::first_form::read_dictionary;
-use crate::refusal::{DixKind, DixRefusal};
-use ap_symbol::Bytes;
-use std::alloc::Global;
+use crate::dictionary::{Dictionary, Direction, Entry, EntryPart, Kind, Section, Side};
+use crate::reading::read_dictionary;
+use crate::refusal::{DixFault, DixKind, DixRefusal};
+use ap_symbol::Word;
+use std::alloc::{AllocError, Global};
 use std::test::Fail;
 
-const HEAD: &str =
-    "<dictionary>\n<alphabet>abin</alphabet>\n<sdefs><sdef n=\"n\"/><sdef n=\"sg\"/></sdefs>\n<section id=\"main\" type=\"standard\">\n";
-
-const END: &str = "</section>\n</dictionary>\n";
-
-const TWO: &str = "<e><p><l>saw</l><r>see<s n=\"n\"/><s n=\"sg\"/></r></p></e>\n";
-
-fn joined(alloc: Global, pieces: &[&str]) -> Result<String, Fail> {
-    let mut text = String::new(alloc);
-    for piece in pieces {
-        text.push_str(piece)?;
+fn show_chars(into: &mut String, text: &[char]) -> Result<(), AllocError> {
+    for c in text {
+        into.push(*c)?;
     }
-    Ok(text)
+    Ok(())
 }
 
-/// The line of the fault, or 0 where there is none.
-fn fault_line(alloc: Global, text: &[u8]) -> Result<u64, Fail> {
-    match read_dictionary(alloc, text) {
-        Ok(_) => Ok(0),
-        Err(DixRefusal::Fault(fault)) => Ok(fault.line),
+fn show_word(into: &mut String, word: &Word) -> Result<(), AllocError> {
+    match str::from_utf8(word.rendered()) {
+        Ok(text) => into.push_str(text),
+        Err(_) => into.push('!'),
+    }
+}
+
+fn show_part(alloc: Global, into: &mut String, part: &EntryPart) -> Result<(), AllocError> {
+    match part {
+        EntryPart::Identity(word) => {
+            into.push('=')?;
+            show_word(into, word)
+        }
+        EntryPart::Pair(left, right) => {
+            into.push(':')?;
+            show_word(into, left)?;
+            into.push(':')?;
+            show_word(into, right)
+        }
+        EntryPart::Paradigm(n) => into.push_str(&format!(in alloc; "@{}", *n)?),
+    }
+}
+
+fn show_entries(alloc: Global, into: &mut String, entries: &[Entry]) -> Result<(), AllocError> {
+    for entry in entries {
+        into.push_str(&format!(in alloc; " {}", entry.line)?)?;
+        into.push_str(match entry.side {
+            Side::Both => "",
+            Side::LrOnly => ">",
+            Side::RlOnly => "<",
+        })?;
+        if entry.ignored {
+            into.push('-')?;
+        }
+        for part in entry.parts.as_slice() {
+            show_part(alloc, into, part)?;
+        }
+    }
+    Ok(())
+}
+
+/// A dictionary as its alphabet, each paradigm's name and entries, and each section's kind and entries.
+fn show(alloc: Global, d: &Dictionary) -> Result<String, AllocError> {
+    let mut into = String::new(alloc);
+    show_chars(&mut into, d.alphabet.as_slice())?;
+    for pardef in d.pardefs.as_slice() {
+        into.push_str("; ")?;
+        show_chars(&mut into, pardef.name.as_slice())?;
+        show_entries(alloc, &mut into, pardef.entries.as_slice())?;
+    }
+    for section in d.sections.as_slice() {
+        into.push_str(match section.kind {
+            Kind::Standard => "; standard",
+            Kind::Inconditional => "; inconditional",
+            Kind::Postblank => "; postblank",
+            Kind::Preblank => "; preblank",
+        })?;
+        show_entries(alloc, &mut into, section.entries.as_slice())?;
+    }
+    Ok(into)
+}
+
+fn shown(alloc: Global, text: &str) -> Result<String, Fail> {
+    match read_dictionary(alloc, text.as_bytes()) {
+        Ok(d) => Ok(show(alloc, &d)?),
+        Err(DixRefusal::Fault(fault)) => {
+            Ok(format!(in alloc; "{} in {}", fault.kind.name(), fault.line)?)
+        }
         Err(DixRefusal::Memory) => Err(DixRefusal::Memory)?,
     }
 }
 
-/// The words of an entry, each part in brackets.
-fn spell_entry(entry: &Entry, into: &mut Bytes) -> Result<(), Fail> {
-    for part in entry.parts.as_slice() {
-        into.extend("[".as_bytes())?;
-        match part {
-            EntryPart::Identity(word) => into.extend(word.rendered())?,
-            EntryPart::Pair(left, right) => {
-                into.extend(left.rendered())?;
-                into.extend(":".as_bytes())?;
-                into.extend(right.rendered())?;
-            }
-            EntryPart::Paradigm(_) => into.extend("?".as_bytes())?,
-        }
-        into.extend("]".as_bytes())?;
-    }
-    Ok(())
-}
-
 #[test]
-fn a_whole_file_is_read(rt: HostRuntime) -> Result<(), Fail> {
-    let alloc = rt.alloc();
-    let text = joined(alloc, &[HEAD, "<e><i>in</i></e>\n", TWO, END])?;
-    let dictionary = read_dictionary(alloc, text.as_bytes())?;
-    assert_eq!(rt;
-        dictionary.alphabet.as_slice(),
-        ['a', 'b', 'i', 'n'].as_slice()
-    );
-    assert_eq!(rt; dictionary.pardefs.len(), 0);
-    assert_eq!(rt; dictionary.sections.len(), 1);
-    let mut words = Bytes::new(alloc);
-    let mut lines = Vec::new(alloc);
-    for section in dictionary.sections.as_slice() {
-        assert_eq!(rt; section.kind, Kind::Standard);
-        for entry in section.entries.as_slice() {
-            assert_eq!(rt; entry.side, Side::Both);
-            assert!(rt; !entry.ignored);
-            lines.push(entry.line)?;
-            spell_entry(entry, &mut words)?;
-        }
-    }
-    assert_eq!(rt; lines.as_slice(), [5, 6].as_slice());
-    assert_eq!(rt; words.as_slice(), "[in][saw:see<n><sg>]".as_bytes());
-    Ok(())
-}
-
-#[test]
-fn other_texts_have_a_first_fault(rt: HostRuntime) -> Result<(), Fail> {
-    let alloc = rt.alloc();
-    let table: [(&[&str], u64); 15] = [
-        (&[HEAD, END], 0),
-        (&[HEAD, TWO, TWO, END], 0),
-        (&[], 1),
-        (&["<dictionary>"], 1),
-        (&["<dictionary>\n"], 2),
-        (&["<dictionary>\n<alphabet>aB</alphabet>\n"], 2),
-        (&[HEAD, "<e r=\"LR\"><i>a</i></e>\n", END], 5),
-        (&[HEAD, "<e><i></i></e>\n", END], 5),
+fn reads_dictionaries(rt: HostRuntime) -> Result<(), Fail> {
+    let cases = [
+        ("<dictionary/>", ""),
         (
-            &[
-                HEAD,
-                TWO,
-                "<e><p><l>a</l><r>b<s n=\"pl\"/></r></p></e>\n",
-                END,
-            ],
-            6,
+            "<dictionary><alphabet>a b\n\u{E9}&lt;</alphabet></dictionary>",
+            "ab\u{E9}<",
         ),
-        (&[HEAD, "<e><i>é</i></e>\n", END], 5),
-        (&[HEAD, TWO], 6),
-        (&[HEAD, "</section>\n"], 6),
-        (&[HEAD, "</section>\n</dictionary>"], 6),
-        (&[HEAD, END, "\n"], 7),
-        (&[HEAD, TWO, END, "x"], 8),
+        (
+            "<dictionary><pardefs><pardef n=\"p\"><e r=\"LR\"><i>c</i></e><e><i>d</i></e></pardef></pardefs><section type=\"standard\"><e r=\"LR\"><i>a</i></e><e r=\"RL\"><i>b</i><par n=\"p\"/></e></section></dictionary>",
+            "; p 1>=c 1=d; standard 1>=a 1<=b@0",
+        ),
+        (
+            "<dictionary>\n<sdefs><sdef n=\"n\"/><sdef n=\"n\"/></sdefs>\n<section id='x' type='preblank'>\n<e i='yes' lm='b' a='c' c='d'><p><l> a\n b</l><r><g>c<b/><j/></g><a/><s n='n'/>&#32;</r></p></e>\n<e i='no'/></section><section type='postblank'/><section type='inconditional'/></dictionary>",
+            "; preblank 4-: a b:#c +~<n>  6; postblank; inconditional",
+        ),
+        (
+            "<dictionary><pardefs><pardef n='a'/><pardef n='b'><e><par n='a'/><par n='a'/></e></pardef></pardefs><section type='standard'><e><par n='b'/></e></section></dictionary>",
+            "; a; b 1@0@0; standard 1@1",
+        ),
     ];
-    for (pieces, want) in table {
-        let text = joined(alloc, pieces)?;
-        let line = fault_line(alloc, text.as_bytes())?;
-        assert_eq!(rt; line, want, "of {text}");
+    for (text, want) in cases {
+        let got = shown(rt.alloc(), text)?;
+        assert_eq!(rt; got.as_str(), want, "at {text}");
     }
-    assert_eq!(rt; fault_line(alloc, &[255, 10])?, 1);
     Ok(())
 }
 
 #[test]
-fn kinds_have_numbers_and_names(rt: HostRuntime) -> Result<(), Fail> {
-    assert_eq!(rt; DixKind::NotUtf8.number(), 1);
-    assert_eq!(rt; DixKind::Unsupported.number(), 12);
-    assert_eq!(rt; DixKind::Unsupported.name(), "Unsupported");
+fn refuses_dictionaries(rt: HostRuntime) -> Result<(), Fail> {
+    let cases = [
+        ("\n<dictionary>", "Syntax in 2"),
+        ("<dictionary/>\n<e/>", "Syntax in 2"),
+        (
+            "<dictionary>\n<x w='1'/></dictionary>",
+            "UnknownElement in 2",
+        ),
+        ("<dictionary w='1'>\n<x/></dictionary>", "Weighted in 1"),
+        ("<dictionary x='1' w='1'/>", "UnknownAttribute in 1"),
+        (
+            "<dictionary>\n<section/></dictionary>",
+            "MissingAttribute in 2",
+        ),
+        ("<e/>", "Misplaced in 1"),
+        (
+            "<dictionary><section type='standard'>\n<e><par n='p'/></e></section>\n<pardefs><pardef n='p'/></pardefs></dictionary>",
+            "UndefinedParadigm in 2",
+        ),
+        (
+            "<dictionary><section type='standard'><e/>\n</section>\n<pardefs><pardef n='p'/></pardefs></dictionary>",
+            "Misplaced in 3",
+        ),
+        (
+            "<dictionary><pardefs><pardef n='p'/>\n<pardef n='p'/></pardefs></dictionary>",
+            "DuplicateName in 2",
+        ),
+        (
+            "<dictionary><pardefs><pardef n='p'>\n<e><par n='p'/></e></pardef></pardefs></dictionary>",
+            "UndefinedParadigm in 2",
+        ),
+        (
+            "<dictionary><section type='standard'>\n<e><i><s n='n'/></i></e></section></dictionary>",
+            "UndeclaredSymbol in 2",
+        ),
+        (
+            "<dictionary><section type='standard'>\n<e><i><s n='n'/></i></e></section>\n<sdefs><sdef n='n'/></sdefs></dictionary>",
+            "Misplaced in 3",
+        ),
+        (
+            "<dictionary><section type='standard'>\n<e w='1' v='x'/></section></dictionary>",
+            "Weighted in 2",
+        ),
+        (
+            "<dictionary><section type='standard'>\n<e slr='x'/></section></dictionary>",
+            "Unsupported in 2",
+        ),
+        (
+            "<dictionary><section type='standard'>\n<e><re>a</re></e>\n<e w='1'/></section></dictionary>",
+            "Unsupported in 2",
+        ),
+        (
+            "<dictionary><section type='standard'>\n<re>a</re></section></dictionary>",
+            "Misplaced in 2",
+        ),
+        ("<ig/>", "Unsupported in 1"),
+        ("<ig w='1'/>", "Weighted in 1"),
+        (
+            "<dictionary><sdefs>\n<sdef n='a b'/></sdefs></dictionary>",
+            "UnknownAttribute in 2",
+        ),
+    ];
+    for (text, want) in cases {
+        let got = shown(rt.alloc(), text)?;
+        assert_eq!(rt; got.as_str(), want, "at {text}");
+    }
+    assert_eq!(rt;
+        read_dictionary(rt.alloc(), &[b'<', 255]).err(),
+        Some(DixRefusal::Fault(DixFault {
+            kind: DixKind::NotUtf8,
+            line: 1,
+        }))
+    );
+    Ok(())
+}
+
+#[test]
+fn sides_and_kinds(rt: HostRuntime) -> Result<(), Fail> {
+    assert!(rt; Side::Both.takes(Direction::Rl));
     assert!(rt; Side::LrOnly.takes(Direction::Lr));
     assert!(rt; !Side::LrOnly.takes(Direction::Rl));
+    assert!(rt; !Side::RlOnly.takes(Direction::Lr));
+    assert_eq!(rt; DixKind::Unsupported.number(), 12);
+    assert_eq!(rt; DixKind::BadRegex.name(), "BadRegex");
     Ok(())
 }

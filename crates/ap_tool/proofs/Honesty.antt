@@ -4,7 +4,7 @@ use Rattle.ap_outside.specs.Causes.{Rose}
 use Rattle.ap_outside.specs.Told.{Takes, IsEnd, Puts}
 use Rattle.ap_dix.specs.declared.dictionary.Dictionary.{Dictionary}
 use Rattle.ap_dix.specs.declared.refusal.DixFault.{DixFault}
-use Rattle.ap_dix.specs.FirstForm.{Spells, IsFirstFault}
+use Rattle.ap_dix.specs.Spelling.{Spells, IsFirstFault}
 use Rattle.ap_dix.specs.Refusals.{kind_number}
 use Rattle.ap_dix.specs.Soundness.{IsSound}
 use Rattle.ap_tool.specs.declared.status.Status.{Status}
@@ -12,17 +12,18 @@ use Rattle.ap_tool.specs.declared.status.Status.TheVariants.{Done, Usage, FileFa
 use Rattle.ap_tool.specs.declared.intake.Ending.{Ending}
 use Rattle.ap_tool.specs.declared.intake.Ending.TheVariants.{Clean, Failed, TooLong}
 use Rattle.ap_tool.specs.declared.words.Command.{Command}
-use Rattle.ap_tool.specs.declared.words.Command.TheVariants.{Proc}
+use Rattle.ap_tool.specs.declared.words.Command.TheVariants.{Proc, Expand}
 use Rattle.ap_tool.specs.declared.words.UsageFault.{UsageFault}
-use Rattle.ap_tool.specs.Words.{command_of}
+use Rattle.ap_tool.specs.Words.{command_of, file_of}
+use Rattle.ap_tool.specs.Listing.{IsListed, RunsOut, listing}
 use Rattle.ap_tool.specs.Messages.{name_at}
 use Rattle.ap_tool.specs.Standing.{Standing, PutsAll, PutsSome}
 use Rattle.ap_tool.specs.Intake.{IsIntake, input_max}
 use Rattle.ap_tool.specs.Output.{stray_place, IsOutput}
 use Rattle.ap_tool.specs.Stream.{stream_status, Streams, Stops, StreamsOrStops}
 use Rattle.ap_tool.specs.Opening.{FilesStanding, IsFileRefusal, HasText, Opens, IsAccepted, IsFaultOf, file_max}
-use Rattle.ap_tool.specs.Answer.{Outside, IsAnswer, IsAnswerTo, IsCommandAnswer, Refuses, Proceeds}
-use Rattle.ap_tool.specs.Clauses.{IsCalm, Holds, IsHonest, IsExact, IsComplete, GivesUp, Reads, RefusesFaulty, RefusesLong}
+use Rattle.ap_tool.specs.Answer.{Outside, IsAnswer, IsAnswerTo, IsCommandAnswer, Refuses, Proceeds, Expands}
+use Rattle.ap_tool.specs.Clauses.{IsCalm, Holds, IsFileOf, IsHonestListing, IsListedExactly, IsHonest, IsExact, IsComplete, GivesUp, Reads, RefusesFaulty, RefusesLong}
 use Rattle.ap_tool.proofs.Endings.{calm-not-rose, text-told, stream-clean}
 
 -- the laws of the dictionary's text and of the output that the clauses below rest on
@@ -33,22 +34,24 @@ pub record Laws : Type 0 where
   pub sound : (text : List ℕ) (d : Dictionary) → Spells text d → IsSound d
   pub output : (d : Dictionary) (input a b : List ℕ) → IsSound d → IsOutput d input a → IsOutput d input b → a ≡ b
 
-refused : Laws → (words : List (List ℕ)) (file : ℕ) (old new : Outside) (d : Dictionary) (input : List ℕ) (status : Status) → IsHonest words file old new d input → IsFileRefusal old.files new.files (name_at words file) file status → status ≡ Memory
-refused laws words file old new d input (FileFault f) h r = absurd (calm-not-rose _ _ h.loads r.1)
-refused laws words file old new d input (BadDictionary f number line) h r =
-    let t = text-told old.files (name_at words file) h.text (λ text. IsFaultOf text number line) h.there r.1 in
-    absurd (laws.no_fault h.text d t.fault h.accepted.spelled t.first)
-refused laws words file old new d input (Limit stage kind place) h r =
-    let t = text-told old.files (name_at words file) h.text (λ text. file_max < length text) h.there r.3 in
-    absurd (let s : length h.text ≤ file_max = h.accepted.short in let l : file_max < length h.text = t in omega arith)
-refused laws words file old new d input Memory h r = refl
-refused laws words file old new d input Done h r = absurd r
-refused laws words file old new d input Usage h r = absurd r
-refused laws words file old new d input ReadFault h r = absurd r
-refused laws words file old new d input WriteFault h r = absurd r
-refused laws words file old new d input (BadRules f number line) h r = absurd r
-refused laws words file old new d input (BadCompiled f number line) h r = absurd r
-refused laws words file old new d input (Malformed stage kind place) h r = absurd r
+-- a file that is accepted and whose loads are calm is refused for want of memory alone
+refused : Laws → (words : List (List ℕ)) (file : ℕ) (old new : Outside) (d : Dictionary) (text : List ℕ) (status : Status) → Holds old.files (name_at words file) text → IsAccepted text d
+    → IsCalm (old.files.load_faults (name_at words file)) (new.files.load_faults (name_at words file)) → IsFileRefusal old.files new.files (name_at words file) file status → status ≡ Memory
+refused laws words file old new d text (FileFault f) h c k r = absurd (calm-not-rose _ _ k r.1)
+refused laws words file old new d text (BadDictionary f number line) h c k r =
+    let t = text-told old.files (name_at words file) text (λ text. IsFaultOf text number line) h r.1 in
+    absurd (laws.no_fault text d t.fault c.spelled t.first)
+refused laws words file old new d text (Limit stage kind place) h c k r =
+    let t = text-told old.files (name_at words file) text (λ text. file_max < length text) h r.3 in
+    absurd (let s : length text ≤ file_max = c.short in let l : file_max < length text = t in omega arith)
+refused laws words file old new d text Memory h c k r = refl
+refused laws words file old new d text Done h c k r = absurd r
+refused laws words file old new d text Usage h c k r = absurd r
+refused laws words file old new d text ReadFault h c k r = absurd r
+refused laws words file old new d text WriteFault h c k r = absurd r
+refused laws words file old new d text (BadRules f number line) h c k r = absurd r
+refused laws words file old new d text (BadCompiled f number line) h c k r = absurd r
+refused laws words file old new d text (Malformed stage kind place) h c k r = absurd r
 
 whole-taken : (old new : Option (List ℕ)) (input taken : List ℕ) → old ≡ Some input → Takes old new taken → IsEnd new → taken ≡ input
 whole-taken old None input taken e t n = absurd (let x : Some input ≡ None = sym e ∙ t in cc)
@@ -97,7 +100,7 @@ ran : Laws → (words : List (List ℕ)) (file : ℕ) (old new : Outside) (d : D
     → IsAnswer words old new status → (status ≡ Memory) ⊎ WentWell old new d input status
 ran laws words file old new d input status h a =
     elim (subst (λ r. IsAnswerTo words old new status r) h.command a.by_words) [
-      | inl r ↦ inl (refused laws words file old new d input status h r.refusal)
+      | inl r ↦ inl (refused laws words file old new d h.text status h.there h.accepted h.loads r.refusal)
       | inr p ↦ (let t = text-told old.files (name_at words file) h.text (λ text. IsAccepted text p.dictionary) h.there p.opened in
           let same : p.dictionary ≡ d = laws.one h.text p.dictionary d t.spelled h.accepted.spelled in
           streamed laws words file old new d input status h (subst (λ e. StreamsOrStops e old.source new.source old.sink new.sink status) same p.stream))
@@ -116,6 +119,33 @@ complete-from laws words old new status a = λ file d input h s.
       | inl m ↦ inr m
       | inr w ↦ inl (w.status_is ∙ stream-clean input s)
     ]
+
+pub listed-from : Laws → (words : List (List ℕ)) (old new : Outside) (status : Status) → IsAnswer words old new status → IsListedExactly words old new status
+listed-from laws words old new status a = λ file d h.
+    elim (subst (λ r. IsAnswerTo words old new status r) h.command a.by_words) [
+      | inl r ↦ inl (refused laws words file old new d h.text status h.there h.accepted h.loads r.refusal)
+      | inr p ↦ (let t = text-told old.files (name_at words file) h.text (λ text. IsAccepted text p.dictionary) h.there p.opened in
+          let same : p.dictionary ≡ d = laws.one h.text p.dictionary d t.spelled h.accepted.spelled in
+          elim (subst (λ e. IsListed old.sink new.sink (listing e) status) same p.listed) [
+            | inl w ↦ inr (w.1, w.0.put)
+            | inr m ↦ elim m [
+              | inl w ↦ absurd (calm-not-rose _ _ h.puts w.0.rose)
+              | inr w ↦ inl w.memory
+            ]
+          ])
+    ]
+
+by-command : (words : List (List ℕ)) (file : ℕ) (old new : Outside) (status : Status) (P : Type 0) (command : Command) → file_of command ≡ file → IsCommandAnswer words old new status command
+    → (Refuses (name_at words file) file old new status → P) → ((d : Dictionary) → Opens old.files (name_at words file) d → P) → P
+by-command words file old new status P (Proc k) e (inl r) f g = f (subst (λ n. Refuses (name_at words n) n old new status) e r)
+by-command words file old new status P (Proc k) e (inr p) f g = g p.dictionary (subst (λ n. Opens old.files (name_at words n) p.dictionary) e p.opened)
+by-command words file old new status P (Expand k) e (inl r) f g = f (subst (λ n. Refuses (name_at words n) n old new status) e r)
+by-command words file old new status P (Expand k) e (inr p) f g = g p.dictionary (subst (λ n. Opens old.files (name_at words n) p.dictionary) e p.opened)
+
+-- whatever the command, its file was refused or accepted
+of-file : (words : List (List ℕ)) (file : ℕ) (old new : Outside) (status : Status) (P : Type 0) → IsAnswer words old new status → IsFileOf words file
+    → (Refuses (name_at words file) file old new status → P) → ((d : Dictionary) → Opens old.files (name_at words file) d → P) → P
+of-file words file old new status P a i f g = by-command words file old new status P i.command i.file_is (subst (λ r. IsAnswerTo words old new status r) i.by_words a.by_words) f g
 
 -- the file was refused with the fault that it has
 faulty-refused : Laws → (words : List (List ℕ)) (old new : Outside) (status : Status) (file number line : ℕ) (text : List ℕ) → Holds old.files (name_at words file) text → IsFaultOf text number line
@@ -141,14 +171,12 @@ faulty-refused laws words old new (BadCompiled f n l) file number line text h t 
 faulty-refused laws words old new (Malformed stage kind place) file number line text h t r = absurd r
 
 pub faulty-from : Laws → (words : List (List ℕ)) (old new : Outside) (status : Status) → IsAnswer words old new status → RefusesFaulty words old new status
-faulty-from laws words old new status a = λ file number line text h t.
-    elim (subst (λ r. IsAnswerTo words old new status r) h.command a.by_words) [
-      | inl r ↦ elim (faulty-refused laws words old new status file number line text h.there t r.refusal) [
-        | inl e ↦ inl (e, r.source, r.sink)
-        | inr g ↦ inr g
-      ]
-      | inr p ↦ absurd (laws.no_fault text p.dictionary t.fault (text-told old.files (name_at words file) text (λ x. IsAccepted x p.dictionary) h.there p.opened).spelled t.first)
-    ]
+faulty-from laws words old new status a = λ file number line text h t. of-file words file old new status _ a h.of_command
+    (λ r. elim (faulty-refused laws words old new status file number line text h.there t r.refusal) [
+      | inl e ↦ inl (e, r.source, r.sink)
+      | inr g ↦ inr g
+    ])
+    (λ d o. absurd (laws.no_fault text d t.fault (text-told old.files (name_at words file) text (λ x. IsAccepted x d) h.there o).spelled t.first))
 
 -- the file was refused since it is over the limit
 long-refused : (words : List (List ℕ)) (old new : Outside) (status : Status) (file : ℕ) (text : List ℕ) → Holds old.files (name_at words file) text → file_max < length text
@@ -169,11 +197,9 @@ long-refused words old new (BadCompiled f n l) file text h t r = absurd r
 long-refused words old new (Malformed stage kind place) file text h t r = absurd r
 
 pub long-from : (words : List (List ℕ)) (old new : Outside) (status : Status) → IsAnswer words old new status → RefusesLong words old new status
-long-from words old new status a = λ file text h t.
-    elim (subst (λ r. IsAnswerTo words old new status r) h.command a.by_words) [
-      | inl r ↦ elim (long-refused words old new status file text h.there t r.refusal) [
-        | inl e ↦ inl (e, r.source, r.sink)
-        | inr g ↦ inr g
-      ]
-      | inr p ↦ absurd (let s : length text ≤ file_max = (text-told old.files (name_at words file) text (λ x. IsAccepted x p.dictionary) h.there p.opened).short in omega arith)
-    ]
+long-from words old new status a = λ file text h t. of-file words file old new status _ a h.of_command
+    (λ r. elim (long-refused words old new status file text h.there t r.refusal) [
+      | inl e ↦ inl (e, r.source, r.sink)
+      | inr g ↦ inr g
+    ])
+    (λ d o. absurd (let s : length text ≤ file_max = (text-told old.files (name_at words file) text (λ x. IsAccepted x d) h.there o).short in omega arith))

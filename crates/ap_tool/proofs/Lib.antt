@@ -3,3 +3,4 @@ pub mod Named
 pub mod Spelled
 pub mod Endings
 pub mod Honesty
+pub mod Listings

@@ -3,12 +3,13 @@ use Rattle.ap_dix.specs.declared.dictionary.Dictionary.{Dictionary}
 use Rattle.ap_tool.specs.declared.status.Status.{Status}
 use Rattle.ap_tool.specs.declared.status.Status.TheVariants.{Usage}
 use Rattle.ap_tool.specs.declared.words.Command.{Command}
-use Rattle.ap_tool.specs.declared.words.Command.TheVariants.{Proc}
+use Rattle.ap_tool.specs.declared.words.Command.TheVariants.{Proc, Expand}
 use Rattle.ap_tool.specs.declared.words.UsageFault.{UsageFault}
 use Rattle.ap_tool.specs.Words.{command_of}
 use Rattle.ap_tool.specs.Messages.{name_at}
 use Rattle.ap_tool.specs.Standing.{Standing, PutsAll, PutsSome}
 use Rattle.ap_tool.specs.Stream.{StreamsOrStops}
+use Rattle.ap_tool.specs.Listing.{IsListed, listing}
 use Rattle.ap_tool.specs.Opening.{FilesStanding, Opens, IsFileRefusal}
 
 -- how the objects stand that a command is handed: the files, the source and the sink
@@ -27,6 +28,14 @@ pub record Proceeds (name : List ℕ) (old new : Outside) (status : Status) : Ty
   pub files : new.files ≡ old.files
   pub stream : StreamsOrStops dictionary old.source new.source old.sink new.sink status
 
+-- the dictionary was opened without a fault, its lines were written, and nothing was taken
+pub record Expands (name : List ℕ) (old new : Outside) (status : Status) : Type 0 where
+  pub dictionary : Dictionary
+  pub opened : Opens old.files name dictionary
+  pub files : new.files ≡ old.files
+  pub source : new.source ≡ old.source
+  pub listed : IsListed old.sink new.sink (listing dictionary) status
+
 -- the file was refused, and nothing was taken or written
 pub record Refuses (name : List ℕ) (file : ℕ) (old new : Outside) (status : Status) : Type 0 where
   pub refusal : IsFileRefusal old.files new.files name file status
@@ -35,6 +44,7 @@ pub record Refuses (name : List ℕ) (file : ℕ) (old new : Outside) (status : 
 
 abbrev pub IsCommandAnswer : List (List ℕ) → Outside → Outside → Status → Command → Type 0
 IsCommandAnswer words old new status (Proc file) = Refuses (name_at words file) file old new status ⊎ Proceeds (name_at words file) old new status
+IsCommandAnswer words old new status (Expand file) = Refuses (name_at words file) file old new status ⊎ Expands (name_at words file) old new status
 
 abbrev pub IsAnswerTo : List (List ℕ) → Outside → Outside → Status → Result Command UsageFault → Type 0
 IsAnswerTo words old new status (Err fault) = (status ≡ Usage) × (new ≡ old)

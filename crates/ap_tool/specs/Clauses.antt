@@ -2,15 +2,16 @@ use Rattle.std.specs.Prelude.{◌≡◌, ℕ, ◌+◌, ◌-◌, ◌^◌, ◌<◌
 use Rattle.ap_outside.specs.Causes.{Rose}
 use Rattle.ap_outside.specs.Told.{Puts, IsEnd}
 use Rattle.ap_dix.specs.declared.dictionary.Dictionary.{Dictionary}
-use Rattle.ap_dix.specs.FirstForm.{Spells}
+use Rattle.ap_dix.specs.Spelling.{Spells}
 use Rattle.ap_tool.specs.declared.status.Status.{Status}
 use Rattle.ap_tool.specs.declared.status.Status.TheVariants.{Done, FileFault, ReadFault, BadDictionary, Malformed, Limit, Memory}
 use Rattle.ap_tool.specs.declared.words.Command.{Command}
-use Rattle.ap_tool.specs.declared.words.Command.TheVariants.{Proc}
+use Rattle.ap_tool.specs.declared.words.Command.TheVariants.{Proc, Expand}
 use Rattle.ap_tool.specs.declared.words.UsageFault.{UsageFault}
 use Rattle.ap_tool.specs.declared.intake.Ending.{Ending}
 use Rattle.ap_tool.specs.declared.intake.Ending.TheVariants.{Clean, Failed, TooLong}
-use Rattle.ap_tool.specs.Words.{command_of}
+use Rattle.ap_tool.specs.Words.{command_of, file_of}
+use Rattle.ap_tool.specs.Listing.{listing}
 use Rattle.ap_tool.specs.Messages.{name_at}
 use Rattle.ap_tool.specs.Standing.{Standing}
 use Rattle.ap_tool.specs.Opening.{FilesStanding, IsAccepted, IsFaultOf, file_max}
@@ -28,6 +29,12 @@ pub record Holds (files : FilesStanding) (name text : List ℕ) : Type 0 where
   pub at : List ℕ → Option (List ℕ)
   pub told : files.contents ≡ Some at
   pub there : at name ≡ Some text
+
+-- the words are a command that reads this file
+pub record IsFileOf (words : List (List ℕ)) (file : ℕ) : Type 0 where
+  pub command : Command
+  pub by_words : command_of words ≡ Ok command
+  pub file_is : file_of command ≡ file
 
 -- Everything that the command reads is told and accepted, the input is within its limit, and no call on an object failed.
 pub record IsHonest (words : List (List ℕ)) (file : ℕ) (old new : Outside) (d : Dictionary) (input : List ℕ) : Type 0 where
@@ -50,13 +57,31 @@ IsExact words old new status = (file : ℕ) (d : Dictionary) (input text : List 
 abbrev pub IsComplete : List (List ℕ) → Outside → Outside → Status → Type 0
 IsComplete words old new status = (file : ℕ) (d : Dictionary) (input : List ℕ) → IsHonest words file old new d input → stray_place input ≡ length input → (status ≡ Done) ⊎ (status ≡ Memory)
 
+-- `lt-expand` of a dictionary that is told and accepted, and no call on an object failed.
+pub record IsHonestListing (words : List (List ℕ)) (file : ℕ) (old new : Outside) (d : Dictionary) : Type 0 where
+  pub command : command_of words ≡ Ok (Expand file)
+  pub text : List ℕ
+  pub there : Holds old.files (name_at words file) text
+  pub accepted : IsAccepted text d
+  pub loads : IsCalm (old.files.load_faults (name_at words file)) (new.files.load_faults (name_at words file))
+  pub puts : IsCalm old.sink.faults new.sink.faults
+
+-- Then all is done and the lines of the dictionary are written, unless memory ran out.
+abbrev pub IsListedExactly : List (List ℕ) → Outside → Outside → Status → Type 0
+IsListedExactly words old new status = (file : ℕ) (d : Dictionary) → IsHonestListing words file old new d
+    → (status ≡ Memory) ⊎ ((status ≡ Done) × Puts old.sink.bytes new.sink.bytes (listing d))
+
+-- A command without a stream takes nothing from the source.
+abbrev pub TakesNothing : List (List ℕ) → Outside → Outside → Type 0
+TakesNothing words old new = (file : ℕ) → command_of words ≡ Ok (Expand file) → new.source ≡ old.source
+
 -- the file could not be loaded, or memory ran out
 abbrev pub GivesUp : List (List ℕ) → ℕ → Outside → Outside → Status → Type 0
 GivesUp words file old new status = (status ≡ Memory) ⊎ ((status ≡ FileFault file) × Rose (old.files.load_faults (name_at words file)) (new.files.load_faults (name_at words file)))
 
 -- the command's file is told and has this text
 pub record Reads (words : List (List ℕ)) (file : ℕ) (old : Outside) (text : List ℕ) : Type 0 where
-  pub command : command_of words ≡ Ok (Proc file)
+  pub of_command : IsFileOf words file
   pub there : Holds old.files (name_at words file) text
 
 -- A file within the limit whose first fault has this number and line is answered so, and nothing is taken or written.
@@ -73,7 +98,7 @@ RefusesLong words old new status = (file : ℕ) (text : List ℕ) → Reads word
 -- taken or written then.
 abbrev pub IsFileFault : List (List ℕ) → Outside → Outside → Status → Type 0
 IsFileFault words old new status = (file : ℕ) → status ≡ FileFault file
-    → (command_of words ≡ Ok (Proc file)) × Rose (old.files.load_faults (name_at words file)) (new.files.load_faults (name_at words file)) × (new.source ≡ old.source) × (new.sink ≡ old.sink)
+    → IsFileOf words file × Rose (old.files.load_faults (name_at words file)) (new.files.load_faults (name_at words file)) × (new.source ≡ old.source) × (new.sink ≡ old.sink)
 
 -- The source failed only where a take failed, what was taken has no stray byte, and no put failed.
 abbrev pub IsReadFault : Outside → Outside → Status → Type 0
@@ -91,6 +116,7 @@ abbrev pub IsInputTooLong : Outside → Outside → Status → Type 0
 IsInputTooLong old new status = status ≡ Limit 0 7 input_max
     → (new.source.faults ≡ old.source.faults) × (new.sink.faults ≡ old.sink.faults) × ((input : List ℕ) × IsIntake old.source new.source input TooLong × (stray_place input ≡ length input))
 
--- With Done the source was read to its end, and no call failed.
-abbrev pub IsDone : Outside → Outside → Status → Type 0
-IsDone old new status = status ≡ Done → IsEnd new.source.bytes × (new.source.faults ≡ old.source.faults) × (new.sink.faults ≡ old.sink.faults)
+-- With Done no put failed; and of a command with a stream the source was read to its end, and no take failed.
+abbrev pub IsDone : List (List ℕ) → Outside → Outside → Status → Type 0
+IsDone words old new status = status ≡ Done
+    → (new.sink.faults ≡ old.sink.faults) × ((file : ℕ) → command_of words ≡ Ok (Proc file) → IsEnd new.source.bytes × (new.source.faults ≡ old.source.faults))

@@ -6,6 +6,7 @@ pub mod Intake
 pub mod Pairs
 pub mod Output
 pub mod Stream
+pub mod Listing
 pub mod Opening
 pub mod Answer
 pub mod Clauses

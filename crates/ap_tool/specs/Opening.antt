@@ -3,7 +3,7 @@ use Rattle.std.specs.Option.{IfSome}
 use Rattle.ap_outside.specs.Causes.{Rose}
 use Rattle.ap_dix.specs.declared.dictionary.Dictionary.{Dictionary}
 use Rattle.ap_dix.specs.declared.refusal.DixFault.{DixFault}
-use Rattle.ap_dix.specs.FirstForm.{Spells, IsFirstFault}
+use Rattle.ap_dix.specs.Spelling.{Spells, IsFirstFault}
 use Rattle.ap_dix.specs.Refusals.{kind_number}
 use Rattle.ap_dix.specs.Soundness.{IsSound}
 use Rattle.ap_tool.specs.declared.status.Status.{Status}
@@ -11,7 +11,7 @@ use Rattle.ap_tool.specs.declared.status.Status.TheVariants.{FileFault, BadDicti
 
 -- the most bytes of a file
 abbrev pub file_max : ℕ
-file_max = 65536
+file_max = 67108864
 
 -- how files stand: the contents by name, where they tell, and the counts of faults
 pub record FilesStanding : Type 0 where

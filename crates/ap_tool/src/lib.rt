@@ -3,6 +3,7 @@
 
 mod intake;
 mod laws;
+mod listing;
 mod messages;
 mod opening;
 mod pairs;

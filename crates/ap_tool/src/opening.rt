@@ -10,7 +10,7 @@ use ap_outside::{Files, LoadRefusal};
 use std::alloc::Global;
 
 /// The most bytes of a file.
-pub const FILE_MAX: u64 = 65_536;
+pub const FILE_MAX: u64 = 67_108_864;
 
 fn read(alloc: Global, text: &[u8], file: usize) -> Result<Dictionary, Status>
     ensures { Reads file text.now result }

@@ -5,13 +5,30 @@ use std::alloc::Global;
 use std::process::Abort;
 use std::test::Fail;
 
-/// The dictionary of the rows, from its first line on.
+/// The plainest dictionary.
 const P: &str =
     "<dictionary>\n<alphabet>abcdefghijklmnopqrstuvwxyz</alphabet>\n<sdefs><sdef n=\"n\"/><sdef n=\"sg\"/><sdef n=\"vblex\"/><sdef n=\"past\"/><sdef n=\"pr\"/></sdefs>\n<section id=\"main\" type=\"standard\">\n<e><p><l>saw</l><r>saw<s n=\"n\"/><s n=\"sg\"/></r></p></e>\n<e><p><l>saw</l><r>see<s n=\"vblex\"/><s n=\"past\"/></r></p></e>\n<e><p><l>in</l><r>in<s n=\"pr\"/></r></p></e>\n</section>\n</dictionary>\n";
 
-/// The same with an entry of another form on line 5.
-const FAULTY: &str =
-    "<dictionary>\n<alphabet>abcdefghijklmnopqrstuvwxyz</alphabet>\n<sdefs><sdef n=\"n\"/><sdef n=\"sg\"/><sdef n=\"vblex\"/><sdef n=\"past\"/><sdef n=\"pr\"/></sdefs>\n<section id=\"main\" type=\"standard\">\n<e r=\"LR\"><i>a</i></e>\n<e><p><l>saw</l><r>see<s n=\"vblex\"/><s n=\"past\"/></r></p></e>\n<e><p><l>in</l><r>in<s n=\"pr\"/></r></p></e>\n</section>\n</dictionary>\n";
+/// A dictionary with a paradigm, a word of two parts and an inconditional section.
+const M: &str =
+    "<dictionary>\n<alphabet>abcdefghijklmnopqrstuvwxyz</alphabet>\n<sdefs><sdef n=\"n\"/><sdef n=\"sg\"/><sdef n=\"pl\"/><sdef n=\"vblex\"/>\n<sdef n=\"past\"/><sdef n=\"adv\"/><sdef n=\"sent\"/></sdefs>\n<pardefs><pardef n=\"house__n\">\n<e><p><l></l><r><s n=\"n\"/><s n=\"sg\"/></r></p></e>\n<e><p><l>s</l><r><s n=\"n\"/><s n=\"pl\"/></r></p></e>\n</pardef></pardefs>\n<section id=\"main\" type=\"standard\">\n<e lm=\"house\"><i>house</i><par n=\"house__n\"/></e>\n<e lm=\"saw\"><p><l>saw</l><r>saw<s n=\"n\"/><s n=\"sg\"/></r></p></e>\n<e lm=\"see\"><p><l>saw</l><r>see<s n=\"vblex\"/><s n=\"past\"/></r></p></e>\n<e lm=\"in front\"><p><l>in<b/>front</l><r>in<b/>front<s n=\"adv\"/></r></p></e>\n</section>\n<section id=\"final\" type=\"inconditional\">\n<e lm=\".\"><p><l>.</l><r>.<s n=\"sent\"/></r></p></e>\n</section>\n</dictionary>\n";
+
+/// Entries kept in one direction, one of them in a paradigm.
+const X: &str =
+    "<dictionary><pardefs><pardef n=\"p\"><e r=\"LR\"><i>c</i></e><e><i>d</i></e></pardef></pardefs><section type=\"standard\"><e r=\"LR\"><i>a</i></e><e r=\"RL\"><i>b</i><par n=\"p\"/></e></section></dictionary>";
+
+/// Faulty ones: a tag that is not declared, a wrong end tag, a weight, an expression.
+const F1: &str =
+    "<dictionary>\n<sdefs><sdef n=\"n\"/></sdefs>\n<section id=\"m\" type=\"standard\">\n<e><p><l>a</l><r>a<s n=\"x\"/></r></p></e>\n<e w=\"1\"><i>b</i></e>\n</section>\n</dictionary>\n";
+
+const F2: &str =
+    "<dictionary>\n<section id=\"m\" type=\"standard\">\n<e><i>a</e>\n</section>\n</dictionary>\n";
+
+const F3: &str =
+    "<dictionary>\n<section id=\"m\" type=\"standard\">\n<e w=\"1\"><i>b</i></e>\n</section>\n</dictionary>\n";
+
+const F4: &str =
+    "<dictionary>\n<section id=\"m\" type=\"standard\">\n<e><re>[0-9]</re></e>\n</section>\n</dictionary>\n";
 
 /// A row: the words with a space between, the input, which load, which take and which put fails
 /// (numbered from 1, 0 for none), and the status, the output and the message that it must give.
@@ -51,7 +68,12 @@ fn check(rt: &impl Abort, alloc: Global, row: &Row) -> Result<(), Fail> {
     let [load, take, put] = row.failing;
     let mut files = MemFiles::new(alloc, call_of(alloc, load)?);
     files.add("P", P.as_bytes())?;
-    files.add("FAULTY", FAULTY.as_bytes())?;
+    files.add("M", M.as_bytes())?;
+    files.add("X", X.as_bytes())?;
+    files.add("F1", F1.as_bytes())?;
+    files.add("F2", F2.as_bytes())?;
+    files.add("F3", F3.as_bytes())?;
+    files.add("F4", F4.as_bytes())?;
     let input = Vec::from_slice(alloc, row.input.as_bytes())?;
     let mut source = MemSource::new(input, 4, call_of(alloc, take)?);
     let mut sink = MemSink::new(alloc, 1000, call_of(alloc, put)?, 0)?;
@@ -109,23 +131,29 @@ fn analysis_gives_its_rows(rt: HostRuntime) -> Result<(), Fail> {
             "apertium: stage 1: byte 4: malformed 2 Stray\n",
         ),
         case(
-            "lt-proc -a FAULTY",
-            "saw",
+            "lt-proc -a M",
+            "houses",
             NONE,
-            Status::BadDictionary {
-                file: 2,
-                fault: 12,
-                line: 5,
-            },
+            Status::Done,
+            "^houses/house<n><pl>$",
             "",
-            "apertium: FAULTY: line 5: dictionary fault 12 Unsupported\n",
         ),
+        case(
+            "lt-proc -a M",
+            "housex",
+            NONE,
+            Status::Done,
+            "^housex/*housex$",
+            "",
+        ),
+        case("lt-proc -a X", "a bd", NONE, Status::Done, "^a/a$ bd", ""),
         case("", "saw", NONE, Status::Usage, "", usage),
         case("lt-proc -a", "saw", NONE, Status::Usage, "", usage),
         case("lt-proc P -a", "saw", NONE, Status::Usage, "", usage),
         case("lt-proc -a -c P", "saw", NONE, Status::Usage, "", usage),
         case("lt-proc -a --help", "saw", NONE, Status::Usage, "", usage),
-        case("lt-expand P", "saw", NONE, Status::Usage, "", usage),
+        case("lt-expand", "saw", NONE, Status::Usage, "", usage),
+        case("lt-expand P Q", "saw", NONE, Status::Usage, "", usage),
         case(
             "lt-proc -a NOPE",
             "saw",
@@ -133,6 +161,76 @@ fn analysis_gives_its_rows(rt: HostRuntime) -> Result<(), Fail> {
             Status::FileFault { file: 2 },
             "",
             "apertium: NOPE: file fault\n",
+        ),
+    ] {
+        check(&rt, rt.alloc(), &row)?;
+    }
+    Ok(())
+}
+
+fn fault(fault: u8, line: u64) -> Status {
+    Status::BadDictionary {
+        file: 1,
+        fault,
+        line,
+    }
+}
+
+#[test]
+fn expansion_gives_its_rows(rt: HostRuntime) -> Result<(), Fail> {
+    let lines =
+        "house:house<n><sg>\nhouses:house<n><pl>\nsaw:saw<n><sg>\nsaw:see<vblex><past>\nin front:in front<adv>\n.:.<sent>\n";
+    let write = "apertium: write fault\n";
+    for row in [
+        case("lt-expand M", "not taken", NONE, Status::Done, lines, ""),
+        case(
+            "lt-expand X",
+            "",
+            NONE,
+            Status::Done,
+            "a:>:a\nbd:<:bd\n",
+            "",
+        ),
+        case("lt-expand M", "", [0, 0, 1], Status::WriteFault, "", write),
+        case(
+            "lt-expand M",
+            "",
+            [1, 0, 0],
+            Status::FileFault { file: 1 },
+            "",
+            "apertium: M: file fault\n",
+        ),
+        case(
+            "lt-expand F1",
+            "",
+            NONE,
+            fault(8, 4),
+            "",
+            "apertium: F1: line 4: dictionary fault 8 UndeclaredSymbol\n",
+        ),
+        case(
+            "lt-expand F2",
+            "",
+            NONE,
+            fault(2, 3),
+            "",
+            "apertium: F2: line 3: dictionary fault 2 Syntax\n",
+        ),
+        case(
+            "lt-expand F3",
+            "",
+            NONE,
+            fault(11, 3),
+            "",
+            "apertium: F3: line 3: dictionary fault 11 Weighted\n",
+        ),
+        case(
+            "lt-expand F4",
+            "",
+            NONE,
+            fault(12, 3),
+            "",
+            "apertium: F4: line 3: dictionary fault 12 Unsupported\n",
         ),
     ] {
         check(&rt, rt.alloc(), &row)?;
@@ -231,11 +329,7 @@ fn a_failing_call_ends_the_run(rt: HostRuntime) -> Result<(), Fail> {
 }
 
 fn spaces(alloc: Global, count: usize) -> Result<Vec<u8>, Fail> {
-    let mut bytes = Vec::with_capacity(alloc, count)?;
-    for _ in 0..count {
-        bytes.push(b' ')?;
-    }
-    Ok(bytes)
+    Ok(vec![in alloc; b' '; count]?)
 }
 
 #[test]
@@ -244,7 +338,7 @@ fn limits_of_the_whole_file_and_input(rt: HostRuntime) -> Result<(), Fail> {
     let words = words_of(alloc, "lt-proc -a P")?;
     for (file, input, status, written, message) in [
         (
-            65_537,
+            67_108_865,
             1,
             Status::Limit {
                 stage: 0,
@@ -253,17 +347,6 @@ fn limits_of_the_whole_file_and_input(rt: HostRuntime) -> Result<(), Fail> {
             },
             0,
             "apertium: P: limit 6 FileTooLong\n",
-        ),
-        (
-            65_536,
-            1,
-            Status::BadDictionary {
-                file: 2,
-                fault: 12,
-                line: 1,
-            },
-            0,
-            "apertium: P: line 1: dictionary fault 12 Unsupported\n",
         ),
         (
             0,

@@ -5,15 +5,16 @@ ghost use Rattle.ap_tool.specs.Words.{texts, command_of, usage};
 ghost use Rattle.ap_tool.specs.Standing.{standing};
 ghost use Rattle.ap_tool.specs.Opening.{files_standing};
 ghost use Rattle.ap_tool.specs.Answer.{IsAnswer, outside, Tells};
-ghost use Rattle.ap_tool.specs.Clauses.{IsExact, IsComplete, RefusesFaulty, RefusesLong, IsFileFault, IsReadFault, IsMalformed, IsInputTooLong, IsDone};
+ghost use Rattle.ap_tool.specs.Clauses.{IsExact, IsComplete, RefusesFaulty, RefusesLong, IsFileFault, IsReadFault, IsMalformed, IsInputTooLong, IsDone, IsListedExactly, TakesNothing};
 
 use crate::laws::one_output;
+use crate::listing::put_lines;
 use crate::messages::{message, name};
 use crate::opening::open;
 use crate::status::Status;
 use crate::stream::proceed;
 use crate::words::{Command, read_words};
-use ap_dix::{has_one_fault, spells_one, spells_plain, spells_without_fault};
+use ap_dix::{has_one_fault, spells_is_sound, spells_one, spells_without_fault};
 use ap_outside::{Files, Sink, Source};
 use std::alloc::Global;
 
@@ -37,6 +38,10 @@ fn run<F: Files, S: Source, K: Sink>(
         Ok(Command::Proc { file }) => match open(alloc, files, name(words, file), file) {
             Err(status) => status,
             Ok(dictionary) => proceed(alloc, &dictionary, source, sink),
+        },
+        Ok(Command::Expand { dix }) => match open(alloc, files, name(words, dix), dix) {
+            Err(status) => status,
+            Ok(dictionary) => put_lines(alloc, &dictionary, sink),
         },
     }
 }
@@ -71,6 +76,13 @@ pub fn apertium<F: Files, S: Source, K: Sink, E: Sink>(
         (outside (files_standing (F.contents files.old) (F.load_faults files.old) (F.store_faults files.old)) (standing (S.left source.old) (S.faults source.old)) (standing (K.written sink.old) (K.faults sink.old)))
         (outside (files_standing (F.contents files.new) (F.load_faults files.new) (F.store_faults files.new)) (standing (S.left source.new) (S.faults source.new)) (standing (K.written sink.new) (K.faults sink.new)))
         result }
+    ensures listed { IsListedExactly (texts words.now)
+        (outside (files_standing (F.contents files.old) (F.load_faults files.old) (F.store_faults files.old)) (standing (S.left source.old) (S.faults source.old)) (standing (K.written sink.old) (K.faults sink.old)))
+        (outside (files_standing (F.contents files.new) (F.load_faults files.new) (F.store_faults files.new)) (standing (S.left source.new) (S.faults source.new)) (standing (K.written sink.new) (K.faults sink.new)))
+        result }
+    ensures nothing { TakesNothing (texts words.now)
+        (outside (files_standing (F.contents files.old) (F.load_faults files.old) (F.store_faults files.old)) (standing (S.left source.old) (S.faults source.old)) (standing (K.written sink.old) (K.faults sink.old)))
+        (outside (files_standing (F.contents files.new) (F.load_faults files.new) (F.store_faults files.new)) (standing (S.left source.new) (S.faults source.new)) (standing (K.written sink.new) (K.faults sink.new))) }
     ensures faulty { RefusesFaulty (texts words.now)
         (outside (files_standing (F.contents files.old) (F.load_faults files.old) (F.store_faults files.old)) (standing (S.left source.old) (S.faults source.old)) (standing (K.written sink.old) (K.faults sink.old)))
         (outside (files_standing (F.contents files.new) (F.load_faults files.new) (F.store_faults files.new)) (standing (S.left source.new) (S.faults source.new)) (standing (K.written sink.new) (K.faults sink.new)))
@@ -96,7 +108,7 @@ pub fn apertium<F: Files, S: Source, K: Sink, E: Sink>(
         (outside (files_standing (F.contents files.old) (F.load_faults files.old) (F.store_faults files.old)) (standing (S.left source.old) (S.faults source.old)) (standing (K.written sink.old) (K.faults sink.old)))
         (outside (files_standing (F.contents files.new) (F.load_faults files.new) (F.store_faults files.new)) (standing (S.left source.new) (S.faults source.new)) (standing (K.written sink.new) (K.faults sink.new)))
         result }
-    ensures done { IsDone
+    ensures done { IsDone (texts words.now)
         (outside (files_standing (F.contents files.old) (F.load_faults files.old) (F.store_faults files.old)) (standing (S.left source.old) (S.faults source.old)) (standing (K.written sink.old) (K.faults sink.old)))
         (outside (files_standing (F.contents files.new) (F.load_faults files.new) (F.store_faults files.new)) (standing (S.left source.new) (S.faults source.new)) (standing (K.written sink.new) (K.faults sink.new)))
         result }
@@ -108,7 +120,7 @@ pub fn apertium<F: Files, S: Source, K: Sink, E: Sink>(
     spells_one();
     has_one_fault();
     spells_without_fault();
-    spells_plain();
+    spells_is_sound();
     one_output();
     let status = run(alloc, words, files, source, sink);
     let _ = message(&status, words, err);

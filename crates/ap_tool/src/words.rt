@@ -13,6 +13,8 @@ pub struct UsageFault;
 pub enum Command {
     /// `lt-proc -a FILE`: analysis of the stream by a dictionary.
     Proc { file: usize },
+    /// `lt-expand DIX`: the lines of a dictionary.
+    Expand { dix: usize },
 }
 
 /// A file's name is not empty and does not begin with `-`.
@@ -31,13 +33,15 @@ pub fn read_words(words: &[String]) -> Result<Command, UsageFault>
     ensures command { result ≡ command_of (texts words.now) }
     ensures named { IfOk result (λ c. file_of c < length words.now) }
 {
+    if words.len() == 2 && words[0].as_str() == "lt-expand" && is_file_name(words[1].as_str()) {
+        return Ok(Command::Expand { dix: 1 });
+    }
     if words.len() == 3
         && words[0].as_str() == "lt-proc"
         && words[1].as_str() == "-a"
         && is_file_name(words[2].as_str())
     {
-        Ok(Command::Proc { file: 2 })
-    } else {
-        Err(UsageFault)
+        return Ok(Command::Proc { file: 2 });
     }
+    Err(UsageFault)
 }

@@ -1,0 +1,9 @@
+pub mod Words
+pub mod Drafting
+pub mod Choosing
+pub mod Deriving
+pub mod Telling
+pub mod Lettering
+pub mod Silences
+pub mod Bounding
+pub mod Sectioning

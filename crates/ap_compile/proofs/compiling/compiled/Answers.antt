@@ -1,0 +1,20 @@
+use Rattle.std.proofs.Common.{◌≡◌, sym, subst}
+use Rattle.ap_fst.specs.Sections.{Parts}
+use Rattle.ap_compile.specs.Compiling.{IsCompiledFrom}
+use Rattle.ap_compile.proofs.compiling.compiled.Goals as goal
+
+pub returns : goal.returns
+returns c = subst (λ (p : Parts). IsCompiledFrom c.args.dictionary.now c.args.direction p) (sym c.new.ensures) (record {
+  alphabet = c.in_ok-alphabet.ensures.closure;
+  standard = c.in_ok-standard.ensures.strings;
+  inconditional = c.in_ok-inconditional.ensures.strings;
+  postblank = c.in_ok-postblank.ensures.strings;
+  preblank = c.in_ok-preblank.ensures.strings;
+  sound = record {
+    letters = c.in_ok-alphabet.ensures.alphabet;
+    standard_is = c.in_ok-standard.ensures.section;
+    inconditional_is = c.in_ok-inconditional.ensures.section;
+    postblank_is = c.in_ok-postblank.ensures.section;
+    preblank_is = c.in_ok-preblank.ensures.section;
+  };
+})

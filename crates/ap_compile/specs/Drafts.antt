@@ -1,0 +1,49 @@
+use Rattle.std.specs.Prelude.{◌≡◌, ◌↔◌, ◌⊎◌, ℕ, IsTrue, List, [], ◌∷◌, Some, slice_get}
+use Rattle.ap_symbol.specs.Lists.{IsIn}
+use Rattle.ap_dix.specs.Derivation.{Label as EntryLabel, Derives, is_kept}
+use Rattle.ap_dix.specs.declared.dictionary.Dictionary.{Dictionary}
+use Rattle.ap_dix.specs.declared.dictionary.Direction.{Direction}
+use Rattle.ap_dix.specs.declared.dictionary.Entry.{Entry}
+use Rattle.ap_dix.specs.declared.dictionary.Kind.{Kind}
+use Rattle.ap_dix.specs.declared.dictionary.Pardef.{Pardef}
+use Rattle.ap_dix.specs.declared.dictionary.Section.{Section}
+use Rattle.ap_fst.specs.Sketches.{Sketch}
+use Rattle.ap_fst.specs.Paths.{Accepts}
+use Rattle.ap_fst.specs.declared.label.Label.{Label}
+use Rattle.ap_compile.specs.Labels.{derived_labels, ArePlain}
+
+-- The draft accepts exactly these label strings, and their labels are plain.
+pub record IsDraftOf (P : List EntryLabel → Type 0) (draft : Sketch) : Type 0 where
+  pub exact : (w : List Label) → Accepts draft w ↔ P (derived_labels w)
+  pub plain : (w : List Label) → Accepts draft w → ArePlain w
+
+-- The second draft accepts the strings of the first and these, whose labels are plain.
+pub record IsMoreBy (Q : List EntryLabel → Type 0) (old new : Sketch) : Type 0 where
+  pub exact : (w : List Label) → Accepts new w ↔ (Accepts old w ⊎ Q (derived_labels w))
+  pub plain : ((w : List Label) → Accepts old w → ArePlain w) → (w : List Label) → Accepts new w → ArePlain w
+
+-- one of the items has this with the labels
+pub record Any {X : Type 0} (Q : X → List EntryLabel → Type 0) (items : List X) (labels : List EntryLabel) : Type 0 where
+  pub item : X
+  pub listed : IsIn item items
+  pub holds : Q item labels
+
+-- the entry is kept and derives the labels
+pub record Spells (d : Dictionary) (direction : Direction) (entry : Entry) (labels : List EntryLabel) : Type 0 where
+  pub kept : IsTrue (is_kept direction entry)
+  pub derived : Derives d direction entry.parts labels
+
+-- a kept entry of the section, which is of that kind, derives the labels
+pub record SpellsIn (d : Dictionary) (direction : Direction) (kind : Kind) (section : Section) (labels : List EntryLabel) : Type 0 where
+  pub of_kind : section.kind ≡ kind
+  pub spells : Any (Spells d direction) section.entries labels
+
+-- a kept entry of the paradigm of that number derives the labels
+pub record SpellsAt (d : Dictionary) (direction : Direction) (n : ℕ) (labels : List EntryLabel) : Type 0 where
+  pub pardef : Pardef
+  pub at : slice_get d.pardefs n ≡ Some pardef
+  pub spells : Any (Spells d direction) pardef.entries labels
+
+-- drafts of the first paradigms, in order
+pub record AreDrafts (d : Dictionary) (direction : Direction) (drafts : List Sketch) : Type 0 where
+  pub each : (n : ℕ) (draft : Sketch) → slice_get drafts n ≡ Some draft → IsDraftOf (SpellsAt d direction n) draft

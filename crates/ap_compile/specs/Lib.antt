@@ -1,0 +1,5 @@
+pub mod Labels
+pub mod Drafts
+pub mod Partners
+pub mod Empties
+pub mod Compiling

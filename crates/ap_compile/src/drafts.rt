@@ -1,0 +1,171 @@
+ghost use Rattle.std.specs.Prelude.{◌≡◌, ◌<◌, ◌∷◌, [], List, length, max, IsTrue, IfOk, slice_get};
+ghost use Rattle.std.specs.List.{list_all};
+ghost use Rattle.ap_dix.specs.Derivation.{Derives, paired, facing, is_kept};
+ghost use Rattle.ap_dix.specs.Soundness.{is_entry_symbol, is_sound_part, is_sound_entry, IsSound};
+ghost use Rattle.ap_dix.specs.declared.dictionary.Dictionary.{Dictionary as Lexicon};
+ghost use Rattle.ap_compile.specs.Labels.{label_of, IsEntryWord};
+ghost use Rattle.ap_compile.specs.Drafts.{IsDraftOf, IsMoreBy, Any, Spells, AreDrafts};
+
+use ap_dix::{Dictionary, Direction, Entry, EntryPart};
+use ap_fst::{Draft, Label};
+use ap_symbol::{Memory, Symbol, Word};
+use std::alloc::Global;
+
+fn symbol_at(alloc: Global, word: &[Symbol], at: usize) -> Result<Option<Symbol>, Memory>
+    ensures { IfOk result (λ made. made ≡ slice_get word.now at) }
+{
+    match word.get(at) {
+        None => Ok(None),
+        Some(symbol) => Ok(Some(symbol.copy(alloc)?)),
+    }
+}
+
+fn label_at(alloc: Global, left: &[Symbol], right: &[Symbol], at: usize) -> Result<Label, Memory>
+    ensures { IfOk result (λ made. made ≡ label_of left.now right.now at) }
+{
+    Ok(Label {
+        left: symbol_at(alloc, left, at)?,
+        right: symbol_at(alloc, right, at)?,
+    })
+}
+
+fn longer(left: &[Symbol], right: &[Symbol]) -> usize
+    ensures { result ≡ length (paired left.now right.now) }
+{
+    if left.len() < right.len() {
+        right.len()
+    } else {
+        left.len()
+    }
+}
+
+/// Accepts the symbols of two words position by position, the longer word's rest with nothing.
+fn words_draft(alloc: Global, left: &[Symbol], right: &[Symbol]) -> Result<Draft, Memory>
+    requires left { IsEntryWord left.now }
+    requires right { IsEntryWord right.now }
+    ensures { IfOk result (λ made. IsDraftOf (λ w. w ≡ paired left.now right.now) made) }
+{
+    let mut made = Draft::empty(alloc)?;
+    for at in 0..longer(left, right) {
+        let label = label_at(alloc, left, right, at)?;
+        made = made.join(Draft::letter(alloc, label)?)?;
+    }
+    Ok(made)
+}
+
+/// The same with the words in each other's place where the direction is from right to left.
+fn faced_draft(
+    alloc: Global,
+    direction: Direction,
+    left: &Word,
+    right: &Word,
+) -> Result<Draft, Memory>
+    requires left { IsTrue (list_all is_entry_symbol left.now) }
+    requires right { IsTrue (list_all is_entry_symbol right.now) }
+    ensures { IfOk result (λ made. IsDraftOf (λ w. w ≡ facing direction (paired left.now right.now)) made) }
+{
+    match direction {
+        Direction::Lr => words_draft(alloc, left.symbols(), right.symbols()),
+        Direction::Rl => words_draft(alloc, right.symbols(), left.symbols()),
+    }
+}
+
+fn part_draft(
+    alloc: Global,
+    direction: Direction,
+    drafts: &[Draft],
+    part: &EntryPart,
+) -> Result<Draft, Memory>
+    requires { IsTrue (is_sound_part (length drafts.now) part.now) }
+    ensures { IfOk result (λ made. (d : Lexicon) → AreDrafts d direction drafts.now → IsDraftOf (Derives d direction (part.now ∷ [])) made) }
+{
+    match part {
+        EntryPart::Identity(word) => faced_draft(alloc, direction, word, word),
+        EntryPart::Pair(left, right) => faced_draft(alloc, direction, left, right),
+        EntryPart::Paradigm(n) => {
+            let draft = &drafts[*n];
+            draft.copy(alloc)
+        }
+    }
+}
+
+/// Accepts what these parts derive. Each use of a paradigm gets a copy of its own.
+fn parts_draft(
+    alloc: Global,
+    direction: Direction,
+    drafts: &[Draft],
+    parts: &[EntryPart],
+) -> Result<Draft, Memory>
+    requires { IsTrue (list_all (is_sound_part (length drafts.now)) parts.now) }
+    ensures { IfOk result (λ made. (d : Lexicon) → AreDrafts d direction drafts.now → IsDraftOf (Derives d direction parts.now) made) }
+{
+    let mut made = Draft::empty(alloc)?;
+    for part in parts {
+        made = made.join(part_draft(alloc, direction, drafts, part)?)?;
+    }
+    Ok(made)
+}
+
+/// Whether the entry is kept in the direction: it is not ignored, and its side lets it.
+pub fn is_entry_kept(direction: Direction, entry: &Entry) -> bool
+    ensures { result ≡ is_kept direction entry.now }
+{
+    !entry.ignored && entry.side.takes(direction)
+}
+
+fn with_entry(
+    alloc: Global,
+    direction: Direction,
+    drafts: &[Draft],
+    made: Draft,
+    entry: &Entry,
+) -> Result<Draft, Memory>
+    requires { IsTrue (is_sound_entry (length drafts.now) entry.now) }
+    ensures { IfOk result (λ all. (d : Lexicon) → AreDrafts d direction drafts.now → IsMoreBy (Spells d direction entry.now) made all) }
+{
+    if !is_entry_kept(direction, entry) {
+        return Ok(made);
+    }
+    let more = parts_draft(alloc, direction, drafts, entry.parts.as_slice())?;
+    made.either(more)
+}
+
+/// Accepts what the kept ones of these entries derive.
+pub fn entries_draft(
+    alloc: Global,
+    direction: Direction,
+    drafts: &[Draft],
+    entries: &[Entry],
+) -> Result<Draft, Memory>
+    requires { IsTrue (list_all (is_sound_entry (length drafts.now)) entries.now) }
+    ensures { IfOk result (λ made. (d : Lexicon) → AreDrafts d direction drafts.now → IsDraftOf (Any (Spells d direction) entries.now) made) }
+{
+    let mut made = Draft::nothing(alloc)?;
+    for entry in entries {
+        made = with_entry(alloc, direction, drafts, made, entry)?;
+    }
+    Ok(made)
+}
+
+/// A draft for each paradigm, in order.
+pub fn paradigm_drafts(
+    alloc: Global,
+    direction: Direction,
+    dictionary: &Dictionary,
+) -> Result<Vec<Draft>, Memory>
+    requires { IsSound dictionary.now }
+    ensures drafts { IfOk result (λ drafts. AreDrafts dictionary.now direction drafts.items) }
+    ensures count { IfOk result (λ drafts. length drafts.items ≡ length dictionary.now.pardefs) }
+{
+    let mut drafts = Vec::new(alloc);
+    for pardef in dictionary.pardefs.as_slice() {
+        let draft = entries_draft(
+            alloc,
+            direction,
+            drafts.as_slice(),
+            pardef.entries.as_slice(),
+        )?;
+        drafts.push(draft)?;
+    }
+    Ok(drafts)
+}

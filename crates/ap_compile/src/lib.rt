@@ -1,0 +1,12 @@
+//! Dictionaries made into transducers whose label strings are those that the entries derive.
+#![tactic(auto)]
+
+mod alphabet;
+mod compiling;
+mod drafts;
+mod empties;
+mod sections;
+#[cfg(test)]
+mod tests;
+
+pub use compiling::{CompileRefusal, compile};

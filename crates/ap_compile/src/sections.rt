@@ -1,0 +1,79 @@
+ghost use Rattle.std.specs.Prelude.{◌≡◌, ◌↔◌, List, length, IsTrue, IfOk};
+ghost use Rattle.std.specs.List.{list_all};
+ghost use Rattle.ap_dix.specs.Derivation.{Strings};
+ghost use Rattle.ap_dix.specs.Soundness.{is_sound_entry, IsSound};
+ghost use Rattle.ap_dix.specs.declared.dictionary.Dictionary.{Dictionary as Lexicon};
+ghost use Rattle.ap_fst.specs.Trimming.{IsTrimmed};
+ghost use Rattle.ap_fst.specs.Walks.{AcceptsLabels};
+ghost use Rattle.ap_fst.specs.declared.label.Label.{Label};
+ghost use Rattle.ap_compile.specs.Labels.{derived_labels, ArePlain};
+ghost use Rattle.ap_compile.specs.Drafts.{IsDraftOf, IsMoreBy, Any, SpellsIn, AreDrafts};
+
+use crate::drafts::entries_draft;
+use ap_dix::{Dictionary, Direction, Kind, Section};
+use ap_fst::{Draft, Fst, trim, without_empty};
+use ap_symbol::Memory;
+use std::alloc::Global;
+
+fn with_section(
+    alloc: Global,
+    direction: Direction,
+    drafts: &[Draft],
+    kind: Kind,
+    made: Draft,
+    section: &Section,
+) -> Result<Draft, Memory>
+    requires { IsTrue (list_all (is_sound_entry (length drafts.now)) section.now.entries) }
+    ensures { IfOk result (λ all. (d : Lexicon) → AreDrafts d direction drafts.now → IsMoreBy (SpellsIn d direction kind section.now) made all) }
+{
+    if section.kind != kind {
+        return Ok(made);
+    }
+    let more = entries_draft(alloc, direction, drafts, section.entries.as_slice())?;
+    made.either(more)
+}
+
+/// Accepts what the kept entries of the sections of a kind derive.
+fn kind_draft(
+    alloc: Global,
+    direction: Direction,
+    drafts: &[Draft],
+    kind: Kind,
+    sections: &[Section],
+) -> Result<Draft, Memory>
+    requires { IsTrue (list_all (λ (section : Section). list_all (is_sound_entry (length drafts.now)) section.entries) sections.now) }
+    ensures { IfOk result (λ made. (d : Lexicon) → AreDrafts d direction drafts.now → IsDraftOf (Any (SpellsIn d direction kind) sections.now) made) }
+{
+    let mut made = Draft::nothing(alloc)?;
+    for section in sections {
+        made = with_section(alloc, direction, drafts, kind, made, section)?;
+    }
+    Ok(made)
+}
+
+/// The transducer of the sections of a kind: trimmed, it accepts exactly the label strings that a kept
+/// entry of such a section derives in the direction. The drafts are those of the paradigms.
+pub fn section(
+    alloc: Global,
+    direction: Direction,
+    dictionary: &Dictionary,
+    drafts: &[Draft],
+    kind: Kind,
+) -> Result<Fst, Memory>
+    requires sound { IsSound dictionary.now }
+    requires drafts { AreDrafts dictionary.now direction drafts.now }
+    requires count { length drafts.now ≡ length dictionary.now.pardefs }
+    ensures strings { IfOk result (λ fst. (w : List Label) → AcceptsLabels fst w ↔ Strings dictionary.now direction kind (derived_labels w)) }
+    ensures plain { IfOk result (λ fst. (w : List Label) → AcceptsLabels fst w → ArePlain w) }
+    ensures trimmed { IfOk result (λ fst. IsTrimmed fst) }
+{
+    let draft = kind_draft(
+        alloc,
+        direction,
+        drafts,
+        kind,
+        dictionary.sections.as_slice(),
+    )?;
+    let fst = without_empty(alloc, &draft)?;
+    trim(alloc, &fst)
+}

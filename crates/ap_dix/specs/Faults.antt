@@ -1,0 +1,86 @@
+-- The faults of a dictionary's names, weights and extensions: each stands at a start tag.
+use Rattle.std.specs.Prelude.{ℕ, Bool, not, ◌&&◌, ◌||◌, ◌==◌, nat_lt, List, [], Option, Some, None, is_some, codes, if◌then◌else◌}
+use Rattle.ap_markup.specs.Pieces.{Pair}
+use Rattle.ap_markup.specs.Tree.{Tag, Parts, Done, Run, Element}
+use Rattle.ap_dix.specs.Names.{has_name, with_name}
+use Rattle.ap_dix.specs.Refusals.{kind_number}
+use Rattle.ap_dix.specs.Said.{attribute, name_of, is_named}
+use Rattle.ap_dix.specs.declared.faults.Mark.{Mark}
+use Rattle.ap_dix.specs.declared.refusal.DixKind.{DixKind}
+use Rattle.ap_dix.specs.declared.refusal.DixKind.TheVariants.{DuplicateName, UndeclaredSymbol, UndefinedParadigm, Weighted, Unsupported}
+
+abbrev pub has_attribute : List ℕ → List Pair → Bool
+has_attribute name given = is_some (attribute name given)
+
+-- an attribute of an entry that isn't read
+abbrev pub has_unsupported : List Pair → Bool
+has_unsupported given =
+    has_attribute (codes "alt") given || has_attribute (codes "v") given || has_attribute (codes "vl") given
+    || has_attribute (codes "vr") given || has_attribute (codes "srl") given || has_attribute (codes "slr") given
+
+-- `ig`, `re`, and an entry with such an attribute
+abbrev pub is_unsupported : Tag → Bool
+is_unsupported tag = is_named (codes "ig") tag || is_named (codes "re") tag || (is_named (codes "e") tag && has_unsupported tag.attributes)
+
+-- The fault of least number at a start tag, where these names of symbols are declared and the paradigms of
+-- these names stand above.
+abbrev pub tag_kind : List (List ℕ) → List (List ℕ) → Tag → Option DixKind
+tag_kind declared defined tag =
+    if is_named (codes "pardef") tag && has_name defined (name_of tag.attributes) then Some DuplicateName
+    else if is_named (codes "s") tag && not (has_name declared (name_of tag.attributes)) then Some UndeclaredSymbol
+    else if is_named (codes "par") tag && not (has_name defined (name_of tag.attributes)) then Some UndefinedParadigm
+    else if has_attribute (codes "w") tag.attributes then Some Weighted
+    else if is_unsupported tag then Some Unsupported
+    else None
+
+-- the fault with its place and line
+abbrev pub marked : Tag → Option DixKind → Option Mark
+marked tag None = None
+marked tag (Some kind) = Some (record { place = tag.place; line = tag.line; kind = kind })
+
+abbrev pub or_else : Option Mark → Option Mark → Option Mark
+or_else None next = next
+or_else (Some mark) next = Some mark
+
+-- the names of paradigms once an element is over
+abbrev pub defined_after : Tag → List (List ℕ) → List (List ℕ)
+defined_after tag defined = if is_named (codes "pardef") tag then with_name defined (name_of tag.attributes) else defined
+
+-- the names of the paradigms above and among the parts
+unfoldable pub defined_in : List (List ℕ) → Parts → List (List ℕ)
+defined_in defined Done = defined
+defined_in defined (Run text at more) = defined_in defined more
+defined_in defined (Element tag kids more) = defined_in (defined_after tag (defined_in defined kids)) more
+
+-- the fault of the first start tag that has one, in the order of the document
+unfoldable pub first_in : List (List ℕ) → List (List ℕ) → Parts → Option Mark
+first_in declared defined Done = None
+first_in declared defined (Run text at more) = first_in declared defined more
+first_in declared defined (Element tag kids more) =
+    or_else (marked tag (tag_kind declared defined tag))
+    (or_else (first_in declared defined kids) (first_in declared (defined_after tag (defined_in defined kids)) more))
+
+abbrev pub declared_by : Tag → List (List ℕ) → List (List ℕ)
+declared_by tag names = if is_named (codes "sdef") tag then with_name names (name_of tag.attributes) else names
+
+-- the names with those that each `sdef` among the parts declares, wherever it stands
+unfoldable pub declared_in : List (List ℕ) → Parts → List (List ℕ)
+declared_in names Done = names
+declared_in names (Run text at more) = declared_in names more
+declared_in names (Element tag kids more) = declared_in (declared_in (declared_by tag names) kids) more
+
+-- the fault of the first start tag that has one, in the tree of a root
+abbrev pub first_mark : Parts → Option Mark
+first_mark Done = None
+first_mark (Run text at more) = None
+first_mark (Element tag kids more) = or_else (marked tag (tag_kind (declared_in [] kids) [] tag)) (first_in (declared_in [] kids) [] kids)
+
+-- of two faults, by their places and then by their numbers
+abbrev pub is_before : Mark → Mark → Bool
+is_before f g = nat_lt f.place g.place || (f.place == g.place && nat_lt (kind_number f.kind) (kind_number g.kind))
+
+-- the first of two
+abbrev pub sooner : Option Mark → Option Mark → Option Mark
+sooner None g = g
+sooner (Some f) None = Some f
+sooner (Some f) (Some g) = if is_before g f then Some g else Some f

@@ -1,0 +1,107 @@
+ghost use Rattle.std.specs.Prelude.{◌≡◌, IfOk};
+ghost use Rattle.std.specs.Option.{option_copied};
+ghost use Rattle.ap_markup.specs.View.{parts_of, tag_of};
+ghost use Rattle.ap_dix.specs.Value.{entry_part, entry_parts, entry, entries, side_of, is_yes};
+
+use crate::dictionary::{Entries, Entry, EntryPart, EntryParts, Side};
+use crate::names::Names;
+use crate::said::{attribute, child, is_named, is_text, name_of};
+use crate::words::word_of;
+use ap_markup::{Node, Part};
+use ap_symbol::{Memory, Sequence};
+use std::alloc::Global;
+
+/// The part of an entry that an element is, where the paradigms of these names stand above.
+fn entry_part(alloc: Global, names: &Names, node: &Node) -> Result<Option<EntryPart>, Memory>
+    ensures { IfOk result (λ made. made ≡ entry_part names.now (tag_of node.now) (parts_of node.now.parts.items)) }
+{
+    if is_named("i", node) {
+        return Ok(Some(EntryPart::Identity(word_of(alloc, &node.parts)?)));
+    }
+    if is_named("p", node) {
+        let left = word_of(alloc, child("l", &node.parts))?;
+        let right = word_of(alloc, child("r", &node.parts))?;
+        return Ok(Some(EntryPart::Pair(left, right)));
+    }
+    if is_named("par", node) {
+        return Ok(match names.number_of(name_of(node)) {
+            Some(n) => Some(EntryPart::Paradigm(n)),
+            None => None,
+        });
+    }
+    Ok(None)
+}
+
+fn entry_parts(alloc: Global, names: &Names, parts: &[Part]) -> Result<EntryParts, Memory>
+    ensures { IfOk result (λ made. made ≡ entry_parts names.now (parts_of parts.now)) }
+{
+    let mut made = Sequence::new(alloc);
+    'parts: for part in parts {
+        match part {
+            Part::Run(_, _) => {}
+            Part::Element(node) => {
+                if let Some(one) = entry_part(alloc, names, node)? {
+                    made.push(one)?;
+                }
+            }
+        }
+    }
+    Ok(made)
+}
+
+/// The directions that `r` leaves.
+fn side_of(value: Option<&[char]>) -> Side
+    ensures { result ≡ side_of (option_copied value.entry) }
+{
+    match value {
+        None => Side::Both,
+        Some(value) => {
+            if is_text("LR", value) {
+                Side::LrOnly
+            } else if is_text("RL", value) {
+                Side::RlOnly
+            } else {
+                Side::Both
+            }
+        }
+    }
+}
+
+fn is_yes(value: Option<&[char]>) -> bool
+    ensures { result ≡ is_yes (option_copied value.entry) }
+{
+    match value {
+        None => false,
+        Some(value) => is_text("yes", value),
+    }
+}
+
+fn entry(alloc: Global, names: &Names, node: &Node) -> Result<Entry, Memory>
+    ensures { IfOk result (λ made. made ≡ entry names.now (tag_of node.now) (parts_of node.now.parts.items)) }
+{
+    let given = node.attributes.as_slice();
+    Ok(Entry {
+        line: node.line,
+        side: side_of(attribute("r", given)),
+        ignored: is_yes(attribute("i", given)),
+        parts: entry_parts(alloc, names, &node.parts)?,
+    })
+}
+
+/// The entries among the parts, where the paradigms of these names stand above.
+pub fn entries(alloc: Global, names: &Names, parts: &[Part]) -> Result<Entries, Memory>
+    ensures { IfOk result (λ made. made ≡ entries names.now (parts_of parts.now)) }
+{
+    let mut made = Sequence::new(alloc);
+    'parts: for part in parts {
+        match part {
+            Part::Run(_, _) => {}
+            Part::Element(node) => {
+                if is_named("e", node) {
+                    made.push(entry(alloc, names, node)?)?;
+                }
+            }
+        }
+    }
+    Ok(made)
+}

@@ -1,0 +1,157 @@
+ghost use Rattle.std.specs.Prelude.{◌≡◌, IfOk, OnOk};
+ghost use Rattle.std.specs.Option.{IfNone};
+ghost use Rattle.ap_markup.specs.Tree.{Done};
+ghost use Rattle.ap_markup.specs.View.{parts_of, tag_of, node_then};
+ghost use Rattle.ap_markup.specs.Views.{pairs};
+ghost use Rattle.ap_dix.specs.Faults.{has_attribute, has_unsupported, is_unsupported, tag_kind, marked, first_in, defined_in, declared_in, first_mark, is_before, sooner};
+
+use crate::names::Names;
+use crate::refusal::DixKind;
+use crate::said::{attribute, is_named, name_of};
+use ap_markup::{Attribute, Node, Part};
+use ap_symbol::Memory;
+use std::alloc::Global;
+
+/// A fault with the place and the line of its start tag.
+#[derive(Clone, Copy)]
+pub struct Mark {
+    pub place: u64,
+    pub line: u64,
+    pub kind: DixKind,
+}
+
+fn has_attribute(name: &str, given: &[Attribute]) -> bool
+    ensures { result ≡ has_attribute name.now (pairs given.now) }
+{
+    attribute(name, given).is_some()
+}
+
+fn has_unsupported(given: &[Attribute]) -> bool
+    ensures { result ≡ has_unsupported (pairs given.now) }
+{
+    has_attribute("alt", given)
+        || has_attribute("v", given)
+        || has_attribute("vl", given)
+        || has_attribute("vr", given)
+        || has_attribute("srl", given)
+        || has_attribute("slr", given)
+}
+
+fn is_unsupported(node: &Node) -> bool
+    ensures { result ≡ is_unsupported (tag_of node.now) }
+{
+    is_named("ig", node)
+        || is_named("re", node)
+        || (is_named("e", node) && has_unsupported(node.attributes.as_slice()))
+}
+
+/// The fault of least number at a start tag.
+fn tag_kind(declared: &Names, defined: &Names, node: &Node) -> Option<DixKind>
+    ensures { result ≡ tag_kind declared.now defined.now (tag_of node.now) }
+{
+    let name = name_of(node);
+    if is_named("pardef", node) && defined.has(name) {
+        Some(DixKind::DuplicateName)
+    } else if is_named("s", node) && !declared.has(name) {
+        Some(DixKind::UndeclaredSymbol)
+    } else if is_named("par", node) && !defined.has(name) {
+        Some(DixKind::UndefinedParadigm)
+    } else if has_attribute("w", node.attributes.as_slice()) {
+        Some(DixKind::Weighted)
+    } else if is_unsupported(node) {
+        Some(DixKind::Unsupported)
+    } else {
+        None
+    }
+}
+
+/// The fault of least number at a start tag, with its place.
+fn tag_mark(declared: &Names, defined: &Names, node: &Node) -> Option<Mark>
+    ensures { result ≡ marked (tag_of node.now) (tag_kind declared.now defined.now (tag_of node.now)) }
+{
+    match tag_kind(declared, defined, node) {
+        None => None,
+        Some(kind) => Some(Mark {
+            place: node.place,
+            line: node.line,
+            kind,
+        }),
+    }
+}
+
+/// The fault of the first start tag that has one. The names of the paradigms that the parts define
+/// are added to those above.
+fn first_in<'a>(
+    declared: &Names,
+    defined: &mut Names<'a>,
+    parts: &'a [Part],
+) -> Result<Option<Mark>, Memory>
+    ensures first { IfOk result (λ first. first ≡ first_in declared.now defined.old (parts_of parts.now)) }
+    ensures after { IfOk result (λ first. IfNone first (defined.new ≡ defined_in defined.old (parts_of parts.now))) }
+{
+    'parts: for part in parts {
+        match part {
+            Part::Run(_, _) => {}
+            Part::Element(node) => {
+                if let Some(mark) = tag_mark(declared, defined, node) {
+                    return Ok(Some(mark));
+                }
+                if let Some(mark) = first_in(declared, defined, &node.parts)? {
+                    return Ok(Some(mark));
+                }
+                if is_named("pardef", node) {
+                    defined.add(name_of(node))?;
+                }
+            }
+        }
+    }
+    Ok(None)
+}
+
+/// Adds the names that the parts declare.
+fn declare<'a>(names: &mut Names<'a>, parts: &'a [Part]) -> Result<(), Memory>
+    ensures { OnOk result (names.new ≡ declared_in names.old (parts_of parts.now)) }
+{
+    'parts: for part in parts {
+        match part {
+            Part::Run(_, _) => {}
+            Part::Element(node) => {
+                if is_named("sdef", node) {
+                    names.add(name_of(node))?;
+                }
+                declare(names, &node.parts)?;
+            }
+        }
+    }
+    Ok(())
+}
+
+/// The first fault of the tree of this root.
+pub fn first_mark(alloc: Global, root: &Node) -> Result<Option<Mark>, Memory>
+    ensures { IfOk result (λ first. first ≡ first_mark (node_then root.now Done)) }
+{
+    let mut declared = Names::new(alloc);
+    declare(&mut declared, &root.parts)?;
+    let mut defined = Names::new(alloc);
+    if let Some(mark) = tag_mark(&declared, &defined, root) {
+        return Ok(Some(mark));
+    }
+    first_in(&declared, &mut defined, &root.parts)
+}
+
+fn is_before(f: Mark, g: Mark) -> bool
+    ensures { result ≡ is_before f g }
+{
+    f.place < g.place || (f.place == g.place && f.kind.number() < g.kind.number())
+}
+
+/// The first of two faults, by their places and then by their numbers.
+pub fn sooner(first: Option<Mark>, second: Option<Mark>) -> Option<Mark>
+    ensures { result ≡ sooner first second }
+{
+    match (first, second) {
+        (None, other) => other,
+        (Some(f), None) => Some(f),
+        (Some(f), Some(g)) => { if is_before(g, f) { Some(g) } else { Some(f) } }
+    }
+}

@@ -1,0 +1,4 @@
+pub mod Lines
+pub mod Search
+pub mod Walks
+pub mod Places

@@ -1,0 +1,12 @@
+//! The expansion of a dictionary: its lines, one at a time.
+#![tactic(auto)]
+
+mod expansion;
+mod frame;
+mod line;
+mod search;
+#[cfg(test)]
+mod tests;
+mod walk;
+
+pub use expansion::Expansion;

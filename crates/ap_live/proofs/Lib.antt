@@ -1,0 +1,7 @@
+pub mod Spreading
+pub mod RowLaws
+pub mod Backing
+pub mod TailLaws
+pub mod OutputLaws
+pub mod WordLaws
+pub mod LiveLaws

@@ -1,0 +1,19 @@
+use Rattle.std.proofs.Common.{◌⊎◌, ◌-◌, ◌≤◌, true}
+use Rattle.ap_fst.specs.Lists.{IsIn}
+use Rattle.ap_live.specs.Tails.{BackMany, BackFrom}
+use Rattle.ap_live.proofs.Backing.{Stands}
+use Rattle.ap_live.specs.declared.backward.Item.{Item}
+use Rattle.ap_live.proofs.backward.close_back.Given as goal
+
+abbrev pub invariant-rounds : goal.invariant-rounds
+invariant-rounds l = record {
+  sound : (x : Item) → IsIn x l.items.items → BackMany l.fst.edges l.links l.initial.front.items x;
+  sound_front : (x : Item) → IsIn x l.front.items → BackMany l.fst.edges l.links l.initial.front.items x;
+  base_in : (x : Item) → IsIn x l.initial.front.items → IsIn x l.items.items ⊎ IsIn x l.front.items;
+  closed : (x : Item) → BackFrom l.fst.edges true l.links l.items.items x → IsIn x l.items.items ⊎ IsIn x l.front.items;
+  stands : (x : Item) → IsIn x l.front.items → Stands l.fst l.round x;
+  bounded : l.round ≤ l.fst.states;
+}
+
+abbrev pub decreases-rounds : goal.decreases-rounds
+decreases-rounds l = l.fst.states - l.round

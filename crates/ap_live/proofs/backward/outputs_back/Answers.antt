@@ -1,0 +1,53 @@
+use Rattle.std.proofs.Common.{ap, ◌∙◌, sym, subst, List, ℕ, take, drop, length, ◌+◌, ◌-◌, ◌<◌, false, ◌≡◌, arith, slice_get}
+use Rattle.ap_live.specs.Tails.{AreFinals, IsBack, IsBackMany, AreItems}
+use Rattle.ap_live.specs.declared.backward.Item.{Item}
+use Rattle.ap_live.proofs.TailLaws.{items_last, items_before, finals_below, back_below, backs_by, if_ok_more, row_read}
+use Rattle.ap_fst.specs.Lists.{IsIn}
+use Rattle.ap_live.proofs.Spreading.{from_in}
+use Rattle.ap_live.proofs.Backing.{clean_back, clean_many, clean_finals}
+use Rattle.ap_live.proofs.backward.outputs_back.Goals as goal
+
+pub close_back-requires-clause-below : goal.close_back-requires-clause-below
+close_back-requires-clause-below c = λ x i. finals_below c.args.fst.now c.as_slice.result.now c.in_ok-base.base.items x c.states-at.ensures.sound.finals_in c.in_ok-base.ensures i
+
+pub loop-at-init : goal.loop-at-init
+loop-at-init c =
+    let some : 0 < length c.args.rows.now = c.requires.some in
+    let at : length c.args.rows.now - 1 < length c.args.rows.now = omega arith in
+    record {
+      in_range = at;
+      items = λ seen live. items_last c.args.fst.now seen c.args.rows.now c.index-rows-at.result (length c.args.rows.now - 1) c.in_ok-base.base.items c.in_ok-items.items.items live (omega arith)
+          (row_read c.args.rows.now (length c.args.rows.now - 1) c.index-rows-at.result at c.index-rows-at.is)
+          (subst (λ (z : List ℕ). AreFinals c.args.fst.now z c.in_ok-base.base.items) c.as_slice.ensures.value c.in_ok-base.ensures)
+          (subst (λ (z : List ℕ). IsBackMany c.args.fst.now.edges z c.in_ok-base.base.items c.in_ok-items.items.items) c.as_slice-2.ensures.value c.in_ok-items.ensures);
+      clean = clean_many c.args.fst.now c.as_slice-2.result.now c.in_ok-base.base.items c.in_ok-items.items.items c.requires.writes c.in_ok-items.ensures (clean_finals c.args.fst.now c.as_slice.result.now c.in_ok-base.base.items c.in_ok-base.ensures);
+    }
+
+pub close_back-requires-in-loop-at-clause-below : goal.close_back-requires-in-loop-at-clause-below
+close_back-requires-in-loop-at-clause-below c = λ x i. back_below c.args.fst.now _ _ _ x (from_in c.args.fst.now c.states-at.ensures.sound) c.in_ok-base-2.ensures i
+
+pub loop-at-preserved : goal.loop-at-preserved
+loop-at-preserved c =
+    let rng : c.loop-at.at < length c.args.rows.now = c.loop-at.invariant.in_range in
+    let pos : 0 < c.loop-at.at = c.loop-at-test.true in
+    let one : c.loop-at.at - 1 + 1 ≡ c.loop-at.at = omega arith in
+    record {
+      in_range = omega arith;
+      items = λ seen live. items_before c.args.fst.now seen c.args.rows.now c.index-rows-at-in-loop-at.result c.index-rows-at-in-loop-at-2.result (c.loop-at.at - 1) c.loop-at.items.items c.in_ok-base-2.base.items c.in_ok-items-2.items.items
+          live (omega arith)
+          (ap (λ z. slice_get c.args.rows.now z) one ∙ row_read c.args.rows.now c.loop-at.at c.index-rows-at-in-loop-at.result rng c.index-rows-at-in-loop-at.is)
+          (row_read c.args.rows.now (c.loop-at.at - 1) c.index-rows-at-in-loop-at-2.result (omega arith) c.index-rows-at-in-loop-at-2.is)
+          (subst (λ (z : ℕ). AreItems c.args.fst.now (take z seen) (drop z seen) c.loop-at.items.items) (sym one) (c.loop-at.invariant.items seen live))
+          (subst (λ (z : List ℕ). IsBack c.args.fst.now.edges false z c.loop-at.items.items c.in_ok-base-2.base.items) c.as_slice-in-loop-at.ensures.value
+          (subst (λ (z : List Item). IsBack c.args.fst.now.edges false c.as_slice-in-loop-at.result.now z c.in_ok-base-2.base.items) c.as_slice-in-loop-at-2.ensures.value c.in_ok-base-2.ensures))
+          (subst (λ (z : List ℕ). IsBackMany c.args.fst.now.edges z c.in_ok-base-2.base.items c.in_ok-items-2.items.items) c.as_slice-in-loop-at-3.ensures.value c.in_ok-items-2.ensures);
+      clean = clean_many c.args.fst.now c.as_slice-in-loop-at-3.result.now c.in_ok-base-2.base.items c.in_ok-items-2.items.items c.requires.writes c.in_ok-items-2.ensures
+          (clean_back c.args.fst.now false c.as_slice-in-loop-at.result.now c.as_slice-in-loop-at-2.result.now c.in_ok-base-2.base.items c.requires.writes c.in_ok-base-2.ensures
+          (λ z i. c.loop-at.invariant.clean z (subst (λ (w : List Item). IsIn z w) c.as_slice-in-loop-at-2.ensures.value i)));
+    }
+
+pub returns-clause-words : goal.returns-clause-words
+returns-clause-words c = if_ok_more c.at_start.result _ _ (λ backs h back i. c.loop-at.invariant.clean _ ((h back).0 i)) c.at_start.ensures
+
+pub returns-clause-outputs : goal.returns-clause-outputs
+returns-clause-outputs c = if_ok_more c.at_start.result _ _ (λ backs h seen live. backs_by c.args.fst.now seen c.loop-at.items.items backs.items c.loop-at.at (omega arith) (c.loop-at.invariant.items seen live) h) c.at_start.ensures

@@ -1,0 +1,13 @@
+use Rattle.std.proofs.Common.{ap, ◌∙◌, subst, sym, List}
+use Rattle.std.specs.Prelude.{◌↔◌, reverse, map}
+use Rattle.ap_symbol.specs.declared.symbol.Symbol.{Symbol}
+use Rattle.ap_fst.specs.Lists.{IsIn}
+use Rattle.ap_live.specs.Rows.{Lives}
+use Rattle.ap_live.proofs.LiveLaws.{outputs_law}
+use Rattle.ap_live.proofs.live.Live.finals.Goals as goal
+
+pub returns-clause-outputs : goal.returns-clause-outputs
+returns-clause-outputs c = λ seen live. outputs_law c.args.fst.now seen c.args.self.now c.as_slice.result.now c.in_ok-backs.backs.items c.from_vec.result
+    (c.as_slice.ensures.value ∙ ap (λ (l : Lives). l.rows) c.self.view_is) live c.in_ok-backs.ensures.outputs
+    (λ w. subst (λ (z : List (List Symbol)). IsIn w z ↔ IsIn w (map reverse c.in_ok-backs.backs.items)) (sym c.from_vec.ensures)
+    (subst (λ (z : List (List Symbol)). IsIn w c.in_ok-words.words.items ↔ IsIn w (map reverse z)) c.as_slice-2.ensures.value (c.in_ok-words.ensures.members w)))

@@ -1,0 +1,5 @@
+pub mod Fitting
+pub mod Spreads
+pub mod Rows
+pub mod Tails
+pub mod Outputs

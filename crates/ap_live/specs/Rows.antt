@@ -1,0 +1,47 @@
+use Rattle.std.specs.Prelude.{◌≡◌, ◌↔◌, ℕ, ◌+◌, Bool, IsTrue, List, [], ◌∷◌, ◌++◌, Option, Some, None, slice_get, length, take}
+use Rattle.ap_fst.specs.Lists.{IsIn}
+use Rattle.ap_fst.specs.Machines.{Machine}
+use Rattle.ap_fst.specs.declared.label.Edge.{Edge}
+use Rattle.ap_live.specs.Fitting.{Input}
+use Rattle.ap_live.specs.Spreads.{Picked, Spread, Closed}
+use Rattle.ap_live.specs.declared.rows.Row.{Row}
+
+-- these inputs lead from the start to a state
+pub data Reach (edges : List Edge) : List Input → ℕ → Type 0 where
+  begin : {seen : List Input} {s : ℕ} → seen ≡ [] → s ≡ 0 → Reach edges seen s
+  silent : {seen : List Input} {s : ℕ} (f j : ℕ) → Picked edges None f s j → Reach edges seen f → Reach edges seen s
+  taken : {seen : List Input} {s : ℕ} (before : List Input) (input : Input) (f j : ℕ) → Picked edges (Some input) f s j → seen ≡ before ++ input ∷ [] → Reach edges before f → Reach edges seen s
+
+-- an edge by which a state was reached after these inputs, not after fewer
+pub data Enters (edges : List Edge) (seen : List Input) (j : ℕ) : Type 0 where
+  silently : (f s : ℕ) → Picked edges None f s j → Reach edges seen f → Enters edges seen j
+  taking : (before : List Input) (input : Input) (f s : ℕ) → seen ≡ before ++ input ∷ [] → Picked edges (Some input) f s j → Reach edges before f → Enters edges seen j
+
+-- the row after these inputs
+pub record IsRow (edges : List Edge) (seen : List Input) (row : Row) : Type 0 where
+  pub sound : (s : ℕ) → IsIn s row.states.items → Reach edges seen s
+  pub complete : (s : ℕ) → Reach edges seen s → IsIn s row.states.items
+  pub links_sound : (j : ℕ) → IsIn j row.links.items → Enters edges seen j
+  pub links_complete : (j : ℕ) → Enters edges seen j → IsIn j row.links.items
+
+-- a row for each number of inputs so far, from none on
+pub record AreRows (edges : List Edge) (seen : List Input) (rows : List Row) : Type 0 where
+  pub count : length rows ≡ length seen + 1
+  pub each : (k : ℕ) (row : Row) → slice_get rows k ≡ Some row → IsRow edges (take k seen) row
+
+-- a row from the states of the last one
+pub record IsNext (edges : List Edge) (pick : Option Input) (last : List ℕ) (row : Row) : Type 0 where
+  pub base : List ℕ
+  pub links : List ℕ
+  pub taken : Spread edges pick last [] [] base links
+  pub closed : Closed edges base links row.states.items row.links.items
+
+-- what is seen of a live set: its rows, and whether the transducer has no final state
+pub record Lives : Type 0 where
+  pub rows : List Row
+  pub is_void : Bool
+
+-- the live set of a transducer after these inputs
+pub record IsLive (m : Machine) (seen : List Input) (l : Lives) : Type 0 where
+  pub rows_are : AreRows m.edges seen l.rows
+  pub void_is : IsTrue l.is_void ↔ (m.finals ≡ [])

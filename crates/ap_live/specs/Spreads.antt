@@ -1,0 +1,61 @@
+use Rattle.std.specs.Prelude.{◌≡◌, ◌⊎◌, ℕ, ◌<◌, true, List, [], ◌∷◌, ◌++◌, Option, Some, None, slice_get, nat_eq, if◌then◌else◌}
+use Rattle.std.specs.List.{list_any, IsDistinct}
+use Rattle.ap_fst.specs.Lists.{IsIn}
+use Rattle.ap_fst.specs.declared.label.Edge.{Edge}
+use Rattle.ap_live.specs.Fitting.{Input, picks}
+
+-- a state more, unless it is there
+abbrev pub with_state : List ℕ → ℕ → List ℕ
+with_state states s = if list_any (λ y. nat_eq y s) states then states else states ++ s ∷ []
+
+-- a state more; over edges with an empty left side no state is listed twice
+pub record Adds (pick : Option Input) (states : List ℕ) (s : ℕ) (states' : List ℕ) : Type 0 where
+  pub more : List ℕ
+  pub grown : states' ≡ states ++ more
+  pub only : (x : ℕ) → IsIn x more → x ≡ s
+  pub there : IsIn s states'
+  pub distinct : pick ≡ None → IsDistinct nat_eq states → IsDistinct nat_eq states'
+
+-- An edge that is picked leads from a state to another.
+pub record Picked (edges : List Edge) (pick : Option Input) (from to j : ℕ) : Type 0 where
+  pub edge : Edge
+  pub at : slice_get edges j ≡ Some edge
+  pub from_is : from ≡ edge.from
+  pub to_is : to ≡ edge.to
+  pub passes : picks pick edge ≡ true
+
+-- what is added is reached by picked edges from one state, at places below a bound
+pub record SpreadOne (edges : List Edge) (pick : Option Input) (from bound : ℕ) (states links states' links' : List ℕ) : Type 0 where
+  pub more : List ℕ
+  pub grown : states' ≡ states ++ more
+  pub sound : (s : ℕ) → IsIn s more → (j : ℕ) × Picked edges pick from s j
+  pub complete : (s j : ℕ) → Picked edges pick from s j → j < bound → IsIn s states' × IsIn j links'
+  pub links_sound : (j : ℕ) → IsIn j links' → IsIn j links ⊎ ((s : ℕ) × Picked edges pick from s j)
+  pub links_kept : (j : ℕ) → IsIn j links → IsIn j links'
+  pub distinct : pick ≡ None → IsDistinct nat_eq states → IsDistinct nat_eq states'
+
+-- An edge that is picked leads from one of these states to a state.
+pub record PickedFrom (edges : List Edge) (pick : Option Input) (froms : List ℕ) (to j : ℕ) : Type 0 where
+  pub from : ℕ
+  pub listed : IsIn from froms
+  pub picked : Picked edges pick from to j
+
+-- what is added is reached by picked edges from these states
+pub record Spread (edges : List Edge) (pick : Option Input) (froms states links states' links' : List ℕ) : Type 0 where
+  pub more : List ℕ
+  pub grown : states' ≡ states ++ more
+  pub sound : (s : ℕ) → IsIn s more → (j : ℕ) × PickedFrom edges pick froms s j
+  pub complete : (s j : ℕ) → PickedFrom edges pick froms s j → IsIn s states' × IsIn j links'
+  pub links_sound : (j : ℕ) → IsIn j links' → IsIn j links ⊎ ((s : ℕ) × PickedFrom edges pick froms s j)
+  pub links_kept : (j : ℕ) → IsIn j links → IsIn j links'
+  pub distinct : pick ≡ None → IsDistinct nat_eq states → IsDistinct nat_eq states'
+
+-- reached from these states by edges with an empty left side
+pub data From (edges : List Edge) (base : List ℕ) : ℕ → Type 0 where
+  given : {s : ℕ} → IsIn s base → From edges base s
+  onward : {s : ℕ} (f j : ℕ) → Picked edges None f s j → From edges base f → From edges base s
+
+-- all that is reached from these states so, with the edges
+pub record Closed (edges : List Edge) (base links states' links' : List ℕ) : Type 0 where
+  pub spread : Spread edges None states' base links states' links'
+  pub sound : (s : ℕ) → IsIn s states' → From edges base s

@@ -1,0 +1,237 @@
+ghost use Rattle.std.specs.Prelude.{◌⊎◌, length, ◌∷◌, ◌≡◌, ◌<◌, ◌++◌, ℕ, [], List, IfOk, OnOk, IsTrue, slice_get, ◌↔◌, true};
+ghost use Rattle.std.specs.Option.{option_to_list, option_copied};
+ghost use Rattle.ap_fst.specs.Lists.{IsIn};
+ghost use Rattle.ap_live.specs.Fitting.{Input, is_empty_side};
+ghost use Rattle.ap_live.specs.Tails.{IsBack, IsBackMany, AddsBack, AreFinals, AreBacks};
+ghost use Rattle.ap_fst.specs.Silence.{HasNoEmptyCycle};
+ghost use Rattle.ap_live.specs.Rows.{AreRows};
+ghost use Rattle.ap_live.specs.Outputs.{WritesWords};
+ghost use Rattle.std.specs.List.{list_all};
+ghost use Rattle.ap_symbol.specs.Words.{is_word_symbol};
+ghost use Rattle.ap_symbol.specs.declared.symbol.Symbol.{Symbol};
+
+use crate::rows::Row;
+use ap_fst::{Edge, Fst, empty_cycle_law};
+use ap_symbol::{Memory, Sequence, Symbol};
+use std::alloc::Global;
+
+/// The symbols of an output, the last first.
+pub(crate) type Symbols = Sequence<Symbol>;
+
+/// A state, and an output from it to the end, its last symbol first.
+#[derive(Debug, Drop)]
+pub struct Item {
+    state: usize,
+    back: Symbols,
+}
+
+fn copy_symbols(alloc: Global, symbols: &Symbols) -> Result<Symbols, Memory>
+    ensures { IfOk result (λ made. made ≡ symbols.now) }
+{
+    let mut made = Sequence::new(alloc);
+    for symbol in symbols.as_slice() {
+        made.push(symbol.copy(alloc)?)?;
+    }
+    Ok(made)
+}
+
+/// The item before an edge.
+fn item_before(alloc: Global, edge: &Edge, item: &Item) -> Result<Item, Memory>
+    ensures { IfOk result (λ made. made ≡ record { state = edge.now.from; back = item.now.back ++ option_to_list edge.now.label.right }) }
+{
+    let mut back = copy_symbols(alloc, &item.back)?;
+    match &edge.label.right {
+        None => Ok(Item {
+            state: edge.from,
+            back,
+        }),
+        Some(symbol) => {
+            back.push(symbol.copy(alloc)?)?;
+            Ok(Item {
+                state: edge.from,
+                back,
+            })
+        }
+    }
+}
+
+fn is_silent(edge: &Edge) -> bool
+    ensures { result ≡ is_empty_side edge.now.label.left }
+{
+    match &edge.label.left {
+        None => true,
+        Some(_) => false,
+    }
+}
+
+fn edge_at(edges: &[Edge], at: usize) -> Option<&Edge>
+    ensures { option_copied result ≡ slice_get edges.now at }
+{
+    edges.get(at)
+}
+
+fn leads(edge: &Edge, item: &Item, silent: bool) -> bool
+    ensures { IsTrue result ↔ ((item.now.state ≡ edge.now.to) × (is_empty_side edge.now.label.left ≡ silent)) }
+{
+    edge.to == item.state && is_silent(edge) == silent
+}
+
+/// Adds the item before one item by one link, if there is one.
+fn add_link(
+    alloc: Global,
+    fst: &Fst,
+    link: usize,
+    item: &Item,
+    silent: bool,
+    found: &mut Vec<Item>,
+) -> Result<(), Memory>
+    ensures { OnOk result (AddsBack fst.now.edges silent (link ∷ []) (item.now ∷ []) found.old.items found.new.items) }
+{
+    let Some(edge) = edge_at(fst.edges(), link) else {
+        return Ok(());
+    };
+    if !leads(edge, item, silent) {
+        return Ok(());
+    }
+    found.push(item_before(alloc, edge, item)?)?;
+    Ok(())
+}
+
+/// Adds the items before one item, by these links.
+fn add_before(
+    alloc: Global,
+    fst: &Fst,
+    links: &[usize],
+    item: &Item,
+    silent: bool,
+    found: &mut Vec<Item>,
+) -> Result<(), Memory>
+    ensures { OnOk result (AddsBack fst.now.edges silent links.now (item.now ∷ []) found.old.items found.new.items) }
+{
+    for link in links {
+        add_link(alloc, fst, *link, item, silent, found)?;
+    }
+    Ok(())
+}
+
+/// The items before these, by these links.
+fn backward(
+    alloc: Global,
+    fst: &Fst,
+    links: &[usize],
+    items: &[Item],
+    silent: bool,
+) -> Result<Vec<Item>, Memory>
+    ensures { IfOk result (λ found. IsBack fst.now.edges silent links.now items.now found.items) }
+{
+    let mut found = Vec::new(alloc);
+    for item in items {
+        add_before(alloc, fst, links, item, silent, &mut found)?;
+    }
+    Ok(found)
+}
+
+fn is_over(items: &Vec<Item>) -> bool
+    ensures { IsTrue result ↔ (length items.now.items ≡ 0) }
+{
+    items.as_slice().is_empty()
+}
+
+/// All that empty links lead back to.
+fn close_back(
+    alloc: Global,
+    fst: &Fst,
+    links: &[usize],
+    base: Vec<Item>,
+) -> Result<Vec<Item>, Memory>
+    requires no_cycle { HasNoEmptyCycle fst.now }
+    requires below { (x : Item) → IsIn x base.items → x.state < fst.now.states }
+    ensures { IfOk result (λ items. IsBackMany fst.now.edges links.now base.items items.items) }
+{
+    let mut items = Vec::new(alloc);
+    let mut front = base;
+    let mut round: usize = 0;
+    let _ = fst.states();
+    empty_cycle_law();
+    'rounds: while !is_over(&front) {
+        let next = backward(alloc, fst, links, front.as_slice(), true)?;
+        items.append(&mut front)?;
+        front = next;
+        round += 1;
+    }
+    Ok(items)
+}
+
+/// The final ones of these states, with an empty output.
+fn final_items(alloc: Global, fst: &Fst, states: &[usize]) -> Result<Vec<Item>, Memory>
+    ensures { IfOk result (λ items. AreFinals fst.now states.now items.items) }
+{
+    let mut items = Vec::new(alloc);
+    for state in states {
+        if fst.is_final(*state) {
+            items.push(Item {
+                state: *state,
+                back: Sequence::new(alloc),
+            })?;
+        }
+    }
+    Ok(items)
+}
+
+fn add_start(backs: &mut Vec<Symbols>, item: Item) -> Result<(), Memory>
+    ensures { OnOk result ((back : List Symbol) → IsIn back backs.new.items ↔ (IsIn back backs.old.items ⊎ (record { state = 0; back = back } ≡ item))) }
+{
+    let Item { state, back } = item;
+    if state != 0 {
+        return Ok(());
+    }
+    backs.push(back)?;
+    Ok(())
+}
+
+/// The outputs of the items at the start.
+fn at_start(alloc: Global, items: Vec<Item>) -> Result<Vec<Symbols>, Memory>
+    ensures { IfOk result (λ backs. (back : List Symbol) → IsIn back backs.items ↔ IsIn (record { state = 0; back = back }) items.items) }
+{
+    let mut backs = Vec::new(alloc);
+    for item in items {
+        add_start(&mut backs, item)?;
+    }
+    Ok(backs)
+}
+
+/// The outputs of these rows, each last symbol first.
+fn outputs_back(alloc: Global, fst: &Fst, rows: &[Row]) -> Result<Vec<Symbols>, Memory>
+    requires no_cycle { HasNoEmptyCycle fst.now }
+    requires writes { WritesWords fst.now }
+    requires some { 0 < length rows.now }
+    ensures outputs { IfOk result (λ backs. (seen : List Input) → AreRows fst.now.edges seen rows.now → AreBacks fst.now seen backs.items) }
+    ensures words { IfOk result (λ backs. (back : List Symbol) → IsIn back backs.items → IsTrue (list_all is_word_symbol back)) }
+{
+    let _ = fst.states();
+    let mut at = rows.len() - 1;
+    let last = &rows[at];
+    let base = final_items(alloc, fst, last.states.as_slice())?;
+    let mut items = close_back(alloc, fst, last.links.as_slice(), base)?;
+    while at > 0 {
+        let row = &rows[at];
+        let base = backward(alloc, fst, row.links.as_slice(), items.as_slice(), false)?;
+        at -= 1;
+        let earlier = &rows[at];
+        items = close_back(alloc, fst, earlier.links.as_slice(), base)?;
+    }
+    at_start(alloc, items)
+}
+
+/// The same, and none where there is no row.
+pub(crate) fn backs_of(alloc: Global, fst: &Fst, rows: &[Row]) -> Result<Vec<Symbols>, Memory>
+    requires no_cycle { HasNoEmptyCycle fst.now }
+    requires writes { WritesWords fst.now }
+    ensures outputs { IfOk result (λ backs. (seen : List Input) → AreRows fst.now.edges seen rows.now → AreBacks fst.now seen backs.items) }
+    ensures words { IfOk result (λ backs. (back : List Symbol) → IsIn back backs.items → IsTrue (list_all is_word_symbol back)) }
+{
+    if rows.is_empty() {
+        return Ok(Vec::new(alloc));
+    }
+    outputs_back(alloc, fst, rows)
+}

@@ -1,0 +1,14 @@
+//! Live sets: the states of a transducer that the inputs so far lead to, and the outputs of the
+//! paths that lead on to a final state.
+#![tactic(auto)]
+
+mod backward;
+mod live;
+mod picking;
+mod rows;
+#[cfg(test)]
+mod tests;
+mod wording;
+
+pub use live::Live;
+pub use wording::writes_words;

@@ -1,0 +1,113 @@
+ghost use Rattle.std.specs.Prelude.{◌≡◌, ◌++◌, ◌∷◌, ◌↔◌, [], List, IfOk, OnOk, OnErr, IsTrue, length, take};
+ghost use Rattle.std.specs.List.Sorted.{IsStrictlySortedBy};
+ghost use Rattle.ap_symbol.specs.Rendering.{word_cmp};
+ghost use Rattle.ap_symbol.specs.declared.symbol.Symbol.{Symbol};
+ghost use Rattle.ap_fst.specs.Lists.{IsIn};
+ghost use Rattle.ap_fst.specs.Machines.{Machine, IsMachine};
+ghost use Rattle.ap_fst.specs.Silence.{HasNoEmptyCycle};
+ghost use Rattle.ap_fst.specs.Trimming.{IsTrimmed};
+
+use crate::backward::backs_of;
+use crate::rows::{Row, add_row, cut_rows, ends_finally, first_rows, reaches_none};
+use crate::wording::ordered_words;
+use ap_fst::Fst;
+use ap_symbol::{Memory, Symbol, Words};
+use std::alloc::Global;
+use std::marker::Model;
+
+/// What the inputs so far reach in a transducer: for each number of inputs, from none on, the
+/// states reached and the edges by which each was reached. It keeps no output; `finals` makes the
+/// outputs, back from the final states alone, so that a path that leads to none costs nothing.
+///
+/// A transducer reads its left sides. Its symbols fit the inputs one by one, each under the flag
+/// for case of its own step.
+#[derive(Debug, Drop)]
+pub struct Live {
+    rows: Vec<Row>,
+    is_void: bool,
+}
+
+impl Model for Live {
+    ghost use Rattle.ap_live.specs.Rows.{Lives};
+
+    ghost Value = { Lives };
+
+    ghost view = { λ l. record { rows = l.rows.items; is_void = l.is_void } };
+}
+
+fn has_no_final(fst: &Fst) -> bool
+    ensures { IsTrue result ↔ (fst.now.finals ≡ []) }
+{
+    fst.finals().is_empty()
+}
+
+impl Live {
+    ghost use Rattle.ap_live.specs.Fitting.{Input};
+    ghost use Rattle.ap_live.specs.Rows.{IsLive};
+    ghost use Rattle.ap_live.specs.Outputs.{IsOutput, FitBeginning, WritesWords};
+
+    /// What no input reaches: the start, and all that edges with an empty left side lead to from it.
+    pub fn start(alloc: Global, fst: &Fst) -> Result<Live, Memory>
+        ensures { IfOk result (λ live. IsLive fst.now [] live) }
+    {
+        let rows = first_rows(alloc, fst)?;
+        let is_void = has_no_final(fst);
+        Ok(Live { rows, is_void })
+    }
+
+    /// Goes on by one input of the same transducer: over the edges whose left symbol fits it, and
+    /// then over those with an empty left side. `sensitive` says whether case counts at this step.
+    /// After a refusal, which means want of memory, it is unchanged.
+    pub fn step(&mut self, fst: &Fst, input: &Symbol, sensitive: bool) -> Result<(), Memory>
+        ensures ok { OnOk result ((seen : List Input) → IsLive fst.now seen self.old → IsLive fst.now (seen ++ record { symbol = input.now; sensitive = sensitive } ∷ []) self.new) }
+        ensures err { OnErr result (self.new ≡ self.old) }
+    {
+        add_row(&mut self.rows, fst, input, sensitive)
+    }
+
+    /// The outputs of the inputs so far, for the same transducer, which has no cycle of edges with
+    /// an empty left side and no white-space letter on a right side: the right words of exactly the
+    /// accepted label lists whose left word fits the inputs, ascending by their rendered bytes, each
+    /// once.
+    pub fn finals(&self, alloc: Global, fst: &Fst) -> Result<Words, Memory>
+        requires no_cycle { HasNoEmptyCycle fst.now }
+        requires writes { WritesWords fst.now }
+        ensures outputs { IfOk result (λ words. (seen : List Input) → IsLive fst.now seen self.now → (output : List Symbol) → IsIn output words ↔ IsOutput fst.now seen output) }
+        ensures order { IfOk result (λ words. IsStrictlySortedBy word_cmp words) }
+    {
+        let backs = backs_of(alloc, fst, self.rows.as_slice())?;
+        let words = ordered_words(alloc, backs.as_slice())?;
+        Ok(Words::from_vec(words))
+    }
+
+    /// Whether `finals` would give a word: whether an accepted label list has a left word that fits
+    /// the inputs so far. It makes no word and takes no memory.
+    pub fn accepts(&self, fst: &Fst) -> bool
+        ensures { (seen : List Input) → IsLive fst.now seen self.now → (IsTrue result ↔ ((output : List Symbol) × IsOutput fst.now seen output)) }
+    {
+        ends_finally(fst, self.rows.as_slice())
+    }
+
+    /// The number of inputs so far.
+    pub fn len(&self) -> usize
+        ensures { (m : Machine) (seen : List Input) → IsLive m seen self.now → result ≡ length seen }
+    {
+        self.rows.len().saturating_sub(1)
+    }
+
+    /// Goes back to the first so many inputs; where there are no more, nothing changes. 0 makes it
+    /// what `start` gave. It takes no memory.
+    pub fn cut(&mut self, len: usize)
+        ensures { (m : Machine) (seen : List Input) → IsLive m seen self.old → IsLive m (take len seen) self.new }
+    {
+        cut_rows(&mut self.rows, len);
+    }
+
+    /// Whether the inputs fit no beginning of the left word of an accepted label list. This is exact
+    /// for a trimmed transducer, which is the same throughout. It takes no memory.
+    pub fn is_dead(&self) -> bool
+        ensures { (m : Machine) (seen : List Input) → IsMachine m → IsTrimmed m → IsLive m seen self.now → (IsTrue result ↔ (FitBeginning m seen → ⊥)) }
+    {
+        self.is_void || reaches_none(self.rows.as_slice())
+    }
+}

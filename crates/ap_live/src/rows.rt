@@ -1,0 +1,204 @@
+ghost use Rattle.std.specs.Prelude.{◌≡◌, ◌^◌, ◌<◌, ◌≤◌, ◌++◌, ℕ, [], ◌∷◌, List, IfOk, OnOk, OnErr, IsTrue, ◌↔◌, nat_eq, length, take};
+ghost use Rattle.std.specs.List.{IsDistinct};
+ghost use Rattle.ap_fst.specs.Lists.{IsIn};
+ghost use Rattle.ap_live.specs.Rows.{IsNext, Reach, AreRows};
+ghost use Rattle.ap_live.specs.Fitting.{Input, pick_of};
+ghost use Rattle.ap_live.specs.Spreads.{Adds, with_state, SpreadOne, Spread, Closed};
+
+use crate::picking::{Pick, passes};
+use ap_fst::{Edge, Fst};
+use ap_symbol::{Memory, Symbol};
+use std::alloc::Global;
+
+fn add_state(states: &mut Vec<usize>, state: usize) -> Result<(), Memory>
+    ensures { OnOk result (states.new.items ≡ with_state states.old.items state) }
+{
+    if !states.contains(&state) {
+        states.push(state)?;
+    }
+    Ok(())
+}
+
+/// Adds a state that a picked edge leads to. Over edges with an empty left side it is added once;
+/// else `sort_states` drops what is there twice.
+fn enter(states: &mut Vec<usize>, state: usize, pick: Pick<'_>) -> Result<(), Memory>
+    ensures { OnOk result (Adds (pick_of pick.entry) states.old.items state states.new.items) }
+{
+    match pick {
+        Pick::Silent => {
+            add_state(states, state)?;
+            Ok(())
+        }
+        Pick::Fitting(_, _) => {
+            states.push(state)?;
+            Ok(())
+        }
+    }
+}
+
+/// Puts states into order, each once.
+fn sort_states(states: &mut Vec<usize>)
+    ensures members { (s : ℕ) → IsIn s states.new.items ↔ IsIn s states.old.items }
+    ensures distinct { IsDistinct nat_eq states.new.items }
+{
+    states.sort_unstable();
+    states.dedup();
+}
+
+/// Adds what one state reaches by the edges that are picked.
+fn spread_from(
+    fst: &Fst,
+    from: usize,
+    pick: Pick<'_>,
+    states: &mut Vec<usize>,
+    links: &mut Vec<usize>,
+) -> Result<(), Memory>
+    ensures { OnOk result (SpreadOne fst.now.edges (pick_of pick.entry) from (length fst.now.edges) states.old.items links.old.items states.new.items links.new.items) }
+{
+    let edges = fst.edges();
+    let (low, high) = fst.span(from);
+    for j in low..high {
+        let edge = &edges[j];
+        if passes(pick, edge) {
+            links.push(j)?;
+            enter(states, edge.to, pick)?;
+        }
+    }
+    Ok(())
+}
+
+/// Adds what these states reach by the edges that are picked.
+fn spread(
+    fst: &Fst,
+    froms: &[usize],
+    pick: Pick<'_>,
+    states: &mut Vec<usize>,
+    links: &mut Vec<usize>,
+) -> Result<(), Memory>
+    ensures { OnOk result (Spread fst.now.edges (pick_of pick.entry) froms.now states.old.items links.old.items states.new.items links.new.items) }
+{
+    for from in froms {
+        spread_from(fst, *from, pick, states, links)?;
+    }
+    Ok(())
+}
+
+/// Adds all that these states reach by edges with an empty left side.
+fn close(fst: &Fst, states: &mut Vec<usize>, links: &mut Vec<usize>) -> Result<(), Memory>
+    requires distinct { IsDistinct nat_eq states.old.items }
+    requires below { (s : ℕ) → IsIn s states.old.items → s < fst.now.states }
+    ensures { OnOk result (Closed fst.now.edges states.old.items links.old.items states.new.items links.new.items) }
+{
+    let _ = fst.states();
+    let mut at = 0;
+    while at < states.len() {
+        let from = states[at];
+        spread_from(fst, from, Pick::Silent, states, links)?;
+        at += 1;
+    }
+    Ok(())
+}
+
+/// The states reached after so many inputs, each once, and the places of the edges by which each
+/// was reached.
+#[derive(Debug, Drop)]
+pub struct Row {
+    pub states: Vec<usize>,
+    pub links: Vec<usize>,
+}
+
+fn next_row(alloc: Global, fst: &Fst, last: &[usize], pick: Pick<'_>) -> Result<Row, Memory>
+    ensures { IfOk result (λ row. IsNext fst.now.edges (pick_of pick.entry) last.now row) }
+{
+    let _ = fst.states();
+    let mut states = Vec::new(alloc);
+    let mut links = Vec::new(alloc);
+    spread(fst, last, pick, &mut states, &mut links)?;
+    sort_states(&mut states);
+    close(fst, &mut states, &mut links)?;
+    Ok(Row { states, links })
+}
+
+fn first_row(alloc: Global, fst: &Fst) -> Result<Row, Memory>
+    ensures { IfOk result (λ row. Closed fst.now.edges (0 ∷ []) [] row.states.items row.links.items) }
+{
+    let _ = fst.states();
+    let mut states = Vec::new(alloc);
+    let mut links = Vec::new(alloc);
+    states.push(0)?;
+    close(fst, &mut states, &mut links)?;
+    Ok(Row { states, links })
+}
+
+/// The rows before any input.
+pub(crate) fn first_rows(alloc: Global, fst: &Fst) -> Result<Vec<Row>, Memory>
+    ensures { IfOk result (λ rows. AreRows fst.now.edges [] rows.items) }
+{
+    let mut rows = Vec::new(alloc);
+    rows.push(first_row(alloc, fst)?)?;
+    Ok(rows)
+}
+
+/// Adds the row after one input more. After a refusal the rows are unchanged.
+pub(crate) fn add_row(
+    rows: &mut Vec<Row>,
+    fst: &Fst,
+    input: &Symbol,
+    sensitive: bool,
+) -> Result<(), Memory>
+    ensures ok { OnOk result ((seen : List Input) → AreRows fst.now.edges seen rows.old.items → AreRows fst.now.edges (seen ++ record { symbol = input.now; sensitive = sensitive } ∷ []) rows.new.items) }
+    ensures err { OnErr result (rows.new.items ≡ rows.old.items) }
+{
+    let alloc = *rows.allocator();
+    let Some(last) = rows.last() else {
+        return Ok(());
+    };
+    let row = next_row(
+        alloc,
+        fst,
+        last.states.as_slice(),
+        Pick::Fitting(input, sensitive),
+    )?;
+    rows.push(row)?;
+    Ok(())
+}
+
+/// Whether the last row has no state.
+pub(crate) fn reaches_none(rows: &[Row]) -> bool
+    ensures { (edges : List Edge) (seen : List Input) → AreRows edges seen rows.now → (IsTrue result ↔ ((s : ℕ) → Reach edges seen s → ⊥)) }
+{
+    match rows.last() {
+        None => true,
+        Some(last) => last.states.as_slice().is_empty(),
+    }
+}
+
+fn holds_final(fst: &Fst, states: &[usize]) -> bool
+    ensures { IsTrue result ↔ ((s : ℕ) × (IsIn s states.now × IsIn s fst.now.finals)) }
+{
+    for state in states {
+        if fst.is_final(*state) {
+            return true;
+        }
+    }
+    false
+}
+
+/// Whether the last row has a final state.
+pub(crate) fn ends_finally(fst: &Fst, rows: &[Row]) -> bool
+    ensures { (seen : List Input) → AreRows fst.now.edges seen rows.now → (IsTrue result ↔ ((s : ℕ) × (Reach fst.now.edges seen s × IsIn s fst.now.finals))) }
+{
+    match rows.last() {
+        None => false,
+        Some(last) => holds_final(fst, last.states.as_slice()),
+    }
+}
+
+/// Goes back to the rows of the first so many inputs.
+pub(crate) fn cut_rows(rows: &mut Vec<Row>, len: usize)
+    ensures { (edges : List Edge) (seen : List Input) → AreRows edges seen rows.old.items → AreRows edges (take len seen) rows.new.items }
+{
+    if len < rows.as_slice().len() {
+        rows.truncate(len + 1);
+    }
+}

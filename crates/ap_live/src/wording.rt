@@ -1,0 +1,101 @@
+ghost use Rattle.std.specs.Prelude.{◌≡◌, ◌↔◌, List, IfOk, IsTrue, reverse, map};
+ghost use Rattle.std.specs.List.{list_all};
+ghost use Rattle.std.specs.List.Sorted.{IsStrictlySortedBy};
+ghost use Rattle.ap_symbol.specs.Rendering.{word_cmp};
+ghost use Rattle.ap_symbol.specs.Words.{AreProper, is_word_symbol};
+ghost use Rattle.ap_symbol.specs.declared.symbol.Symbol.{Symbol};
+ghost use Rattle.ap_fst.specs.Lists.{IsIn};
+ghost use Rattle.ap_live.specs.Outputs.{WritesWords, is_word_side};
+
+use crate::backward::Symbols;
+use ap_fst::{Edge, Fst};
+use ap_symbol::{Memory, Symbol, Word, compare, one_rendering};
+use std::alloc::Global;
+
+/// The word whose symbols are these, the last first.
+fn word_of(alloc: Global, back: &Symbols) -> Result<Word, Memory>
+    requires { IsTrue (list_all is_word_symbol back.now) }
+    ensures is { IfOk result (λ word. word ≡ reverse back.now) }
+    ensures proper { IfOk result (λ word. AreProper word) }
+{
+    let symbols = back.as_slice();
+    let mut word = Word::new(alloc);
+    let mut at = symbols.len();
+    while at > 0 {
+        at -= 1;
+        word.push(symbols[at].copy(alloc)?)?;
+    }
+    let _ = word.symbols();
+    Ok(word)
+}
+
+fn words_of(alloc: Global, backs: &[Symbols]) -> Result<Vec<Word>, Memory>
+    requires { (back : List Symbol) → IsIn back backs.now → IsTrue (list_all is_word_symbol back) }
+    ensures is { IfOk result (λ words. words.items ≡ map reverse backs.now) }
+    ensures proper { IfOk result (λ words. (w : List Symbol) → IsIn w words.items → AreProper w) }
+{
+    let mut words = Vec::with_capacity(alloc, backs.len())?;
+    for back in backs {
+        words.push(word_of(alloc, back)?)?;
+    }
+    Ok(words)
+}
+
+/// Puts words into the order of their rendered bytes, each once.
+fn sort_words(words: &mut Vec<Word>)
+    requires { (w : List Symbol) → IsIn w words.old.items → AreProper w }
+    ensures members { (w : List Symbol) → IsIn w words.new.items ↔ IsIn w words.old.items }
+    ensures order { IsStrictlySortedBy word_cmp words.new.items }
+{
+    one_rendering();
+    words.sort_unstable_by(|a, b| compare(a, b));
+    words.dedup_by(|a, b| compare(a, b).is_eq());
+}
+
+/// The words of these symbols, each given with its last symbol first, in the order of their
+/// rendered bytes, each once.
+pub(crate) fn ordered_words(alloc: Global, backs: &[Symbols]) -> Result<Vec<Word>, Memory>
+    requires { (back : List Symbol) → IsIn back backs.now → IsTrue (list_all is_word_symbol back) }
+    ensures members { IfOk result (λ words. (w : List Symbol) → IsIn w words.items ↔ IsIn w (map reverse backs.now)) }
+    ensures order { IfOk result (λ words. IsStrictlySortedBy word_cmp words.items) }
+{
+    let mut words = words_of(alloc, backs)?;
+    sort_words(&mut words);
+    Ok(words)
+}
+
+fn is_word_symbol_of(symbol: &Symbol) -> bool
+    ensures { result ≡ is_word_symbol symbol.now }
+{
+    match symbol {
+        Symbol::Letter(c) => !matches!(*c, '\t' | '\n' | '\r' | ' '),
+        _ => true,
+    }
+}
+
+fn writes_word(edge: &Edge) -> bool
+    ensures { result ≡ is_word_side edge.now.label.right }
+{
+    match &edge.label.right {
+        None => true,
+        Some(symbol) => is_word_symbol_of(symbol),
+    }
+}
+
+fn all_write(edges: &[Edge]) -> bool
+    ensures { IsTrue result ↔ ((e : Edge) → IsIn e edges.now → IsTrue (is_word_side e.label.right)) }
+{
+    for edge in edges {
+        if !writes_word(edge) {
+            return false;
+        }
+    }
+    true
+}
+
+/// Whether no label has a white-space letter (U+0009, U+000A, U+000D, U+0020) on its right side.
+pub fn writes_words(fst: &Fst) -> bool
+    ensures { IsTrue result ↔ WritesWords fst.now }
+{
+    all_write(fst.edges())
+}
