@@ -25,7 +25,7 @@ use Rattle.ap_tool.specs.Output.{stray_place, is_readable_lem, IsOutput}
 use Rattle.ap_tool.specs.Stream.{stream_status, status_of_ending, Streams, Stops, StreamsOrStops, IsWritten}
 use Rattle.ap_tool.specs.Opening.{FilesStanding, IsFileRefusal, HasText, Opens, IsAccepted, IsFaultOf, file_max}
 use Rattle.ap_tool.specs.Answer.{Outside, IsAnswer, IsAnswerTo, IsCommandAnswer, Refuses, Proceeds, Expands}
-use Rattle.ap_tool.specs.Clauses.{IsCalm, Holds, IsFileOf, TakesNothing, IsHonest, IsExact, IsComplete, GivesUp, Reads, RefusesFaulty, RefusesLong, IsFileFault, IsReadFault, IsMalformed, IsInputTooLong, IsDone}
+use Rattle.ap_tool.specs.Clauses.{IsCalm, IsBadDictionary, IsFileTooLong, Holds, IsFileOf, TakesNothing, IsHonest, IsExact, IsComplete, GivesUp, Reads, RefusesFaulty, RefusesLong, IsFileFault, IsReadFault, IsMalformed, IsInputTooLong, IsDone}
 
 -- the ways in which a command ends, told apart by its status
 
@@ -68,6 +68,28 @@ no-usage i = elim i [ ]
 
 no-file : (file : ℕ) → IsStreamStatus (FileFault file) → ⊥
 no-file file i = elim i [ ]
+
+no-dictionary : (file number line : ℕ) → IsStreamStatus (BadDictionary file number line) → ⊥
+no-dictionary file number line i = elim i [ ]
+
+-- the limit of a stream has another kind
+kind-of : Status → ℕ
+kind-of (Limit stage kind place) = kind
+kind-of _ = 7
+
+seven : (s : Status) → IsStreamStatus s → kind-of s ≡ 7
+unfolding kind-of
+seven _ done = refl
+seven _ read = refl
+seven _ malformed = refl
+seven _ limit = refl
+
+not-both : (n : ℕ) → n ≡ 6 → n ≡ 7 → ⊥
+not-both n six seven = omega arith
+
+no-long-file : (file : ℕ) → IsStreamStatus (Limit 0 6 file) → ⊥
+unfolding kind-of
+no-long-file file i = not-both (kind-of (Limit 0 6 file)) refl (seven (Limit 0 6 file) i)
 
 no-write : IsStreamStatus WriteFault → ⊥
 no-write i = elim i [ ]
@@ -241,3 +263,19 @@ nothing-from words old new status a = λ file h. by-cases words old new status _
     (λ f k c i r. r.source)
     (λ f d c p. (let y : Ok (Proc f) ≡ Ok (Expand file) = sym c ∙ h in cc))
     (λ f d c same l. same)
+
+pub bad-dictionary-from : (words : List (List ℕ)) (old new : Outside) (status : Status) → IsAnswer words old new status → IsBadDictionary words old status
+bad-dictionary-from words old new status a = λ file number line e. by-cases words old new status _ (command_of words) a.by_words
+    (λ u same. (let x : Usage ≡ BadDictionary file number line = sym u ∙ e in cc))
+    (λ f k c i r. (let t = not-refused words old new status f (BadDictionary file number line) r e in
+    (record { command = k; by_words = c; file_is = i ∙ sym t.0 }, subst (λ n. HasText old.files (name_at words n) (λ text. IsFaultOf text number line)) (sym t.0) t.1)))
+    (λ f d c p. streamed-so d old new status (BadDictionary file number line) _ p e (λ x. cc) (λ x. cc) (λ s w x. absurd (no-dictionary file number line (is-stream s.input s.ending _ (BadDictionary file number line) refl x))))
+    (λ f d c same l. listed-so old.sink new.sink (listing d) status (BadDictionary file number line) _ l e (λ x w. cc) (λ x w. cc) (λ x w. cc))
+
+pub file-too-long-from : (words : List (List ℕ)) (old new : Outside) (status : Status) → IsAnswer words old new status → IsFileTooLong words old status
+file-too-long-from words old new status a = λ file e. by-cases words old new status _ (command_of words) a.by_words
+    (λ u same. (let x : Usage ≡ Limit 0 6 file = sym u ∙ e in cc))
+    (λ f k c i r. (let t = not-refused words old new status f (Limit 0 6 file) r e in
+    (record { command = k; by_words = c; file_is = i ∙ sym t.2 }, subst (λ n. HasText old.files (name_at words n) (λ text. file_max < length text)) (sym t.2) t.3)))
+    (λ f d c p. streamed-so d old new status (Limit 0 6 file) _ p e (λ x. cc) (λ x. cc) (λ s w x. absurd (no-long-file file (is-stream s.input s.ending _ (Limit 0 6 file) refl x))))
+    (λ f d c same l. listed-so old.sink new.sink (listing d) status (Limit 0 6 file) _ l e (λ x w. cc) (λ x w. cc) (λ x w. cc))

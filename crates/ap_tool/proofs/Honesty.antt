@@ -1,5 +1,7 @@
-use Rattle.std.proofs.Common.{◌≡◌, ℕ, ◌+◌, ◌-◌, ◌^◌, ◌<◌, ◌≤◌, List, [], ◌∷◌, ◌++◌, arith, subst, sym, ap, ◌∙◌, refl, inl, inr, ◌⊎◌, Option, Some, None, Result, Ok, Err, length, append-nil, length-append}
+use Rattle.std.proofs.Common.{◌≡◌, ℕ, ◌+◌, ◌-◌, ◌^◌, ◌<◌, ◌≤◌, List, [], ◌∷◌, ◌++◌, arith, subst, sym, ap, ◌∙◌, refl, inl, inr, ◌⊎◌, Option, Some, None, Result, Ok, Err, length, append-nil, length-append, append_assoc, take}
 use Rattle.std.specs.Option.{IfSome, option_map}
+use Rattle.std.proofs.lemmas.Bool.{le-ltb, lt-ltb}
+use Rattle.std.proofs.lemmas.List.{take_all}
 use Rattle.ap_outside.specs.Causes.{Rose}
 use Rattle.ap_outside.specs.Told.{Takes, IsEnd, Puts}
 use Rattle.ap_dix.specs.declared.dictionary.Dictionary.{Dictionary}
@@ -23,7 +25,8 @@ use Rattle.ap_tool.specs.Output.{stray_place, IsOutput}
 use Rattle.ap_tool.specs.Stream.{stream_status, Streams, Stops, StreamsOrStops}
 use Rattle.ap_tool.specs.Opening.{FilesStanding, IsFileRefusal, HasText, Opens, IsAccepted, IsFaultOf, file_max}
 use Rattle.ap_tool.specs.Answer.{Outside, IsAnswer, IsAnswerTo, IsCommandAnswer, Refuses, Proceeds, Expands}
-use Rattle.ap_tool.specs.Clauses.{IsCalm, Holds, IsFileOf, IsHonestListing, IsListedExactly, IsHonest, IsExact, IsComplete, GivesUp, Reads, RefusesFaulty, RefusesLong}
+use Rattle.ap_tool.specs.Clauses.{IsCalm, cut_input, ending_of, Holds, IsFileOf, IsHonestListing, IsListedExactly, IsHonest, IsExact, IsComplete, GivesUp, Reads, RefusesFaulty, RefusesLong}
+use Rattle.ap_tool.proofs.Listings.{take-front}
 use Rattle.ap_tool.proofs.Endings.{calm-not-rose, text-told, stream-clean}
 
 -- the laws of the dictionary's text and of the output that the clauses below rest on
@@ -67,30 +70,67 @@ too-much old (Some rest) input taken more e t =
     let y : input ≡ (taken ++ more) ++ rest = cc in
     omega (arith, ap length y, length-append (taken ++ more) rest, length-append taken more)
 
--- the input is all that was left, and ended cleanly
-intake : (old new : Standing) (input taken : List ℕ) (ending : Ending) → old.bytes ≡ Some input → length input ≤ input_max → IsCalm old.faults new.faults → IsIntake old new taken ending → (taken ≡ input) × (ending ≡ Clean)
-intake old new input taken Clean e l c i = (whole-taken old.bytes new.bytes input taken e i.0 i.1, refl)
-intake old new input taken Failed e l c i = absurd (calm-not-rose _ _ c i.1)
-intake old new input taken TooLong e l c i =
-    absurd (let m : length taken + length i.0 ≤ length input = too-much old.bytes new.bytes input taken i.0 e i.1 in let p : 0 < length i.0 = i.2 in let q : length taken ≡ input_max = i.4 in omega arith)
+take-past : (n : ℕ) (front more rest whole : List ℕ) → whole ≡ (front ++ more) ++ rest → length front ≡ n → take n whole ≡ front
+take-past n front more rest whole e l =
+    ap (λ (k : ℕ). take k whole) (sym l) ∙ ap (take (length front)) (e ∙ append_assoc front more rest) ∙ take-front front (more ++ rest)
+
+-- what was taken of an input that is told, up to any limit
+taken-whole : (n : ℕ) (input : List ℕ) → length input ≤ n → take n input ≡ input
+taken-whole n input h = take_all n input h
+
+taken-cut : (n : ℕ) (old new : Option (List ℕ)) (input taken more : List ℕ) → old ≡ Some input → Takes old new (taken ++ more) → length taken ≡ n → take n input ≡ taken
+taken-cut n old None input taken more e t l = absurd (let x : Some input ≡ None = sym e ∙ t in cc)
+taken-cut n old (Some rest) input taken more e t l =
+    let x : Some input ≡ Some ((taken ++ more) ++ rest) = sym e ∙ t in
+    let y : input ≡ (taken ++ more) ++ rest = cc in
+    take-past n taken more rest input y l
+
+cut-short : (input : List ℕ) → length input ≤ input_max → cut_input input ≡ input
+unfolding cut_input
+cut-short input h = taken-whole input_max input h
+
+cut-long : (old new : Option (List ℕ)) (input taken more : List ℕ) → old ≡ Some input → Takes old new (taken ++ more) → length taken ≡ input_max → cut_input input ≡ taken
+unfolding cut_input
+cut-long old new input taken more e t l = taken-cut input_max old new input taken more e t l
+
+ends-short : (input : List ℕ) → length input ≤ input_max → ending_of input ≡ Clean
+unfolding ending_of
+ends-short input h = rw (le-ltb input_max (length input) h) refl
+
+ends-long : (input : List ℕ) → input_max < length input → ending_of input ≡ TooLong
+unfolding ending_of
+ends-long input h = rw (lt-ltb input_max (length input) h) refl
+
+-- the input is all that was left up to the limit, and ended so
+intake : (old new : Standing) (input taken : List ℕ) (ending : Ending) → old.bytes ≡ Some input → IsCalm old.faults new.faults → IsIntake old new taken ending → (taken ≡ cut_input input) × (ending ≡ ending_of input)
+intake old new input taken Clean e c i =
+    let whole : taken ≡ input = whole-taken old.bytes new.bytes input taken e i.0 i.1 in
+    let short : length input ≤ input_max = subst (λ (x : List ℕ). length x ≤ input_max) whole i.3 in
+    (whole ∙ sym (cut-short input short), sym (ends-short input short))
+intake old new input taken Failed e c i = absurd (calm-not-rose _ _ c i.1)
+intake old new input taken TooLong e c i =
+    let much : length taken + length i.0 ≤ length input = too-much old.bytes new.bytes input taken i.0 e i.1 in
+    let some : 0 < length i.0 = i.2 in
+    let full : length taken ≡ input_max = i.4 in
+    (sym (cut-long old.bytes new.bytes input taken i.0 e i.1 full), sym (ends-long input (omega arith)))
 
 -- The stream of an honest run ran out of memory, or went as it should with the output of its input.
 pub record WentWell (old new : Outside) (d : Dictionary) (input : List ℕ) (status : Status) : Type 0 where
   pub text : List ℕ
-  pub output : IsOutput d input text
-  pub status_is : status ≡ stream_status input Clean
+  pub output : IsOutput d (cut_input input) text
+  pub status_is : status ≡ stream_status (cut_input input) (ending_of input)
   pub put : Puts old.sink.bytes new.sink.bytes text
 
 streamed : Laws → (words : List (List ℕ)) (file : ℕ) (old new : Outside) (d : Dictionary) (input : List ℕ) (status : Status) → IsHonest words file old new d input
     → StreamsOrStops d old.source new.source old.sink new.sink status → (status ≡ Memory) ⊎ WentWell old new d input status
 streamed laws words file old new d input status h (inr s) = inl s.memory
 streamed laws words file old new d input status h (inl s) =
-    let i = intake old.source new.source input s.input s.ending h.input_told h.input_short h.takes s.taken in
+    let i = intake old.source new.source input s.input s.ending h.input_told h.takes s.taken in
     elim s.written [
       | inl w ↦ inr (record {
         text = s.text;
         output = subst (λ n. IsOutput d n s.text) i.0 s.output;
-        status_is = w.1 ∙ ap (λ x. stream_status x s.ending) i.0 ∙ ap (stream_status input) i.1;
+        status_is = w.1 ∙ ap (λ x. stream_status x s.ending) i.0 ∙ ap (stream_status (cut_input input)) i.1;
         put = w.0.put;
       })
       | inr w ↦ absurd (calm-not-rose _ _ h.puts w.0.rose)
@@ -110,14 +150,14 @@ pub exact-from : Laws → (words : List (List ℕ)) (old new : Outside) (status 
 exact-from laws words old new status a = λ file d input text h o.
     elim (ran laws words file old new d input status h a) [
       | inl m ↦ inl m
-      | inr w ↦ inr (w.status_is, subst (λ x. Puts old.sink.bytes new.sink.bytes x) (laws.output d input w.text text (laws.sound h.text d h.accepted.spelled) w.output o) w.put)
+      | inr w ↦ inr (w.status_is, subst (λ x. Puts old.sink.bytes new.sink.bytes x) (laws.output d (cut_input input) w.text text (laws.sound h.text d h.accepted.spelled) w.output o) w.put)
     ]
 
 pub complete-from : Laws → (words : List (List ℕ)) (old new : Outside) (status : Status) → IsAnswer words old new status → IsComplete words old new status
-complete-from laws words old new status a = λ file d input h s.
+complete-from laws words old new status a = λ file d input h short s.
     elim (ran laws words file old new d input status h a) [
       | inl m ↦ inr m
-      | inr w ↦ inl (w.status_is ∙ stream-clean input s)
+      | inr w ↦ inl (w.status_is ∙ ap (λ x. stream_status x (ending_of input)) (cut-short input short) ∙ ap (stream_status input) (ends-short input short) ∙ stream-clean input s)
     ]
 
 pub listed-from : Laws → (words : List (List ℕ)) (old new : Outside) (status : Status) → IsAnswer words old new status → IsListedExactly words old new status

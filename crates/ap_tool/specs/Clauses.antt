@@ -1,4 +1,4 @@
-use Rattle.std.specs.Prelude.{◌≡◌, ℕ, ◌+◌, ◌-◌, ◌^◌, ◌<◌, ◌≤◌, ◌⊎◌, List, Option, Some, Result, Ok, length}
+use Rattle.std.specs.Prelude.{◌≡◌, ℕ, ◌+◌, ◌-◌, ◌^◌, ◌<◌, ◌≤◌, ◌⊎◌, nat_lt, List, Option, Some, Result, Ok, length, take, if◌then◌else◌}
 use Rattle.ap_outside.specs.Causes.{Rose}
 use Rattle.ap_outside.specs.Told.{Puts, IsEnd}
 use Rattle.ap_dix.specs.declared.dictionary.Dictionary.{Dictionary}
@@ -14,7 +14,7 @@ use Rattle.ap_tool.specs.Words.{command_of, file_of}
 use Rattle.ap_tool.specs.Listing.{listing}
 use Rattle.ap_tool.specs.Messages.{name_at}
 use Rattle.ap_tool.specs.Standing.{Standing}
-use Rattle.ap_tool.specs.Opening.{FilesStanding, IsAccepted, IsFaultOf, file_max}
+use Rattle.ap_tool.specs.Opening.{FilesStanding, HasText, IsAccepted, IsFaultOf, file_max}
 use Rattle.ap_tool.specs.Intake.{IsIntake, input_max}
 use Rattle.ap_tool.specs.Output.{stray_place, IsOutput}
 use Rattle.ap_tool.specs.Stream.{stream_status}
@@ -36,26 +36,33 @@ pub record IsFileOf (words : List (List ℕ)) (file : ℕ) : Type 0 where
   pub by_words : command_of words ≡ Ok command
   pub file_is : file_of command ≡ file
 
--- Everything that the command reads is told and accepted, the input is within its limit, and no call on an object failed.
+-- Everything that the command reads is told and accepted, and no call on an object failed.
 pub record IsHonest (words : List (List ℕ)) (file : ℕ) (old new : Outside) (d : Dictionary) (input : List ℕ) : Type 0 where
   pub command : command_of words ≡ Ok (Proc file)
   pub text : List ℕ
   pub there : Holds old.files (name_at words file) text
   pub accepted : IsAccepted text d
   pub input_told : old.source.bytes ≡ Some input
-  pub input_short : length input ≤ input_max
   pub loads : IsCalm (old.files.load_faults (name_at words file)) (new.files.load_faults (name_at words file))
   pub takes : IsCalm old.source.faults new.source.faults
   pub puts : IsCalm old.sink.faults new.sink.faults
 
+-- what is taken of an input: no more than the limit
+unfoldable pub cut_input : List ℕ → List ℕ
+cut_input input = take input_max input
+
+-- and how the input then ends
+unfoldable pub ending_of : List ℕ → Ending
+ending_of input = if nat_lt input_max (length input) then TooLong else Clean
+
 -- Then the status and the bytes are those of the meaning, unless memory ran out.
 abbrev pub IsExact : List (List ℕ) → Outside → Outside → Status → Type 0
-IsExact words old new status = (file : ℕ) (d : Dictionary) (input text : List ℕ) → IsHonest words file old new d input → IsOutput d input text
-    → (status ≡ Memory) ⊎ ((status ≡ stream_status input Clean) × Puts old.sink.bytes new.sink.bytes text)
+IsExact words old new status = (file : ℕ) (d : Dictionary) (input text : List ℕ) → IsHonest words file old new d input → IsOutput d (cut_input input) text
+    → (status ≡ Memory) ⊎ ((status ≡ stream_status (cut_input input) (ending_of input)) × Puts old.sink.bytes new.sink.bytes text)
 
--- And where the stream has no stray byte, the answer is Done, unless memory ran out.
+-- And where the input is within its limit and has no stray byte, the answer is Done, unless memory ran out.
 abbrev pub IsComplete : List (List ℕ) → Outside → Outside → Status → Type 0
-IsComplete words old new status = (file : ℕ) (d : Dictionary) (input : List ℕ) → IsHonest words file old new d input → stray_place input ≡ length input → (status ≡ Done) ⊎ (status ≡ Memory)
+IsComplete words old new status = (file : ℕ) (d : Dictionary) (input : List ℕ) → IsHonest words file old new d input → length input ≤ input_max → stray_place input ≡ length input → (status ≡ Done) ⊎ (status ≡ Memory)
 
 -- `lt-expand` of a dictionary that is told and accepted, and no call on an object failed.
 pub record IsHonestListing (words : List (List ℕ)) (file : ℕ) (old new : Outside) (d : Dictionary) : Type 0 where
@@ -93,6 +100,14 @@ RefusesFaulty words old new status = (file number line : ℕ) (text : List ℕ) 
 abbrev pub RefusesLong : List (List ℕ) → Outside → Outside → Status → Type 0
 RefusesLong words old new status = (file : ℕ) (text : List ℕ) → Reads words file old text → file_max < length text
     → ((status ≡ Limit 0 6 file) × (new.source ≡ old.source) × (new.sink ≡ old.sink)) ⊎ GivesUp words file old new status
+
+-- A fault of a dictionary is the first of the command's own file, which is within the limit, where its text is told.
+abbrev pub IsBadDictionary : List (List ℕ) → Outside → Status → Type 0
+IsBadDictionary words old status = (file number line : ℕ) → status ≡ BadDictionary file number line → IsFileOf words file × HasText old.files (name_at words file) (λ text. IsFaultOf text number line)
+
+-- A file is too long only where the command's own file has more bytes than the limit, where its text is told.
+abbrev pub IsFileTooLong : List (List ℕ) → Outside → Status → Type 0
+IsFileTooLong words old status = (file : ℕ) → status ≡ Limit 0 6 file → IsFileOf words file × HasText old.files (name_at words file) (λ text. file_max < length text)
 
 -- Only a command's own file is answered as a fault of files, and only where a load of that very name failed; nothing is
 -- taken or written then.

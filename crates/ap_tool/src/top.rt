@@ -5,7 +5,7 @@ ghost use Rattle.ap_tool.specs.Words.{texts, command_of, usage};
 ghost use Rattle.ap_tool.specs.Standing.{standing};
 ghost use Rattle.ap_tool.specs.Opening.{files_standing};
 ghost use Rattle.ap_tool.specs.Answer.{IsAnswer, outside, Tells};
-ghost use Rattle.ap_tool.specs.Clauses.{IsExact, IsComplete, RefusesFaulty, RefusesLong, IsFileFault, IsReadFault, IsMalformed, IsInputTooLong, IsDone, IsListedExactly, TakesNothing};
+ghost use Rattle.ap_tool.specs.Clauses.{IsExact, IsComplete, RefusesFaulty, RefusesLong, IsFileFault, IsReadFault, IsMalformed, IsInputTooLong, IsDone, IsListedExactly, TakesNothing, IsBadDictionary, IsFileTooLong};
 
 use crate::laws::one_output;
 use crate::listing::put_lines;
@@ -90,6 +90,12 @@ pub fn apertium<F: Files, S: Source, K: Sink, E: Sink>(
     ensures long { RefusesLong (texts words.now)
         (outside (files_standing (F.contents files.old) (F.load_faults files.old) (F.store_faults files.old)) (standing (S.left source.old) (S.faults source.old)) (standing (K.written sink.old) (K.faults sink.old)))
         (outside (files_standing (F.contents files.new) (F.load_faults files.new) (F.store_faults files.new)) (standing (S.left source.new) (S.faults source.new)) (standing (K.written sink.new) (K.faults sink.new)))
+        result }
+    ensures bad_dictionary { IsBadDictionary (texts words.now)
+        (outside (files_standing (F.contents files.old) (F.load_faults files.old) (F.store_faults files.old)) (standing (S.left source.old) (S.faults source.old)) (standing (K.written sink.old) (K.faults sink.old)))
+        result }
+    ensures file_too_long { IsFileTooLong (texts words.now)
+        (outside (files_standing (F.contents files.old) (F.load_faults files.old) (F.store_faults files.old)) (standing (S.left source.old) (S.faults source.old)) (standing (K.written sink.old) (K.faults sink.old)))
         result }
     ensures usage { (result ≡ Status.Usage) ↔ (command_of (texts words.now) ≡ usage) }
     ensures file_fault { IsFileFault (texts words.now)

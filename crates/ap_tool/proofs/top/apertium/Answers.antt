@@ -1,5 +1,5 @@
 use Rattle.ap_tool.proofs.Honesty.{Laws, exact-from, complete-from, listed-from, faulty-from, long-from}
-use Rattle.ap_tool.proofs.Endings.{usage-from, file-fault-from, read-fault-from, write-fault-from, no-write-fault-from, malformed-from, input-too-long-from, done-from, nothing-from}
+use Rattle.ap_tool.proofs.Endings.{usage-from, file-fault-from, read-fault-from, write-fault-from, no-write-fault-from, malformed-from, input-too-long-from, done-from, nothing-from, bad-dictionary-from, file-too-long-from}
 use Rattle.ap_tool.proofs.top.apertium.Goals as goal
 
 pub returns-clause-exact : goal.returns-clause-exact
@@ -47,3 +47,9 @@ returns-clause-listed g c =
 
 pub returns-clause-nothing : goal.returns-clause-nothing
 returns-clause-nothing g c = nothing-from _ _ _ _ c.run-status.ensures.answer
+
+pub returns-clause-bad_dictionary : goal.returns-clause-bad_dictionary
+returns-clause-bad_dictionary g c = bad-dictionary-from _ _ _ _ c.run-status.ensures.answer
+
+pub returns-clause-file_too_long : goal.returns-clause-file_too_long
+returns-clause-file_too_long g c = file-too-long-from _ _ _ _ c.run-status.ensures.answer
