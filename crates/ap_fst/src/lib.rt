@@ -12,6 +12,8 @@ mod label;
 mod order;
 mod removal;
 mod silence;
+#[cfg(test)]
+mod tests;
 mod trimming;
 
 pub use compiled::{Compiled, Kind2};
