@@ -1,4 +1,5 @@
 pub mod Spreading
+pub mod Others
 pub mod RowLaws
 pub mod Backing
 pub mod TailLaws

@@ -1,5 +1,5 @@
 use Rattle.std.proofs.Common.{◌≡◌, ◌⊎◌, inl, inr, ℕ, ◌+◌, ◌<◌, ◌≤◌, Bool, true, false, cond, nat_eq, List, [], ◌∷◌, ◌++◌, refl, sym, ◌∙◌, ap, subst, append_assoc, append-nil, arith, Option, Some, None, slice_get, length, take, get_or, suc, zero, length-append}
-use Rattle.std.proofs.lemmas.Option.{slice_get_within, none-some, same_Some}
+use Rattle.std.proofs.lemmas.Option.{none-some, same_Some}
 use Rattle.std.proofs.lemmas.Map.Steps.{length-le_from_distinct_below}
 use Rattle.std.proofs.lemmas.List.{take-append-le, take_more}
 use Rattle.std.proofs.Math.Seq.{take-length}
@@ -23,7 +23,8 @@ use Rattle.ap_fst.proofs.PlaceLaws.{less_from_cmp}
 use Rattle.ap_fst.specs.Machines.{Machine, IsMachine}
 use Rattle.ap_fst.specs.declared.label.Edge.{Edge}
 use Rattle.ap_live.specs.Fitting.{Input, picks}
-use Rattle.ap_live.specs.Spreads.{with_state, Adds, SpreadOne, Picked, Spread, PickedFrom, From, given, onward, Closed}
+use Rattle.ap_live.specs.Spreads.{with_state, Adds, SpreadOne, Picked, Spread, PickedFrom, From, given, onward, Closed, AnyPlace, HasLeft, HasLeftBelow}
+use Rattle.ap_symbol.specs.declared.symbol.Symbol.{Symbol}
 
 pub in_front : {X : Type 0} (x : X) (xs ys : List X) → IsIn x xs → IsIn x (xs ++ ys)
 in_front x [] ys h = elim h [ ]
@@ -86,41 +87,22 @@ adds_pushed pick states s states' fits e =
       distinct = λ n d. absurd (fits n);
     })
 
-pub spread_none : (edges : List Edge) (pick : Option Input) (from low : ℕ) (states links : List ℕ)
-    → ((j : ℕ) (e : Edge) → slice_get edges j ≡ Some e → e.from ≡ from → low ≤ j) → SpreadOne edges pick from low states links states links
-spread_none edges pick from low states links below = record {
+pub spread_none : (edges : List Edge) (pick : Option Input) (from low : ℕ) (left : Option Symbol) (states links : List ℕ)
+    → ((j : ℕ) (e : Edge) → slice_get edges j ≡ Some e → e.from ≡ from → e.label.left ≡ left → low ≤ j) → SpreadOne edges pick from (HasLeftBelow edges left low) states links states links
+spread_none edges pick from low left states links below = record {
   more = [];
   grown = sym (append-nil states);
   sound = λ s i. elim i [ ];
-  complete = λ s j p h. let k : low ≤ j = below j p.edge p.at (sym p.from_is) in absurd (omega arith);
+  complete = λ s j p (l, h). let k : low ≤ j = below j p.edge p.at (sym p.from_is) (l p.edge p.at) in absurd (omega arith);
   links_sound = λ j i. inl i;
   links_kept = λ j i. i;
   distinct = λ n d. d;
 }
 
--- an edge more, that is not picked
-pub spread_skip : (edges : List Edge) (pick : Option Input) (from j j' : ℕ) (states links states' links' : List ℕ) (e : Edge) → j' ≡ j + 1 → slice_get edges j ≡ Some e → picks pick e ≡ false
-    → SpreadOne edges pick from j states links states' links' → SpreadOne edges pick from j' states links states' links'
-spread_skip edges pick from j j' states links states' links' e n at fails h = record {
-  more = h.more;
-  grown = h.grown;
-  sound = h.sound;
-  complete = λ s k p lt. elim (cases_lt k j) [
-    | inl below ↦ h.complete s k p below
-    | inr le ↦ let same : k ≡ j = omega arith in
-        let there : Some p.edge ≡ Some e = sym p.at ∙ ap (slice_get edges) same ∙ at in
-        let alike : p.edge ≡ e = cc in
-        let holds : picks pick e ≡ true = ap (picks pick) (sym alike) ∙ p.passes in absurd (cc)
-  ];
-  links_sound = h.links_sound;
-  links_kept = h.links_kept;
-  distinct = h.distinct;
-}
-
 -- an edge more, that is picked
-pub spread_take : (edges : List Edge) (pick : Option Input) (from j j' : ℕ) (states links states' links' states'' links'' : List ℕ) (e : Edge) → j' ≡ j + 1 → slice_get edges j ≡ Some e → e.from ≡ from
-    → picks pick e ≡ true → Adds pick states' e.to states'' → links'' ≡ links' ++ j ∷ [] → SpreadOne edges pick from j states links states' links' → SpreadOne edges pick from j' states links states'' links''
-spread_take edges pick from j j' states links states' links' states'' links'' e n at leaves good a linked h =
+pub spread_take : (edges : List Edge) (pick : Option Input) (from j j' : ℕ) (left : Option Symbol) (states links states' links' states'' links'' : List ℕ) (e : Edge) → j' ≡ j + 1 → slice_get edges j ≡ Some e → e.from ≡ from
+    → picks pick e ≡ true → Adds pick states' e.to states'' → links'' ≡ links' ++ j ∷ [] → SpreadOne edges pick from (HasLeftBelow edges left j) states links states' links' → SpreadOne edges pick from (HasLeftBelow edges left j') states links states'' links''
+spread_take edges pick from j j' left states links states' links' states'' links'' e n at leaves good a linked h =
     let p' : Picked edges pick from e.to j = record { edge = e; at = at; from_is = sym leaves; to_is = refl; passes = good } in
     let S : List ℕ → ℕ → Type 0 = λ xs s. IsIn s xs in
     record {
@@ -130,8 +112,8 @@ spread_take edges pick from j j' states links states' links' states'' links'' e 
         | inl k ↦ h.sound s k
         | inr k ↦ (j, (let Q : ℕ → Type 0 = λ x. Picked edges pick from x j in subst Q (sym (a.only s k)) p'))
       ];
-      complete = λ s k p lt. elim (cases_lt k j) [
-        | inl below ↦ let both : IsIn s states' × IsIn k links' = h.complete s k p below in (
+      complete = λ s k p (l, lt). elim (cases_lt k j) [
+        | inl below ↦ let both : IsIn s states' × IsIn k links' = h.complete s k p (l, below) in (
           subst (λ (xs : List ℕ). S xs s) (sym a.grown) (in_front s states' a.more both.0),
           subst (λ (xs : List ℕ). S xs k) (sym linked) (in_front k links' (j ∷ []) both.1),
         )
@@ -151,29 +133,50 @@ spread_take edges pick from j j' states links states' links' states'' links'' e 
       distinct = λ n d. a.distinct n (h.distinct n d);
     }
 
--- all edges of the state are seen
-pub spread_all : (edges : List Edge) (pick : Option Input) (from high top : ℕ) (states links states' links' : List ℕ) → ((j : ℕ) (e : Edge) → slice_get edges j ≡ Some e → e.from ≡ from → j < high)
-    → SpreadOne edges pick from high states links states' links' → SpreadOne edges pick from top states links states' links'
-spread_all edges pick from high top states links states' links' above h = record {
+-- other places are seen, where each of them that is picked was seen
+pub spread_seen : (edges : List Edge) (pick : Option Input) (from : ℕ) (seen seen' : ℕ → Type 0) (states links states' links' : List ℕ) → ((s j : ℕ) → Picked edges pick from s j → seen' j → seen j)
+    → SpreadOne edges pick from seen states links states' links' → SpreadOne edges pick from seen' states links states' links'
+spread_seen edges pick from seen seen' states links states' links' was h = record {
   more = h.more;
   grown = h.grown;
   sound = h.sound;
-  complete = λ s j p lt. h.complete s j p (above j p.edge p.at (sym p.from_is));
+  complete = λ s j p q. h.complete s j p (was s j p q);
   links_sound = h.links_sound;
   links_kept = h.links_kept;
   distinct = h.distinct;
 }
 
+-- all edges of the state with the left side are seen
+pub spread_left : (edges : List Edge) (pick : Option Input) (from high top : ℕ) (left : Option Symbol) (states links states' links' : List ℕ) → high ≤ top → ((j : ℕ) (e : Edge) → slice_get edges j ≡ Some e → e.from ≡ from → e.label.left ≡ left → j < high)
+    → SpreadOne edges pick from (HasLeftBelow edges left top) states links states' links' → SpreadOne edges pick from (HasLeft edges left) states links states' links'
+spread_left edges pick from high top left states links states' links' le above h =
+    spread_seen edges pick from (HasLeftBelow edges left top) (HasLeft edges left) states links states' links' (λ s j p l. (l, (let k : j < high = above j p.edge p.at (sym p.from_is) (l p.edge p.at) in omega arith))) h
+
+-- at some places, and then at others
+pub spread_two : (edges : List Edge) (pick : Option Input) (from : ℕ) (seen seen' : ℕ → Type 0) (states links states' links' states'' links'' : List ℕ) → ((s j : ℕ) → Picked edges pick from s j → seen j ⊎ seen' j)
+    → SpreadOne edges pick from seen states links states' links' → SpreadOne edges pick from seen' states' links' states'' links'' → SpreadOne edges pick from AnyPlace states links states'' links''
+spread_two edges pick from seen seen' states links states' links' states'' links'' either h k = record {
+  more = h.more ++ k.more;
+  grown = k.grown ∙ ap (λ x. x ++ k.more) h.grown ∙ append_assoc states h.more k.more;
+  sound = λ s i. elim (in_either s h.more k.more i) [ inl x ↦ h.sound s x | inr x ↦ k.sound s x ];
+  complete = λ s j p any. elim (either s j p) [
+    | inl q ↦ let both : IsIn s states' × IsIn j links' = h.complete s j p q in (subst (λ (xs : List ℕ). IsIn s xs) (sym k.grown) (in_front s states' k.more both.0), k.links_kept j both.1)
+    | inr q ↦ k.complete s j p q
+  ];
+  links_sound = λ j i. elim (k.links_sound j i) [ inl x ↦ h.links_sound j x | inr x ↦ inr x ];
+  links_kept = λ j i. k.links_kept j (h.links_kept j i);
+  distinct = λ n d. k.distinct n (h.distinct n d);
+}
+
 -- from one state
-pub spread_one : (edges : List Edge) (pick : Option Input) (from bound : ℕ) (states links states' links' : List ℕ) → ((j : ℕ) (e : Edge) → slice_get edges j ≡ Some e → j < bound)
-    → SpreadOne edges pick from bound states links states' links' → Spread edges pick (from ∷ []) states links states' links'
-spread_one edges pick from bound states links states' links' within h = record {
+pub spread_one : (edges : List Edge) (pick : Option Input) (from : ℕ) (states links states' links' : List ℕ) → SpreadOne edges pick from AnyPlace states links states' links' → Spread edges pick (from ∷ []) states links states' links'
+spread_one edges pick from states links states' links' h = record {
   more = h.more;
   grown = h.grown;
   sound = λ s i. let (j, p) = h.sound s i in (j, (let r : PickedFrom edges pick (from ∷ []) s j = record { from = from; listed = inl refl; picked = p } in r));
   complete = λ s j p. let is : p.from ≡ from = elim p.listed [ inl e ↦ e | inr z ↦ elim z [ ] ] in
       let q : Picked edges pick from s j = subst (λ (x : ℕ). Picked edges pick x s j) is p.picked in
-      h.complete s j q (within j q.edge q.at);
+      h.complete s j q tt;
   links_sound = λ j i. elim (h.links_sound j i) [ inl k ↦ inl k | inr (s, p) ↦ inr (s, (let r : PickedFrom edges pick (from ∷ []) s j = record { from = from; listed = inl refl; picked = p } in r)) ];
   links_kept = h.links_kept;
   distinct = h.distinct;
@@ -223,17 +226,17 @@ spread_then edges pick a b states links states' links' states'' links'' h k =
     }
 
 pub spread_item : (edges : List Edge) (pick : Option Input) (froms : List ℕ) (from i : ℕ) (states links states' links' states'' links'' : List ℕ) → i < length froms → from ≡ get_or froms i 0
-    → Spread edges pick (take i froms) states links states' links' → SpreadOne edges pick from (length edges) states' links' states'' links''
+    → Spread edges pick (take i froms) states links states' links' → SpreadOne edges pick from AnyPlace states' links' states'' links''
     → Spread edges pick (take (i + 1) froms) states links states'' links''
 spread_item edges pick froms from i states links states' links' states'' links'' lt is h k =
     let e : take (i + 1) froms ≡ take i froms ++ (from ∷ []) = take_more froms i 0 lt ∙ ap (λ x. take i froms ++ (x ∷ [])) (sym is) in
     subst (λ (a : List ℕ). Spread edges pick a states links states'' links'') (sym e)
     (spread_then edges pick (take i froms) (from ∷ []) states links states' links' states'' links'' h
-    (spread_one edges pick from (length edges) states' links' states'' links'' (λ j e at. slice_get_within edges j e at) k))
+    (spread_one edges pick from states' links' states'' links'' k))
 
 -- the worklist: the first states are spread already
 pub close_step : (edges : List Edge) (base states links0 links states' links' : List ℕ) (from i : ℕ) → i < length states → from ≡ get_or states i 0
-    → Spread edges None (take i states) base links0 states links → SpreadOne edges None from (length edges) states links states' links'
+    → Spread edges None (take i states) base links0 states links → SpreadOne edges None from AnyPlace states links states' links'
     → Spread edges None (take (i + 1) states') base links0 states' links'
 close_step edges base states links0 links states' links' from i lt is h k =
     let e : take (i + 1) states' ≡ take (i + 1) states = ap (take (i + 1)) k.grown ∙ take-append-le (i + 1) states k.more (omega arith) in
@@ -241,7 +244,7 @@ close_step edges base states links0 links states' links' from i lt is h k =
     (spread_item edges None states from i base links0 states links states' links' lt is h k)
 
 pub close_sound : (edges : List Edge) (base states links states' links' : List ℕ) (from : ℕ) → IsIn from states → ((s : ℕ) → IsIn s states → From edges base s)
-    → SpreadOne edges None from (length edges) states links states' links' → (s : ℕ) → IsIn s states' → From edges base s
+    → SpreadOne edges None from AnyPlace states links states' links' → (s : ℕ) → IsIn s states' → From edges base s
 close_sound edges base states links states' links' from listed sound k s i =
     elim (in_either s states k.more (subst (λ (xs : List ℕ). IsIn s xs) k.grown i)) [
       | inl x ↦ sound s x

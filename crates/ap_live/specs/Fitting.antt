@@ -33,6 +33,3 @@ picks (Some input) e = fits_side input e.label.left
 abbrev pub pick_of : Pick → Option Input
 pick_of Silent = None
 pick_of (Fitting input sensitive) = Some (record { symbol = input.now; sensitive = sensitive })
-
-abbrev pub passes_lem : Pick → Edge → Bool
-passes_lem pick e = picks (pick_of pick) e

@@ -2,6 +2,8 @@ use Rattle.std.specs.Prelude.{◌≡◌, ◌⊎◌, ℕ, ◌<◌, true, List, []
 use Rattle.std.specs.List.{list_any, IsDistinct}
 use Rattle.ap_fst.specs.Lists.{IsIn}
 use Rattle.ap_fst.specs.declared.label.Edge.{Edge}
+use Rattle.ap_symbol.specs.Fitting.{fits_lem}
+use Rattle.ap_symbol.specs.declared.symbol.Symbol.{Symbol}
 use Rattle.ap_live.specs.Fitting.{Input, picks}
 
 -- a state more, unless it is there
@@ -24,12 +26,29 @@ pub record Picked (edges : List Edge) (pick : Option Input) (from to j : ℕ) : 
   pub to_is : to ≡ edge.to
   pub passes : picks pick edge ≡ true
 
--- what is added is reached by picked edges from one state, at places below a bound
-pub record SpreadOne (edges : List Edge) (pick : Option Input) (from bound : ℕ) (states links states' links' : List ℕ) : Type 0 where
+-- any place of an edge
+abbrev pub AnyPlace : ℕ → Type 0
+AnyPlace j = Unit {0}
+
+-- the edge at the place has this left side
+abbrev pub HasLeft : List Edge → Option Symbol → ℕ → Type 0
+HasLeft edges left j = (e : Edge) → slice_get edges j ≡ Some e → e.label.left ≡ left
+
+-- the same below a bound
+abbrev pub HasLeftBelow : List Edge → Option Symbol → ℕ → ℕ → Type 0
+HasLeftBelow edges left bound j = HasLeft edges left j × (j < bound)
+
+-- beside the input itself, the one symbol that fits it, or none
+pub record IsOther (input : Input) (other : Option Symbol) : Type 0 where
+  pub fits : (x : Symbol) → other ≡ Some x → fits_lem input.sensitive x input.symbol ≡ true
+  pub only : (x : Symbol) → fits_lem input.sensitive x input.symbol ≡ true → (x ≡ input.symbol) ⊎ (other ≡ Some x)
+
+-- what is added is reached by picked edges from one state, at the places that are seen
+pub record SpreadOne (edges : List Edge) (pick : Option Input) (from : ℕ) (seen : ℕ → Type 0) (states links states' links' : List ℕ) : Type 0 where
   pub more : List ℕ
   pub grown : states' ≡ states ++ more
   pub sound : (s : ℕ) → IsIn s more → (j : ℕ) × Picked edges pick from s j
-  pub complete : (s j : ℕ) → Picked edges pick from s j → j < bound → IsIn s states' × IsIn j links'
+  pub complete : (s j : ℕ) → Picked edges pick from s j → seen j → IsIn s states' × IsIn j links'
   pub links_sound : (j : ℕ) → IsIn j links' → IsIn j links ⊎ ((s : ℕ) × Picked edges pick from s j)
   pub links_kept : (j : ℕ) → IsIn j links → IsIn j links'
   pub distinct : pick ≡ None → IsDistinct nat_eq states → IsDistinct nat_eq states'

@@ -1,12 +1,14 @@
-ghost use Rattle.std.specs.Prelude.{◌≡◌, ◌^◌, ◌<◌, ◌≤◌, ◌++◌, ℕ, [], ◌∷◌, List, IfOk, OnOk, OnErr, IsTrue, ◌↔◌, nat_eq, length, take};
+ghost use Rattle.std.specs.Prelude.{◌≡◌, ◌^◌, ◌<◌, ◌≤◌, ◌++◌, ℕ, [], ◌∷◌, List, IfOk, OnOk, OnErr, IsTrue, ◌↔◌, nat_eq, length, take, true, Some};
 ghost use Rattle.std.specs.List.{IsDistinct};
+ghost use Rattle.std.specs.Option.{option_copied};
+ghost use Rattle.ap_fst.specs.declared.label.Edge.{Edge};
 ghost use Rattle.ap_fst.specs.Lists.{IsIn};
 ghost use Rattle.ap_live.specs.Rows.{IsNext, Reach, AreRows};
-ghost use Rattle.ap_live.specs.Fitting.{Input, pick_of};
-ghost use Rattle.ap_live.specs.Spreads.{Adds, with_state, SpreadOne, Spread, Closed};
+ghost use Rattle.ap_live.specs.Fitting.{Input, pick_of, picks};
+ghost use Rattle.ap_live.specs.Spreads.{Adds, with_state, SpreadOne, Spread, Closed, AnyPlace, HasLeft, IsOther};
 
-use crate::picking::{Pick, passes};
-use ap_fst::{Edge, Fst};
+use crate::picking::{Pick, other_symbol};
+use ap_fst::Fst;
 use ap_symbol::{Memory, Symbol};
 use std::alloc::Global;
 
@@ -45,26 +47,75 @@ fn sort_states(states: &mut Vec<usize>)
     states.dedup();
 }
 
-/// Adds what one state reaches by the edges that are picked.
-fn spread_from(
+/// Adds what one state reaches by the edges with this left side, or with an empty one, which are
+/// picked. They are found by halving.
+fn spread_left(
     fst: &Fst,
     from: usize,
+    left: Option<&Symbol>,
     pick: Pick<'_>,
     states: &mut Vec<usize>,
     links: &mut Vec<usize>,
 ) -> Result<(), Memory>
-    ensures { OnOk result (SpreadOne fst.now.edges (pick_of pick.entry) from (length fst.now.edges) states.old.items links.old.items states.new.items links.new.items) }
+    requires { (e : Edge) → e.label.left ≡ option_copied left → picks (pick_of pick) e ≡ true }
+    ensures { OnOk result (SpreadOne fst.now.edges (pick_of pick.entry) from (HasLeft fst.now.edges (option_copied left.entry)) states.old.items links.old.items states.new.items links.new.items) }
 {
     let edges = fst.edges();
-    let (low, high) = fst.span(from);
+    let (low, high) = fst.span_by(from, left);
     for j in low..high {
         let edge = &edges[j];
-        if passes(pick, edge) {
-            links.push(j)?;
-            enter(states, edge.to, pick)?;
-        }
+        links.push(j)?;
+        enter(states, edge.to, pick)?;
     }
     Ok(())
+}
+
+/// Adds what one state reaches by the edges whose left symbol is the input, or the other that fits it.
+fn spread_fitting(
+    fst: &Fst,
+    from: usize,
+    pick: Pick<'_>,
+    input: &Symbol,
+    other: Option<&Symbol>,
+    states: &mut Vec<usize>,
+    links: &mut Vec<usize>,
+) -> Result<(), Memory>
+    requires { (i : Input) × (pick_of pick ≡ Some i) × (i.symbol ≡ input.now) × IsOther i (option_copied other) }
+    ensures { OnOk result (SpreadOne fst.now.edges (pick_of pick.entry) from AnyPlace states.old.items links.old.items states.new.items links.new.items) }
+{
+    spread_left(fst, from, Some(input), pick, states, links)?;
+    match other {
+        None => Ok(()),
+        Some(symbol) => {
+            spread_left(fst, from, Some(symbol), pick, states, links)?;
+            Ok(())
+        }
+    }
+}
+
+/// Adds what one state reaches by the edges that are picked. `other` is the symbol that fits the
+/// input beside the input itself.
+fn spread_from(
+    fst: &Fst,
+    from: usize,
+    pick: Pick<'_>,
+    other: Option<&Symbol>,
+    states: &mut Vec<usize>,
+    links: &mut Vec<usize>,
+) -> Result<(), Memory>
+    requires { (i : Input) → pick_of pick ≡ Some i → IsOther i (option_copied other) }
+    ensures { OnOk result (SpreadOne fst.now.edges (pick_of pick.entry) from AnyPlace states.old.items links.old.items states.new.items links.new.items) }
+{
+    match pick {
+        Pick::Silent => {
+            spread_left(fst, from, None, pick, states, links)?;
+            Ok(())
+        }
+        Pick::Fitting(input, _) => {
+            spread_fitting(fst, from, pick, input, other, states, links)?;
+            Ok(())
+        }
+    }
 }
 
 /// Adds what these states reach by the edges that are picked.
@@ -72,13 +123,15 @@ fn spread(
     fst: &Fst,
     froms: &[usize],
     pick: Pick<'_>,
+    other: Option<&Symbol>,
     states: &mut Vec<usize>,
     links: &mut Vec<usize>,
 ) -> Result<(), Memory>
+    requires { (i : Input) → pick_of pick ≡ Some i → IsOther i (option_copied other) }
     ensures { OnOk result (Spread fst.now.edges (pick_of pick.entry) froms.now states.old.items links.old.items states.new.items links.new.items) }
 {
     for from in froms {
-        spread_from(fst, *from, pick, states, links)?;
+        spread_from(fst, *from, pick, other, states, links)?;
     }
     Ok(())
 }
@@ -93,7 +146,7 @@ fn close(fst: &Fst, states: &mut Vec<usize>, links: &mut Vec<usize>) -> Result<(
     let mut at = 0;
     while at < states.len() {
         let from = states[at];
-        spread_from(fst, from, Pick::Silent, states, links)?;
+        spread_from(fst, from, Pick::Silent, None, states, links)?;
         at += 1;
     }
     Ok(())
@@ -113,7 +166,8 @@ fn next_row(alloc: Global, fst: &Fst, last: &[usize], pick: Pick<'_>) -> Result<
     let _ = fst.states();
     let mut states = Vec::new(alloc);
     let mut links = Vec::new(alloc);
-    spread(fst, last, pick, &mut states, &mut links)?;
+    let other = other_symbol(pick);
+    spread(fst, last, pick, other.as_ref(), &mut states, &mut links)?;
     sort_states(&mut states);
     close(fst, &mut states, &mut links)?;
     Ok(Row { states, links })

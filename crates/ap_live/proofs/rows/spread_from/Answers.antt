@@ -1,32 +1,15 @@
-use Rattle.std.proofs.Common.{◌≡◌, ◌+◌, arith, sym, ap, ◌∙◌, Some, slice_get, length, ◌<◌, refl, subst, List, ℕ}
-use Rattle.ap_live.specs.Fitting.{pick_of}
-use Rattle.ap_live.specs.Spreads.{SpreadOne, Adds}
-use Rattle.std.proofs.lemmas.Option.{slice_get_read}
-use Rattle.ap_fst.specs.declared.label.Edge.{Edge}
-use Rattle.ap_live.proofs.Spreading.{spread_none, spread_skip, spread_take, spread_all}
+use Rattle.std.proofs.Common.{ap, refl, None}
+use Rattle.ap_live.specs.Fitting.{Input, pick_of}
+use Rattle.ap_live.specs.Spreads.{HasLeft, AnyPlace}
+use Rattle.ap_live.proofs.Spreading.{spread_seen}
+use Rattle.ap_live.proofs.Others.{silent_side}
 use Rattle.ap_live.proofs.rows.spread_from.Goals as goal
-use Rattle.ap_live.proofs.rows.spread_from.Goals.{then-passes+in_ok-push+in_ok-enter, else-passes}
 
-pub loop-j-init : goal.loop-j-init
-loop-j-init c = spread_none _ _ _ _ _ _ (λ j e at is. (c.span-low.ensures.span.outside j e at is).0)
+pub spread_fitting-requires : goal.spread_fitting-requires
+spread_fitting-requires c =
+    let input : Input = record { symbol = c.in-Fitting.input.now; sensitive = c.in-Fitting.field-1 } in
+    (input, ap pick_of c.in-Fitting.is, refl, c.requires input (ap pick_of c.in-Fitting.is))
 
-pub loop-j-preserved : goal.loop-j-preserved
-loop-j-preserved c =
-    let within : c.loop-j.j < length c.edges-edges.result.now = omega (arith, c.span-low.ensures.span.end, ap (length {A = Edge}) c.edges-edges.ensures.value) in
-    let at' : slice_get c.edges-edges.result.now c.loop-j.j ≡ Some c.index-edges-j.result = slice_get_read c.edges-edges.result.now (length c.edges-edges.result.now) c.loop-j.j c.index-edges-j.result refl within c.index-edges-j.is in
-    let at : slice_get c.args.fst.now.edges c.loop-j.j ≡ Some c.index-edges-j.result = ap (λ es. slice_get es c.loop-j.j) (sym c.edges-edges.ensures.value) ∙ at' in
-    let leaves : c.index-edges-j.result.from ≡ c.args.from = c.span-low.ensures.span.inside c.loop-j.j c.index-edges-j.result at (omega arith) (omega arith) in
-    elim c.if-passes.branch [
-      | then-passes+in_ok-push+in_ok-enter w ↦ spread_take c.args.fst.now.edges (pick_of c.args.pick) c.args.from c.loop-j.j (c.loop-j.j + 1) c.args.states.now.items c.args.links.now.items
-          c.loop-j.states.items c.loop-j.links.items c.if-passes.states.items c.if-passes.links.items c.index-edges-j.result refl at leaves
-          (sym c.passes.ensures ∙ w.if-passes.true) (subst (λ v. Adds (pick_of c.args.pick) c.loop-j.states.items c.index-edges-j.result.to v.items) (sym w.states-is) w.in_ok-enter.ensures) (ap (λ v. v.items) w.links-is ∙ w.in_ok-push.ensures.items) c.loop-j.invariant
-      | else-passes w ↦
-          let P : List ℕ → List ℕ → Type 0 = λ x y. SpreadOne c.args.fst.now.edges (pick_of c.args.pick) c.args.from (c.loop-j.j + 1) c.args.states.now.items c.args.links.now.items x y in
-          let h : P c.loop-j.states.items c.loop-j.links.items = spread_skip c.args.fst.now.edges (pick_of c.args.pick) c.args.from c.loop-j.j (c.loop-j.j + 1) c.args.states.now.items c.args.links.now.items
-          c.loop-j.states.items c.loop-j.links.items c.index-edges-j.result refl at (sym c.passes.ensures ∙ w.if-passes.false) c.loop-j.invariant in
-          subst (λ x. P c.if-passes.states.items x.items) (sym w.links-is) (subst (λ x. P x.items c.loop-j.links.items) (sym w.states-is) h)
-    ]
-
-pub returns : goal.returns
-returns c = spread_all c.args.fst.now.edges (pick_of c.args.pick) c.args.from c.loop-j.j (length c.args.fst.now.edges) c.args.states.now.items c.args.links.now.items c.loop-j.states.items c.loop-j.links.items
-    (λ j e at is. omega (arith, c.span-low.ensures.span.outside j e at is)) c.loop-j.invariant
+pub returns-in_ok-spread_left-in-Silent : goal.returns-in_ok-spread_left-in-Silent
+returns-in_ok-spread_left-in-Silent c = spread_seen c.args.fst.now.edges (pick_of c.args.pick) c.args.from (HasLeft c.args.fst.now.edges None) AnyPlace c.args.states.now.items c.args.links.now.items
+    c.spread_left.new.states.items c.spread_left.new.links.items (λ s j p u. silent_side c.args.fst.now.edges (pick_of c.args.pick) (ap pick_of c.in-Silent.is) c.args.from s j p) c.in_ok-spread_left-in-Silent.ensures

@@ -1,6 +1,0 @@
-use Rattle.ap_live.specs.Fitting.{pick_of}
-use Rattle.ap_live.specs.Spreads.{SpreadOne}
-use Rattle.ap_live.proofs.rows.spread_from.Given as goal
-
-abbrev pub invariant-loop-j : goal.invariant-loop-j
-invariant-loop-j l = SpreadOne l.fst.edges (pick_of l.fn.pick) l.from l.j l.initial.states.items l.initial.links.items l.states.items l.links.items
