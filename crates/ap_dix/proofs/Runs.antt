@@ -1,6 +1,7 @@
 -- Steps that are taken one after another.
-use Rattle.std.proofs.Common.{◌≡◌, ◌⊎◌, inl, inr, Bool, true, false, List, [], ◌∷◌, ◌++◌, refl, sym, ◌∙◌, ap, subst, append_assoc, append-nil, Option, Some, None}
+use Rattle.std.proofs.Common.{◌≡◌, ◌⊎◌, inl, inr, ℕ, ◌+◌, ◌<◌, ◌≤◌, suc, length, get_or, drop, drop-cons, add-one, Bool, true, false, List, [], ◌∷◌, ◌++◌, refl, sym, ◌∙◌, ap, subst, append_assoc, append-nil, Option, Some, None}
 use Rattle.std.specs.Prelude.{if◌then◌else◌}
+use Rattle.std.proofs.lemmas.List.{drop_all}
 use Rattle.ap_dix.specs.Machines.{run, on_some}
 
 run-none : {S X : Type 0} (step : S → X → Option S) (xs : List X) → run step None xs ≡ None
@@ -66,3 +67,28 @@ came_from (Some a) f y e = record { value = a; was = refl; gave = e }
 
 pub goes_on : {A B : Type 0} (o : Option A) (f : A → Option B) (a : A) (y : Option B) → o ≡ Some a → f a ≡ y → on_some o f ≡ y
 goes_on o f a y e g = ap (λ z. on_some z f) e ∙ g
+
+-- A loop that takes a step for each item: what is left of the run stays the same.
+
+at_item : {X : Type 0} (xs : List X) (i : ℕ) (x d : X) → i < length xs → x ≡ get_or xs i d → drop i xs ≡ x ∷ drop (i + 1) xs
+at_item xs i x d lt is =
+    let e : drop i xs ≡ get_or xs i d ∷ drop (suc i) xs = drop-cons xs i d lt in
+    e ∙ ap (λ z. z ∷ drop (suc i) xs) (sym is) ∙ ap (λ n. x ∷ drop n xs) (sym (add-one i))
+
+pub next_on : {S X : Type 0} (step : S → X → Option S) (s : S) (t all : Option S) (x : X) (rest more : List X) → rest ≡ x ∷ more → step s x ≡ t → run step (Some s) rest ≡ all → run step t more ≡ all
+next_on step s t all x rest more w e h = ap (λ z. run step z more) (sym e) ∙ sym (ap (run step (Some s)) w) ∙ h
+
+pub next_item : {S X : Type 0} (step : S → X → Option S) (s : S) (t all : Option S) (xs : List X) (i : ℕ) (x d : X) → i < length xs → x ≡ get_or xs i d → step s x ≡ t → run step (Some s) (drop i xs) ≡ all → run step t (drop (i + 1) xs) ≡ all
+next_item step s t all xs i x d lt is e h = next_on step s t all x (drop i xs) (drop (i + 1) xs) (at_item xs i x d lt is) e h
+
+pub stopped_on : {S X : Type 0} (step : S → X → Option S) (s : S) (all : Option S) (x : X) (rest more : List X) → rest ≡ x ∷ more → step s x ≡ None → run step (Some s) rest ≡ all → None ≡ all
+stopped_on step s all x rest more w e h = sym (run-none step more) ∙ next_on step s None all x rest more w e h
+
+pub stopped_item : {S X : Type 0} (step : S → X → Option S) (s : S) (all : Option S) (xs : List X) (i : ℕ) (x d : X) → i < length xs → x ≡ get_or xs i d → step s x ≡ None → run step (Some s) (drop i xs) ≡ all → None ≡ all
+stopped_item step s all xs i x d lt is e h = stopped_on step s all x (drop i xs) (drop (i + 1) xs) (at_item xs i x d lt is) e h
+
+pub over_items : {S X : Type 0} (step : S → X → Option S) (s : S) (all : Option S) (xs : List X) (i : ℕ) → length xs ≤ i → run step (Some s) (drop i xs) ≡ all → Some s ≡ all
+over_items step s all xs i le h = sym (ap (run step (Some s)) (drop_all i xs le)) ∙ h
+
+pub over_rest : {S X : Type 0} (step : S → X → Option S) (s : S) (all : Option S) (rest : List X) → rest ≡ [] → run step (Some s) rest ≡ all → Some s ≡ all
+over_rest step s all rest e h = sym (ap (run step (Some s)) e) ∙ h

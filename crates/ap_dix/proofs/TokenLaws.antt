@@ -69,7 +69,7 @@ nil_or_not xs h e = let no : true ≡ false = sym (ap is_nil e) ∙ h in false�
 closes : (seen : List Piece) (made : List Token) (ranges : List Range) (p : Piece) → IsInside seen made ranges → IsTrue (is_sign 93 p) → is_nil ranges ≡ false → AreTokens (seen ++ p ∷ []) (made ++ Class ranges ∷ [])
 closes seen made ranges p h s n =
     elim h.members [
-      inl none ↦ absurd (nil_or_not ranges n none.1)
+      inl nil ↦ absurd (nil_or_not ranges n nil.1)
     | inr members ↦
         another h.tokens (classed h.begin p h.sign members s refl refl)
           (ap (λ z. z ++ p ∷ []) h.whole ∙ append_assoc h.front (h.begin ∷ h.held) (p ∷ [])) refl ]
@@ -222,7 +222,7 @@ nil_behind [] x = refl
 nil_behind (y ∷ ys) x = refl
 
 some_ranges : (pieces : List Piece) (ranges : List Range) → AreMembers pieces ranges → is_nil ranges ≡ false
-some_ranges pieces ranges (first e) = ap is_nil e
+some_ranges pieces ranges (first m e) = ap is_nil e
 some_ranges pieces ranges (further {before = before} {r = r} h m w e) = ap is_nil e ∙ nil_behind before r
 
 sign_apart : (p : Piece) → IsTrue (is_sign 93 p) → is_sign 45 p ≡ false

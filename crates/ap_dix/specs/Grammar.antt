@@ -1,5 +1,5 @@
 -- How the text of an expression is written.
-use Rattle.std.specs.Prelude.{◌≡◌, ℕ, ◌+◌, ◌<◌, ◌≤◌, Bool, true, false, not, ◌&&◌, ◌||◌, ◌==◌, nat_le, nat_lt, IsTrue, List, [], ◌∷◌, ◌++◌, Option, Some, None, if◌then◌else◌}
+use Rattle.std.specs.Prelude.{◌≡◌, ℕ, suc, ◌<◌, ◌≤◌, Bool, true, false, not, ◌&&◌, ◌||◌, ◌==◌, nat_le, nat_lt, IsTrue, List, [], ◌∷◌, ◌++◌, Option, Some, None, if◌then◌else◌}
 use Rattle.ap_symbol.specs.Words.{is_white}
 use Rattle.ap_symbol.specs.declared.symbol.Symbol.{Symbol}
 use Rattle.ap_symbol.specs.declared.symbol.Symbol.TheVariants.{Letter, Blank}
@@ -92,7 +92,7 @@ mutual
   pub data IsAtom : ℕ → List Token → Form → Type 0 where
     character : {depth : ℕ} {tokens : List Token} {e : Form} (c : ℕ) → tokens ≡ Character c ∷ [] → e ≡ one (symbol_of c) → IsAtom depth tokens e
     of_class : {depth : ℕ} {tokens : List Token} {e : Form} (ranges : List Range) → tokens ≡ Class ranges ∷ [] → e ≡ class ranges → IsAtom depth tokens e
-    group : {depth : ℕ} {tokens : List Token} {e : Form} {inner : List Token} {es : List Form} → depth < 200 → IsChoice (depth + 1) inner es → tokens ≡ Open ∷ inner ++ Close ∷ [] → e ≡ either (forms_of es) → IsAtom depth tokens e
+    group : {depth : ℕ} {tokens : List Token} {e : Form} {inner : List Token} {es : List Form} → depth < 200 → IsChoice (suc depth) inner es → tokens ≡ Open ∷ inner ++ Close ∷ [] → e ≡ either (forms_of es) → IsAtom depth tokens e
 
   -- A factor: an atom, with at most one sign of repetition.
   pub data IsFactor : ℕ → List Token → Form → Type 0 where

@@ -1,4 +1,5 @@
 pub mod Forms
+pub mod Codes
 pub mod Plain
 pub mod Language
 pub mod Grammar

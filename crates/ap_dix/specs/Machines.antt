@@ -84,19 +84,19 @@ with_token made (Some t) = Some (outside (made ++ t ∷ []))
 abbrev pub outside_step : List Token → Piece → Option Telling
 outside_step made p = if is_sign 91 p then Some (inside made [] Fresh) else with_token made (token_of p)
 
-abbrev pub telling_step : Telling → Piece → Option Telling
-telling_step s p = choose_step s.made s.class s.member p
-
 abbrev pub choose_step : List Token → Option (List Range) → Member → Piece → Option Telling
 choose_step made None member p = outside_step made p
 choose_step made (Some ranges) member p = class_step made ranges member p
 
-abbrev pub telling_end : Telling → Option (List Token)
-telling_end s = if is_closed s.class then Some s.made else None
-
 abbrev pub is_closed : Option (List Range) → Bool
 is_closed None = true
 is_closed (Some ranges) = false
+
+abbrev pub telling_step : Telling → Piece → Option Telling
+telling_step s p = choose_step s.made s.class s.member p
+
+abbrev pub telling_end : Telling → Option (List Token)
+telling_end s = if is_closed s.class then Some s.made else None
 
 unfoldable pub tokens_of : List Piece → Option (List Token)
 tokens_of pieces = on_some (run telling_step (Some (outside [])) pieces) telling_end

@@ -14,7 +14,11 @@ impl Model for Expression {
     ghost use Rattle.ap_dix.specs.Forms.{Form};
     ghost use Rattle.ap_dix.specs.Plain.{plain};
 
+    ghost use Rattle.ap_dix.specs.Codes.{form_code};
+
     ghost Value = { Form };
+
+    ghost coded = { form_code };
 
     ghost view = { λ e. plain e.tree };
 }

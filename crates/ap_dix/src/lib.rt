@@ -27,6 +27,9 @@ pub use dictionary::{
 };
 pub use expr::{Expr, Exprs, Range, Ranges};
 pub use expression::Expression;
-pub use laws::{has_one_fault, spells_is_sound, spells_one, spells_without_fault};
+pub use laws::{
+    expression_is_spelled, has_one_fault, spells_is_sound, spells_one, spells_one_expression,
+    spells_without_fault,
+};
 pub use reading::read_dictionary;
 pub use refusal::{DixFault, DixKind, DixRefusal};

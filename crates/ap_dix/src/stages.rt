@@ -1,4 +1,4 @@
-ghost use Rattle.std.specs.Prelude.{◌≡◌, ◌++◌, map, length, reverse, IfOk, OnOk};
+ghost use Rattle.std.specs.Prelude.{◌≡◌, ◌++◌, map, reverse, IfOk, option_to_list};
 ghost use Rattle.std.specs.Option.{option_map};
 ghost use Rattle.ap_dix.specs.Grammar.{symbol_of, repeated};
 ghost use Rattle.ap_dix.specs.Machines.{flushed, with_atom, closed, repeat_step, close_step, bar_step, stack_step, stack_end, choices_of};
@@ -224,5 +224,6 @@ pub fn choices(alloc: Global, tokens: Vec<Token>) -> Result<Option<Exprs>, Memor
             Some(next) => stack = next,
         }
     }
-    stack_end(stack)
+    let choices = stack_end(stack)?;
+    Ok(choices)
 }

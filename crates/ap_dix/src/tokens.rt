@@ -47,17 +47,18 @@ struct Telling {
 fn token_of(piece: Piece) -> Option<Token>
     ensures { result ≡ token_of piece }
 {
+    let code = piece.code;
     if piece.escaped {
-        return Some(Token::Character(piece.code));
+        return Some(Token::Character(code));
     }
-    match piece.code {
+    match code {
         '(' => Some(Token::Open),
         ')' => Some(Token::Close),
         '|' => Some(Token::Bar),
         '*' => Some(Token::Repeat(Repetition::AnyNumber)),
         '+' => Some(Token::Repeat(Repetition::AtLeastOnce)),
         '?' => Some(Token::Repeat(Repetition::AtMostOnce)),
-        c => { if is_reserved(c) { None } else { Some(Token::Character(c)) } }
+        _ => { if is_reserved(code) { None } else { Some(Token::Character(code)) } }
     }
 }
 
