@@ -1,3 +1,10 @@
+pub mod Forms
+pub mod Codes
+pub mod Plain
+pub mod Language
+pub mod Grammar
+pub mod Machines
+pub mod Views
 pub mod Derivation
 pub mod Refusals
 pub mod Soundness

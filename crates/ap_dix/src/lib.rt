@@ -3,22 +3,33 @@
 
 mod dictionary;
 mod entries;
+mod expr;
+mod expression;
+mod expressions;
 mod faults;
 mod laws;
 mod names;
 mod pardefs;
+mod pieces;
 mod reading;
 mod refusal;
 mod said;
 mod sections;
+mod stages;
 #[cfg(test)]
 mod tests;
+mod tokens;
 mod words;
 
 pub use dictionary::{
     Dictionary, Direction, Entries, Entry, EntryPart, EntryParts, Kind, Pardef, Pardefs, Section,
     Sections, Side,
 };
-pub use laws::{has_one_fault, spells_is_sound, spells_one, spells_without_fault};
+pub use expr::{Expr, Exprs, Range, Ranges};
+pub use expression::Expression;
+pub use laws::{
+    expression_is_spelled, has_one_fault, spells_is_sound, spells_one, spells_one_expression,
+    spells_without_fault,
+};
 pub use reading::read_dictionary;
 pub use refusal::{DixFault, DixKind, DixRefusal};

@@ -9,6 +9,7 @@ pub mod Trims
 pub mod SilenceLaws
 pub mod CycleLaws
 pub mod Gluing
+pub mod Stars
 pub mod Laws
 pub mod QuietLaws
 pub mod Adding

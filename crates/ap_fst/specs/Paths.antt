@@ -22,3 +22,12 @@ pub record IsJoined (a b : Sketch) (labels : List Label) : Type 0 where
 
 abbrev pub IsEither : Sketch → Sketch → List Label → Type 0
 IsEither a b labels = Accepts a labels ⊎ Accepts b labels
+
+-- any number of strings of a draft, one after another
+pub data Repeats (a : Sketch) : List Label → Type 0 where
+  done : Repeats a []
+  more : {whole : List Label} (front back : List Label) → whole ≡ front ++ back → Accepts a front → Repeats a back → Repeats a whole
+
+-- the empty string, or one of a draft
+abbrev pub IsOptional : Sketch → List Label → Type 0
+IsOptional a labels = (labels ≡ []) ⊎ Accepts a labels

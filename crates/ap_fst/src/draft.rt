@@ -76,6 +76,17 @@ fn copy_moves(alloc: Global, moves: &[Move]) -> Result<Vec<Move>, Memory>
     Ok(made)
 }
 
+fn push_empty(moves: &mut Vec<Move>, from: usize, to: usize) -> Result<(), Memory>
+    ensures { OnOk result (moves.new.items ≡ moves.old.items ++ record { from = from; label = None; to = to } ∷ []) }
+{
+    moves.push(Move {
+        from,
+        label: None,
+        to,
+    })?;
+    Ok(())
+}
+
 /// A transducer with empty moves, one start and one end. No move enters its start or leaves its end.
 #[derive(Debug, Drop)]
 pub struct Draft {
@@ -96,7 +107,7 @@ impl Model for Draft {
 }
 
 impl Draft {
-    ghost use Rattle.ap_fst.specs.Paths.{Accepts, IsJoined, IsEither};
+    ghost use Rattle.ap_fst.specs.Paths.{Accepts, IsJoined, IsEither, IsOptional, Repeats};
     ghost use Rattle.ap_fst.specs.declared.label.Label.{Label};
 
     /// Accepts no string.
@@ -212,6 +223,50 @@ impl Draft {
         add_moves(&mut moves, more, place)?;
         Ok(Draft {
             states: all,
+            start,
+            end,
+            moves,
+        })
+    }
+
+    /// Accepts any number of strings of it, one after another.
+    pub fn star(self) -> Result<Draft, Memory>
+        ensures { IfOk result (λ made. (labels : List Label) → Accepts made labels ↔ Repeats self labels) }
+    {
+        let Draft {
+            states,
+            start,
+            end,
+            mut moves,
+        } = self;
+        let Some(all) = states.checked_add(2) else {
+            return Err(Memory);
+        };
+        push_empty(&mut moves, states, start)?;
+        push_empty(&mut moves, end, start)?;
+        push_empty(&mut moves, end, states + 1)?;
+        push_empty(&mut moves, states, states + 1)?;
+        Ok(Draft {
+            states: all,
+            start: states,
+            end: states + 1,
+            moves,
+        })
+    }
+
+    /// Accepts at most one string of it.
+    pub fn opt(self) -> Result<Draft, Memory>
+        ensures { IfOk result (λ made. (labels : List Label) → Accepts made labels ↔ IsOptional self labels) }
+    {
+        let Draft {
+            states,
+            start,
+            end,
+            mut moves,
+        } = self;
+        push_empty(&mut moves, start, end)?;
+        Ok(Draft {
+            states,
             start,
             end,
             moves,
