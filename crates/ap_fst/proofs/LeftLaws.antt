@@ -1,5 +1,5 @@
 -- The edges of a state with a left side stand together.
-use Rattle.std.proofs.Common.{◌≡◌, ◌⊎◌, inl, inr, ℕ, ◌<◌, ◌≤◌, List, [], ◌∷◌, refl, sym, ◌∙◌, ap, subst, arith, Option, Some, None, slice_get}
+use Rattle.std.proofs.Common.{◌≡◌, ◌⊎◌, inl, inr, ℕ, ◌≤◌, List, refl, sym, ◌∙◌, ap, arith, Option, None}
 use Rattle.std.specs.List.Sorted.{IsNonDecreasingBy}
 use Rattle.std.specs.Cmp.{IsTotalOrder}
 use Rattle.std.specs.Ordering.{nat_cmp, ordering_then, ordering_index, ordering_reverse}
@@ -7,7 +7,7 @@ use Rattle.std.specs.declared.cmp.Ordering.{Ordering}
 use Rattle.std.specs.declared.cmp.Ordering.TheVariants.{Less, Equal, Greater}
 use Rattle.std.proofs.lemmas.Cmp.{nat_cmp_total, on_total, then_total}
 use Rattle.ap_symbol.specs.declared.symbol.Symbol.{Symbol}
-use Rattle.ap_fst.specs.Lists.{IsIn, Ascends, IsKeyRange}
+use Rattle.ap_fst.specs.Lists.{Ascends, IsKeyRange}
 use Rattle.ap_fst.specs.Order.{side_cmp, edge_cmp, left_cmp, left_place}
 use Rattle.ap_fst.specs.Machines.{IsSpanBy}
 use Rattle.ap_fst.specs.declared.label.Label.{Label}

@@ -21,9 +21,13 @@ use std::marker::Model;
 ///
 /// A transducer reads its left sides. Its symbols fit the inputs one by one, each under the flag
 /// for case of its own step.
+///
+/// Rows that `cut` drops are kept as spare ones, whose memory later steps take; contracts don't see
+/// them.
 #[derive(Debug, Drop)]
 pub struct Live {
     rows: Vec<Row>,
+    spare: Vec<Row>,
     is_void: bool,
 }
 
@@ -53,7 +57,11 @@ impl Live {
     {
         let rows = first_rows(alloc, fst)?;
         let is_void = has_no_final(fst);
-        Ok(Live { rows, is_void })
+        Ok(Live {
+            rows,
+            spare: Vec::new(alloc),
+            is_void,
+        })
     }
 
     /// Goes on by one input of the same transducer: over the edges whose left symbol fits it, and
@@ -63,7 +71,7 @@ impl Live {
         ensures ok { OnOk result ((seen : List Input) → IsLive fst.now seen self.old → IsLive fst.now (seen ++ record { symbol = input.now; sensitive = sensitive } ∷ []) self.new) }
         ensures err { OnErr result (self.new ≡ self.old) }
     {
-        add_row(&mut self.rows, fst, input, sensitive)
+        add_row(&mut self.rows, &mut self.spare, fst, input, sensitive)
     }
 
     /// The outputs of the inputs so far, for the same transducer, which has no cycle of edges with
@@ -105,7 +113,7 @@ impl Live {
     pub fn cut(&mut self, len: usize)
         ensures { (m : Machine) (seen : List Input) → IsLive m seen self.old → IsLive m (take len seen) self.new }
     {
-        cut_rows(&mut self.rows, len);
+        cut_rows(&mut self.rows, &mut self.spare, len);
     }
 
     /// Whether the inputs fit no beginning of the left word of an accepted label list. This is exact

@@ -1,4 +1,4 @@
-ghost use Rattle.std.specs.Prelude.{◌≡◌, ◌^◌, ◌<◌, ◌≤◌, ◌++◌, ℕ, [], ◌∷◌, List, IfOk, OnOk, OnErr, IsTrue, ◌↔◌, nat_eq, length, take, true, Some};
+ghost use Rattle.std.specs.Prelude.{◌≡◌, ◌^◌, ◌<◌, ◌≤◌, ◌++◌, ◌-◌, ℕ, [], ◌∷◌, List, IfOk, OnOk, OnErr, IsTrue, ◌↔◌, nat_eq, length, take, true, Some};
 ghost use Rattle.std.specs.List.{IsDistinct};
 ghost use Rattle.std.specs.Option.{option_copied};
 ghost use Rattle.ap_fst.specs.declared.label.Edge.{Edge};
@@ -160,12 +160,52 @@ pub struct Row {
     pub links: Vec<usize>,
 }
 
-fn next_row(alloc: Global, fst: &Fst, last: &[usize], pick: Pick<'_>) -> Result<Row, Memory>
+fn no_row(alloc: Global) -> Row
+    ensures states { result.states.items ≡ [] }
+    ensures links { result.links.items ≡ [] }
+{
+    Row {
+        states: Vec::new(alloc),
+        links: Vec::new(alloc),
+    }
+}
+
+/// The row with nothing in it, and with its memory.
+fn emptied(row: Row) -> Row
+    ensures states { result.states.items ≡ [] }
+    ensures links { result.links.items ≡ [] }
+{
+    let Row {
+        mut states,
+        mut links,
+    } = row;
+    states.clear();
+    links.clear();
+    Row { states, links }
+}
+
+/// A row with nothing in it, and with the memory of a spare row, if there is one.
+fn blank_row(alloc: Global, spare: &mut Vec<Row>) -> Row
+    ensures states { result.states.items ≡ [] }
+    ensures links { result.links.items ≡ [] }
+{
+    match spare.pop() {
+        None => no_row(alloc),
+        Some(row) => emptied(row),
+    }
+}
+
+/// The row after one input more, in place of a blank one.
+fn next_row(fst: &Fst, last: &[usize], pick: Pick<'_>, blank: Row) -> Result<Row, Memory>
+    requires states { blank.states.items ≡ [] }
+    requires links { blank.links.items ≡ [] }
     ensures { IfOk result (λ row. IsNext fst.now.edges (pick_of pick.entry) last.now row) }
 {
     let _ = fst.states();
-    let mut states = Vec::new(alloc);
-    let mut links = Vec::new(alloc);
+    let Row {
+        mut states,
+        mut links,
+    } = blank;
     let other = other_symbol(pick);
     spread(fst, last, pick, other.as_ref(), &mut states, &mut links)?;
     sort_states(&mut states);
@@ -193,9 +233,11 @@ pub(crate) fn first_rows(alloc: Global, fst: &Fst) -> Result<Vec<Row>, Memory>
     Ok(rows)
 }
 
-/// Adds the row after one input more. After a refusal the rows are unchanged.
+/// Adds the row after one input more. After a refusal the rows are unchanged. There is room for all
+/// rows but the first among the spare ones then.
 pub(crate) fn add_row(
     rows: &mut Vec<Row>,
+    spare: &mut Vec<Row>,
     fst: &Fst,
     input: &Symbol,
     sensitive: bool,
@@ -207,11 +249,13 @@ pub(crate) fn add_row(
     let Some(last) = rows.last() else {
         return Ok(());
     };
+    spare.reserve(rows.len())?;
+    let blank = blank_row(alloc, spare);
     let row = next_row(
-        alloc,
         fst,
         last.states.as_slice(),
         Pick::Fitting(input, sensitive),
+        blank,
     )?;
     rows.push(row)?;
     Ok(())
@@ -248,11 +292,20 @@ pub(crate) fn ends_finally(fst: &Fst, rows: &[Row]) -> bool
     }
 }
 
+/// Takes away the last row, which is kept as a spare one. There is room for it.
+fn drop_row(rows: &mut Vec<Row>, spare: &mut Vec<Row>)
+    ensures { rows.new.items ≡ take (length rows.old.items - 1) rows.old.items }
+{
+    if let Some(row) = rows.pop() {
+        let _ = spare.push(row);
+    }
+}
+
 /// Goes back to the rows of the first so many inputs.
-pub(crate) fn cut_rows(rows: &mut Vec<Row>, len: usize)
+pub(crate) fn cut_rows(rows: &mut Vec<Row>, spare: &mut Vec<Row>, len: usize)
     ensures { (edges : List Edge) (seen : List Input) → AreRows edges seen rows.old.items → AreRows edges (take len seen) rows.new.items }
 {
-    if len < rows.as_slice().len() {
-        rows.truncate(len + 1);
+    'cut: while len < rows.as_slice().len().saturating_sub(1) {
+        drop_row(rows, spare);
     }
 }
