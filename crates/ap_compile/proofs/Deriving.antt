@@ -6,13 +6,13 @@ use Rattle.std.proofs.lemmas.List.{take_more, take_all}
 use Rattle.std.proofs.lemmas.Option.{slice_get-get_or}
 use Rattle.ap_symbol.specs.Lists.{IsIn, IsAt}
 use Rattle.ap_symbol.specs.declared.symbol.Symbol.{Symbol}
-use Rattle.ap_dix.specs.Derivation.{Label as EntryLabel, Derives, nothing, identity, pair, paradigm, paired, facing, is_kept}
+use Rattle.ap_dix.specs.Derivation.{Label as EntryLabel, Derives, nothing, identity, pair, paradigm, expression, paired, facing, is_kept}
 use Rattle.ap_dix.specs.Soundness.{is_sound_part, is_sound_entry, are_sound_pardefs}
 use Rattle.ap_dix.specs.declared.dictionary.Dictionary.{Dictionary}
 use Rattle.ap_dix.specs.declared.dictionary.Direction.{Direction}
 use Rattle.ap_dix.specs.declared.dictionary.Entry.{Entry}
 use Rattle.ap_dix.specs.declared.dictionary.EntryPart.{EntryPart}
-use Rattle.ap_dix.specs.declared.dictionary.EntryPart.TheVariants.{Identity, Pair, Paradigm}
+use Rattle.ap_dix.specs.declared.dictionary.EntryPart.TheVariants.{Identity, Pair, Paradigm, Expression}
 use Rattle.ap_dix.specs.declared.dictionary.Pardef.{Pardef}
 use Rattle.ap_fst.specs.Sketches.{Sketch}
 use Rattle.ap_fst.specs.Paths.{Accepts, IsJoined}
@@ -93,6 +93,10 @@ derives_cut d direction (Pair left right ∷ a) b w (pair {labels = labels} k e)
     let c : IsCut (Derives d direction a) (Derives d direction b) labels = derives_cut d direction a b labels k in
     let own : List EntryLabel = facing direction (paired left right) in
     record { front = own ++ c.front; back = c.back; whole = e ∙ ap (λ z. own ++ z) c.whole ∙ sym (append_assoc own c.front c.back); first = pair c.first refl; second = c.second }
+derives_cut d direction (Expression f text ∷ a) b w (expression {labels = labels} string l k e) =
+    let c : IsCut (Derives d direction a) (Derives d direction b) labels = derives_cut d direction a b labels k in
+    let own : List EntryLabel = facing direction (paired string string) in
+    record { front = own ++ c.front; back = c.back; whole = e ∙ ap (λ z. own ++ z) c.whole ∙ sym (append_assoc own c.front c.back); first = expression string l c.first refl; second = c.second }
 derives_cut d direction (Paradigm n ∷ a) b w (paradigm {own = own} {labels = labels} pardef entry at listed kept derived k e) =
     let c : IsCut (Derives d direction a) (Derives d direction b) labels = derives_cut d direction a b labels k in
     record { front = own ++ c.front; back = c.back; whole = e ∙ ap (λ z. own ++ z) c.whole ∙ sym (append_assoc own c.front c.back); first = paradigm pardef entry at listed kept derived c.first refl; second = c.second }
@@ -103,6 +107,8 @@ derives_joined d direction (Identity word ∷ a) b front back (identity {labels 
     identity (derives_joined d direction a b labels back h k) (ap (λ z. z ++ back) e ∙ append_assoc (facing direction (paired word word)) labels back)
 derives_joined d direction (Pair left right ∷ a) b front back (pair {labels = labels} h e) k =
     pair (derives_joined d direction a b labels back h k) (ap (λ z. z ++ back) e ∙ append_assoc (facing direction (paired left right)) labels back)
+derives_joined d direction (Expression f text ∷ a) b front back (expression {labels = labels} string l h e) k =
+    expression string l (derives_joined d direction a b labels back h k) (ap (λ z. z ++ back) e ∙ append_assoc (facing direction (paired string string)) labels back)
 derives_joined d direction (Paradigm n ∷ a) b front back (paradigm {own = own} {labels = labels} pardef entry at listed kept derived h e) k =
     paradigm pardef entry at listed kept derived (derives_joined d direction a b labels back h k) (ap (λ z. z ++ back) e ∙ append_assoc own labels back)
 

@@ -1,6 +1,8 @@
 pub mod Words
 pub mod Drafting
 pub mod Choosing
+pub mod Forming
+pub mod Spanning
 pub mod Deriving
 pub mod Telling
 pub mod Lettering

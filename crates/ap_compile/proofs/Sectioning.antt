@@ -4,7 +4,7 @@ use Rattle.std.specs.Prelude.{IsTrue, ◌↔◌, ◌&&◌}
 use Rattle.std.specs.List.{list_all}
 use Rattle.std.specs.Option.{option_to_list}
 use Rattle.std.proofs.lemmas.Bool.{and_parts, cases_Bool, cases_eq}
-use Rattle.std.proofs.lemmas.List.{length-map}
+use Rattle.std.proofs.lemmas.List.{length-map, map-append}
 use Rattle.std.proofs.lemmas.List.Folds.{list_all-append}
 use Rattle.ap_symbol.specs.Lists.{IsIn}
 use Rattle.ap_symbol.specs.declared.symbol.Symbol.{Symbol}
@@ -23,7 +23,7 @@ use Rattle.ap_fst.specs.declared.label.Label.{Label}
 use Rattle.ap_fst.specs.declared.label.Edge.{Edge}
 use Rattle.ap_compile.specs.Labels.{derived_label, derived_labels, ArePlain}
 use Rattle.ap_compile.specs.Empties.{HasEmptyEntry, section_entries}
-use Rattle.ap_compile.proofs.Bounding.{HasShortStrings, short_strings, entry_of_section}
+use Rattle.ap_compile.proofs.Bounding.{HasShortStrings, short_strings, entry_of_section, quiet, silent_quiet, quiet_within}
 
 walk_joined : (edges : List Edge) (s t u : ℕ) (front back : List Label) → Walk edges s front t → Walk edges t back u → Walk edges s (front ++ back) u
 walk_joined edges s t u [] back (ends e) k = subst (λ (x : ℕ). Walk edges x back u) (sym e) k
@@ -75,21 +75,18 @@ left_same : (w : List Label) → derived_left_word (derived_labels w) ≡ left_w
 left_same [] = refl
 left_same (l ∷ w) = ap (λ z. option_to_list l.left ++ z) (left_same w)
 
-run_length : (w middle : List Label) → IsSilentRun w middle → length middle ≤ length w
-run_length w middle r =
-    let one : length w ≡ length r.front + length (middle ++ r.back) = ap length r.whole ∙ length-append r.front (middle ++ r.back) in
-    omega (arith, one, length-append middle r.back)
-
 runs_bounded : (d : Dictionary) (direction : Direction) (kind : Kind) (m : Machine) → IsSound d → ((w : List Label) → AcceptsLabels m w ↔ Strings d direction kind (derived_labels w)) → HasBoundedRuns m
 runs_bounded d direction kind m sound h =
     let s : HasShortStrings d direction = short_strings d direction sound in
     record {
       bound = s.bound;
       short = λ w middle a r.
-          let one : length (derived_labels w) ≤ s.bound = s.short kind (derived_labels w) ((h w).0 a) in
-          let two : length (derived_labels w) ≡ length w = length-map w derived_label in
-          let three : length middle ≤ length w = run_length w middle r in
-          omega (arith, one, two, three);
+          let one : quiet (derived_labels w) ≤ s.bound = s.short kind (derived_labels w) ((h w).0 a) in
+          let two : length (derived_labels middle) ≡ length middle = length-map middle derived_label in
+          let three : length (derived_labels middle) ≡ quiet (derived_labels middle) = silent_quiet (derived_labels middle) (left_same middle ∙ r.silent) in
+          let four : quiet (derived_labels middle) ≤ quiet (derived_labels w) = quiet_within (derived_labels r.front) (derived_labels middle) (derived_labels r.back) (derived_labels w)
+            (ap derived_labels r.whole ∙ map-append derived_label r.front (middle ++ r.back) ∙ ap (λ z. derived_labels r.front ++ z) (map-append derived_label middle r.back)) in
+          omega (arith, one, two, three, four);
     }
 
 no_empty_side : (d : Dictionary) (direction : Direction) (kind : Kind) (m : Machine) → ((w : List Label) → AcceptsLabels m w ↔ Strings d direction kind (derived_labels w)) → (HasEmptyEntry d direction (section_entries d.sections) → ⊥) → HasEmptySide m → ⊥

@@ -13,7 +13,7 @@ use Rattle.ap_dix.specs.declared.dictionary.Direction.{Direction}
 use Rattle.ap_dix.specs.declared.dictionary.Direction.TheVariants.{Lr, Rl}
 use Rattle.ap_dix.specs.declared.dictionary.Entry.{Entry}
 use Rattle.ap_dix.specs.declared.dictionary.EntryPart.{EntryPart}
-use Rattle.ap_dix.specs.declared.dictionary.EntryPart.TheVariants.{Identity, Pair, Paradigm}
+use Rattle.ap_dix.specs.declared.dictionary.EntryPart.TheVariants.{Identity, Pair, Paradigm, Expression}
 use Rattle.ap_dix.specs.declared.dictionary.Pardef.{Pardef}
 use Rattle.ap_dix.specs.declared.dictionary.Section.{Section}
 use Rattle.ap_compile.specs.Drafts.{SpellsAt}
@@ -21,6 +21,10 @@ use Rattle.ap_compile.specs.Empties.{IsSilent, IsEmptyEntry, HasEmptyEntry, IsEm
 use Rattle.ap_compile.proofs.Choosing.{in_front, in_back, in_either}
 use Rattle.ap_compile.proofs.Drafting.{IsCut}
 use Rattle.ap_compile.proofs.Deriving.{one_identity, one_pair, one_paradigm, none_derived, derives_cut, derives_joined, snoc_get, get_at}
+use Rattle.ap_dix.specs.Forms.{Form}
+use Rattle.ap_dix.specs.Language.{Lang}
+use Rattle.ap_compile.specs.Forming.{OfStrings}
+use Rattle.ap_compile.proofs.Forming.{one_expression, of_expression}
 use Rattle.ap_compile.proofs.Words.{paired_swapped}
 
 -- what the labels of two words read
@@ -64,6 +68,14 @@ paradigm_silent d direction empties n b are at = (
       record { labels = q.labels; derived = paradigm s.pardef s.has.entry (get_at d.pardefs n s.pardef s.at) s.has.listed s.has.empty.kept q.derived nothing (sym (append-nil q.labels)); silent = q.silent }),
   (λ s. (are.each n b at).1 (let k : SpellsAt d direction n s.labels = one_paradigm d direction n s.labels s.derived in
       record { pardef = k.pardef; at = k.at; has = record { entry = k.spells.item; listed = k.spells.listed; empty = record { kept = k.spells.holds.kept; silent = record { labels = s.labels; derived = k.spells.holds.derived; silent = s.silent } } } })),
+)
+
+pub expression_silent : (d : Dictionary) (direction : Direction) (e : Form) (text : List ℕ) (b : Bool) → (IsTrue b ↔ Lang e []) → IsTrue b ↔ IsSilent d direction (Expression e text ∷ [])
+expression_silent d direction e text b h = (
+  (λ t. record { labels = []; derived = of_expression d direction e text [] (record { string = []; held = h.0 t; is = refl }); silent = refl }),
+  (λ s. let o : OfStrings (Lang e) s.labels = one_expression d direction e text s.labels s.derived in
+      let none : o.string ≡ [] = sym (left_paired o.string o.string) ∙ ap left_word (sym o.is) ∙ s.silent in
+      h.1 (subst (Lang e) none o.held)),
 )
 
 -- parts

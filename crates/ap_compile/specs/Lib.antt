@@ -2,4 +2,5 @@ pub mod Labels
 pub mod Drafts
 pub mod Partners
 pub mod Empties
+pub mod Forming
 pub mod Compiling

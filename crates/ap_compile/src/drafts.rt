@@ -6,6 +6,7 @@ ghost use Rattle.ap_dix.specs.declared.dictionary.Dictionary.{Dictionary as Lexi
 ghost use Rattle.ap_compile.specs.Labels.{label_of, IsEntryWord};
 ghost use Rattle.ap_compile.specs.Drafts.{IsDraftOf, IsMoreBy, Any, Spells, AreDrafts};
 
+use crate::expressions::expression_draft;
 use ap_dix::{Dictionary, Direction, Entry, EntryPart};
 use ap_fst::{Draft, Label};
 use ap_symbol::{Memory, Symbol, Word};
@@ -86,6 +87,7 @@ fn part_draft(
             let draft = &drafts[*n];
             draft.copy(alloc)
         }
+        EntryPart::Expression(expression, _) => expression_draft(alloc, expression.tree()),
     }
 }
 

@@ -7,6 +7,7 @@ ghost use Rattle.ap_dix.specs.declared.dictionary.Dictionary.{Dictionary as Lexi
 ghost use Rattle.ap_compile.specs.Empties.{IsSilent, IsEmptyEntry, HasEmptyEntry, AreEmpties, IsFirstEmpty, section_entries};
 
 use crate::drafts::is_entry_kept;
+use crate::expressions::has_empty;
 use ap_dix::{Dictionary, Direction, Entry, EntryPart, Section};
 use ap_symbol::{Memory, Word};
 use std::alloc::Global;
@@ -30,6 +31,7 @@ fn is_part_silent(direction: Direction, empties: &[bool], part: &EntryPart) -> b
         EntryPart::Identity(word) => reads_nothing(direction, word, word),
         EntryPart::Pair(left, right) => reads_nothing(direction, left, right),
         EntryPart::Paradigm(n) => empties[*n],
+        EntryPart::Expression(expression, _) => has_empty(expression.tree()),
     }
 }
 

@@ -5,6 +5,7 @@ mod alphabet;
 mod compiling;
 mod drafts;
 mod empties;
+mod expressions;
 mod sections;
 #[cfg(test)]
 mod tests;

@@ -118,3 +118,27 @@ fn an_empty_input_side_is_refused(rt: HostRuntime) -> Result<(), Fail> {
     assert_eq!(rt; compiled.section(Kind2::Preblank).states(), 1);
     Ok(())
 }
+
+const NUMBERS: &str =
+    "<dictionary><sdefs><sdef n=\"num\"/></sdefs><section id=\"m\" type=\"standard\"><e><re>[0-9]+([.,][0-9]+)?</re><p><l></l><r><s n=\"num\"/></r></p></e></section></dictionary>";
+
+const MAYBE: &str =
+    "<dictionary><section id=\"m\" type=\"standard\">\n<e><re>(a*b?)+</re></e></section></dictionary>";
+
+#[test]
+fn expressions_are_compiled(rt: HostRuntime) -> Result<(), Fail> {
+    let alloc = rt.alloc();
+    let dictionary = read_dictionary(alloc, NUMBERS.as_bytes())?;
+    let compiled = compile(alloc, &dictionary, Direction::Lr)?;
+    let standard = compiled.section(Kind2::Standard);
+    assert_eq!(rt; standard.edges_from(0).len(), 10);
+    for edge in standard.edges_from(0) {
+        assert_eq!(rt; letter(&edge.label.left), letter(&edge.label.right));
+    }
+    let dictionary = read_dictionary(alloc, MAYBE.as_bytes())?;
+    let Err(refusal) = compile(alloc, &dictionary, Direction::Lr) else {
+        return Err(Memory)?;
+    };
+    assert_eq!(rt; refusal, CompileRefusal::EmptySide { line: 2 });
+    Ok(())
+}

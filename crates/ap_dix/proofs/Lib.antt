@@ -1,10 +1,11 @@
 pub mod Keys
 pub mod Walks
-pub mod Sound
-pub mod Read
 pub mod Runs
 pub mod CutLaws
 pub mod TokenLaws
 pub mod StackLaws
 pub mod PlainLaws
 pub mod ExprLaws
+pub mod FormsSound
+pub mod Sound
+pub mod Read

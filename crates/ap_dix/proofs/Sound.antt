@@ -13,15 +13,18 @@ use Rattle.ap_markup.specs.Elements.{elements, Spelled}
 use Rattle.ap_markup.specs.Tree.{Tag, Parts, Done, Run, Element}
 use Rattle.ap_markup.specs.declared.tables.Table.TheVariants.{Dix}
 use Rattle.ap_dix.specs.Faults.{first_mark, sooner}
+use Rattle.ap_dix.specs.Forms.{Form}
+use Rattle.ap_dix.specs.Machines.{expression}
+use Rattle.ap_dix.proofs.FormsSound.{expression_sound}
 use Rattle.ap_dix.specs.Names.{has_name, with_name, number_of}
-use Rattle.ap_dix.specs.Said.{name_of, is_named, child}
+use Rattle.ap_dix.specs.Said.{name_of, is_named, child, texts}
 use Rattle.ap_dix.specs.Soundness.{IsSound, is_entry_symbol, is_sound_part, is_sound_entry, are_sound_pardefs}
 use Rattle.ap_dix.specs.Spelling.{spelled, judged, decided, mark_of, root_parts}
-use Rattle.ap_dix.specs.Value.{entry_part, entry_parts, entry, entries, pardef, pardefs, names_with, section, sections, alphabet, dictionary}
+use Rattle.ap_dix.specs.Value.{expression_part, entry_part, entry_parts, entry, entries, pardef, pardefs, names_with, section, sections, alphabet, dictionary}
 use Rattle.ap_dix.specs.WordText.{letter, letters, mark, tag_named, element_symbols, symbols}
 use Rattle.ap_dix.specs.declared.dictionary.Dictionary.{Dictionary}
 use Rattle.ap_dix.specs.declared.dictionary.EntryPart.{EntryPart}
-use Rattle.ap_dix.specs.declared.dictionary.EntryPart.TheVariants.{Identity, Pair, Paradigm}
+use Rattle.ap_dix.specs.declared.dictionary.EntryPart.TheVariants.{Identity, Pair, Paradigm, Expression}
 use Rattle.ap_dix.specs.declared.dictionary.Section.{Section}
 use Rattle.ap_dix.specs.declared.faults.Mark.{Mark}
 
@@ -73,17 +76,22 @@ number_below false k len bound e le = refl
 number_sound : (names : List (List ℕ)) (name : List ℕ) (bound : ℕ) → length names ≤ bound → list_all (is_sound_part bound) (option_to_list (option_map Paradigm (number_of names name))) ≡ true
 number_sound names name bound le = number_below (ltb (position_or_len (bytes_eq name) names) (length names)) (position_or_len (bytes_eq name) names) (length names) bound refl le
 
-part_of_sound : (i p par : Bool) (bound : ℕ) (word left right : List Symbol) (number : Option EntryPart) → list_all is_entry_symbol word ≡ true → list_all is_entry_symbol left ≡ true → list_all is_entry_symbol right ≡ true → list_all (is_sound_part bound) (option_to_list number) ≡ true
-    → list_all (is_sound_part bound) (option_to_list (cond i (Some (Identity word)) (cond p (Some (Pair left right)) (cond par number None)))) ≡ true
-part_of_sound true p par bound word left right number w l r n = rw w refl
-part_of_sound false true par bound word left right number w l r n = rw (l, r) refl
-part_of_sound false false true bound word left right number w l r n = n
-part_of_sound false false false bound word left right number w l r n = refl
+part_of_sound : (i p par re : Bool) (bound : ℕ) (word left right : List Symbol) (number form : Option EntryPart) → list_all is_entry_symbol word ≡ true → list_all is_entry_symbol left ≡ true → list_all is_entry_symbol right ≡ true → list_all (is_sound_part bound) (option_to_list number) ≡ true → list_all (is_sound_part bound) (option_to_list form) ≡ true
+    → list_all (is_sound_part bound) (option_to_list (cond i (Some (Identity word)) (cond p (Some (Pair left right)) (cond par number (cond re form None))))) ≡ true
+part_of_sound true p par re bound word left right number form w l r n f = rw w refl
+part_of_sound false true par re bound word left right number form w l r n f = rw (l, r) refl
+part_of_sound false false true re bound word left right number form w l r n f = n
+part_of_sound false false false true bound word left right number form w l r n f = f
+part_of_sound false false false false bound word left right number form w l r n f = refl
+
+form_sound : (bound : ℕ) (text : List ℕ) (o : Option Form) → expression text ≡ o → list_all (is_sound_part bound) (option_to_list (option_map (λ e. Expression e text) o)) ≡ true
+form_sound bound text None e = refl
+form_sound bound text (Some form) e = rw (expression_sound text form e) refl
 
 part_sound : (names : List (List ℕ)) (tag : Tag) (kids : Parts) (bound : ℕ) → length names ≤ bound → list_all (is_sound_part bound) (option_to_list (entry_part names tag kids)) ≡ true
 part_sound names tag kids bound le =
-    part_of_sound (is_named (codes "i") tag) (is_named (codes "p") tag) (is_named (codes "par") tag) bound (symbols kids) (symbols (child (codes "l") kids)) (symbols (child (codes "r") kids)) (option_map Paradigm (number_of names (name_of tag.attributes)))
-    (symbols_sound kids) (symbols_sound (child (codes "l") kids)) (symbols_sound (child (codes "r") kids)) (number_sound names (name_of tag.attributes) bound le)
+    part_of_sound (is_named (codes "i") tag) (is_named (codes "p") tag) (is_named (codes "par") tag) (is_named (codes "re") tag) bound (symbols kids) (symbols (child (codes "l") kids)) (symbols (child (codes "r") kids)) (option_map Paradigm (number_of names (name_of tag.attributes))) (expression_part (texts kids))
+    (symbols_sound kids) (symbols_sound (child (codes "l") kids)) (symbols_sound (child (codes "r") kids)) (number_sound names (name_of tag.attributes) bound le) (form_sound bound (texts kids) (expression (texts kids)) refl)
 
 parts_sound : (names : List (List ℕ)) (bound : ℕ) → length names ≤ bound → (p : Parts) → list_all (is_sound_part bound) (entry_parts names p) ≡ true
 unfolding entry_parts

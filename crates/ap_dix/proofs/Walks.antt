@@ -12,7 +12,7 @@ use Rattle.ap_markup.proofs.ViewLemmas.{part_then-Element}
 use Rattle.ap_markup.proofs.Steps.{from_here}
 use Rattle.ap_dix.specs.Faults.{tag_kind, marked, or_else, defined_after, defined_in, first_in, first_mark, declared_by, declared_in}
 use Rattle.ap_dix.specs.Names.{with_name}
-use Rattle.ap_dix.specs.Said.{is_named, child, name_of}
+use Rattle.ap_dix.specs.Said.{is_named, child, name_of, texts}
 use Rattle.ap_dix.specs.Value.{entry_part, entry_parts, entry, entries, pardef, pardefs, names_with, section, sections, alphabet}
 use Rattle.ap_dix.specs.WordText.{letters, mark, symbols}
 use Rattle.ap_dix.specs.declared.dictionary.EntryPart.{EntryPart}
@@ -143,6 +143,19 @@ pub alphabet_end : (parts : List Part) (i : ℕ) → length parts ≤ i → alph
 unfolding alphabet
 alphabet_end parts i over = ap alphabet (at_end parts i over)
 
+-- the texts
+pub texts_run : (parts : List Part) (i : ℕ) (p : Part) (text : List ℕ) (at : ℕ) → i < length parts → p ≡ get_or parts i p → p ≡ Run text at → texts (parts_of (drop i parts)) ≡ text ++ texts (parts_of (drop (i + 1) parts))
+unfolding texts
+texts_run parts i p text at lt is shape = ap texts (at_run parts i p text at lt is shape)
+
+pub texts_node : (parts : List Part) (i : ℕ) (p : Part) (n : Node) → i < length parts → p ≡ get_or parts i p → p ≡ Element n → texts (parts_of (drop i parts)) ≡ texts (parts_of (drop (i + 1) parts))
+unfolding texts
+texts_node parts i p n lt is shape = ap texts (at_node parts i p n lt is shape)
+
+pub texts_end : (parts : List Part) (i : ℕ) → length parts ≤ i → texts (parts_of (drop i parts)) ≡ []
+unfolding texts
+texts_end parts i over = ap texts (at_end parts i over)
+
 -- the names of paradigms, and the first fault
 pub defined_run : (defined : List (List ℕ)) (parts : List Part) (i : ℕ) (p : Part) (text : List ℕ) (at : ℕ) → i < length parts → p ≡ get_or parts i p → p ≡ Run text at → defined_in defined (parts_of (drop i parts)) ≡ defined_in defined (parts_of (drop (i + 1) parts))
 unfolding defined_in
@@ -160,7 +173,7 @@ pub first_run : (declared defined : List (List ℕ)) (parts : List Part) (i : �
 unfolding first_in
 first_run declared defined parts i p text at lt is shape = ap (first_in declared defined) (at_run parts i p text at lt is shape)
 
-pub first_node : (declared defined : List (List ℕ)) (parts : List Part) (i : ℕ) (p : Part) (n : Node) → i < length parts → p ≡ get_or parts i p → p ≡ Element n → first_in declared defined (parts_of (drop i parts)) ≡ or_else (marked (tag_of n) (tag_kind declared defined (tag_of n))) (or_else (first_in declared defined (parts_of n.parts.items)) (first_in declared (defined_after (tag_of n) (defined_in defined (parts_of n.parts.items))) (parts_of (drop (i + 1) parts))))
+pub first_node : (declared defined : List (List ℕ)) (parts : List Part) (i : ℕ) (p : Part) (n : Node) → i < length parts → p ≡ get_or parts i p → p ≡ Element n → first_in declared defined (parts_of (drop i parts)) ≡ or_else (marked (tag_of n) (tag_kind declared defined (tag_of n) (parts_of n.parts.items))) (or_else (first_in declared defined (parts_of n.parts.items)) (first_in declared (defined_after (tag_of n) (defined_in defined (parts_of n.parts.items))) (parts_of (drop (i + 1) parts))))
 unfolding first_in
 first_node declared defined parts i p n lt is shape = ap (first_in declared defined) (at_node parts i p n lt is shape)
 
@@ -230,18 +243,18 @@ pub by_no : (n : Node) (names : List (List ℕ)) → is_named (codes "sdef") (ta
 by_no n names named = ap (λ b. cond b (with_name names (name_of (tag_of n).attributes)) names) named
 
 -- the first fault, where the start tag has it, where its parts have it, and where neither has one
-pub first_here : (declared defined : List (List ℕ)) (parts : List Part) (i : ℕ) (p : Part) (n : Node) (m : Mark) → i < length parts → p ≡ get_or parts i p → p ≡ Element n → marked (tag_of n) (tag_kind declared defined (tag_of n)) ≡ Some m → first_in declared defined (parts_of (drop i parts)) ≡ Some m
+pub first_here : (declared defined : List (List ℕ)) (parts : List Part) (i : ℕ) (p : Part) (n : Node) (m : Mark) → i < length parts → p ≡ get_or parts i p → p ≡ Element n → marked (tag_of n) (tag_kind declared defined (tag_of n) (parts_of n.parts.items)) ≡ Some m → first_in declared defined (parts_of (drop i parts)) ≡ Some m
 first_here declared defined parts i p n m lt is shape own =
     first_node declared defined parts i p n lt is shape
     ∙ ap (λ (o : Option Mark). or_else o (or_else (first_in declared defined (parts_of n.parts.items)) (first_in declared (defined_after (tag_of n) (defined_in defined (parts_of n.parts.items))) (parts_of (drop (i + 1) parts))))) own
 
-pub first_within : (declared defined : List (List ℕ)) (parts : List Part) (i : ℕ) (p : Part) (n : Node) (m : Mark) → i < length parts → p ≡ get_or parts i p → p ≡ Element n → marked (tag_of n) (tag_kind declared defined (tag_of n)) ≡ None → first_in declared defined (parts_of n.parts.items) ≡ Some m → first_in declared defined (parts_of (drop i parts)) ≡ Some m
+pub first_within : (declared defined : List (List ℕ)) (parts : List Part) (i : ℕ) (p : Part) (n : Node) (m : Mark) → i < length parts → p ≡ get_or parts i p → p ≡ Element n → marked (tag_of n) (tag_kind declared defined (tag_of n) (parts_of n.parts.items)) ≡ None → first_in declared defined (parts_of n.parts.items) ≡ Some m → first_in declared defined (parts_of (drop i parts)) ≡ Some m
 first_within declared defined parts i p n m lt is shape own inner =
     first_node declared defined parts i p n lt is shape
     ∙ ap (λ (o : Option Mark). or_else o (or_else (first_in declared defined (parts_of n.parts.items)) (first_in declared (defined_after (tag_of n) (defined_in defined (parts_of n.parts.items))) (parts_of (drop (i + 1) parts))))) own
     ∙ ap (λ (o : Option Mark). or_else o (first_in declared (defined_after (tag_of n) (defined_in defined (parts_of n.parts.items))) (parts_of (drop (i + 1) parts)))) inner
 
-pub first_later : (declared defined after : List (List ℕ)) (parts : List Part) (i : ℕ) (p : Part) (n : Node) → i < length parts → p ≡ get_or parts i p → p ≡ Element n → marked (tag_of n) (tag_kind declared defined (tag_of n)) ≡ None → first_in declared defined (parts_of n.parts.items) ≡ None → after ≡ defined_after (tag_of n) (defined_in defined (parts_of n.parts.items)) → first_in declared defined (parts_of (drop i parts)) ≡ first_in declared after (parts_of (drop (i + 1) parts))
+pub first_later : (declared defined after : List (List ℕ)) (parts : List Part) (i : ℕ) (p : Part) (n : Node) → i < length parts → p ≡ get_or parts i p → p ≡ Element n → marked (tag_of n) (tag_kind declared defined (tag_of n) (parts_of n.parts.items)) ≡ None → first_in declared defined (parts_of n.parts.items) ≡ None → after ≡ defined_after (tag_of n) (defined_in defined (parts_of n.parts.items)) → first_in declared defined (parts_of (drop i parts)) ≡ first_in declared after (parts_of (drop (i + 1) parts))
 first_later declared defined after parts i p n lt is shape own inner after_is =
     first_node declared defined parts i p n lt is shape
     ∙ ap (λ (o : Option Mark). or_else o (or_else (first_in declared defined (parts_of n.parts.items)) (first_in declared (defined_after (tag_of n) (defined_in defined (parts_of n.parts.items))) (parts_of (drop (i + 1) parts))))) own
@@ -258,18 +271,18 @@ declared_later names own after parts i p n lt is shape own_is after_is =
     ∙ ap (λ ns. declared_in ns (parts_of (drop (i + 1) parts))) (sym after_is)
 
 -- the first fault of the tree of a root
-pub mark_own : (n : Node) (declared defined : List (List ℕ)) (m : Mark) → declared ≡ declared_in [] (parts_of n.parts.items) → defined ≡ [] → marked (tag_of n) (tag_kind declared defined (tag_of n)) ≡ Some m → Some m ≡ first_mark (node_then n Done)
+pub mark_own : (n : Node) (declared defined : List (List ℕ)) (m : Mark) → declared ≡ declared_in [] (parts_of n.parts.items) → defined ≡ [] → marked (tag_of n) (tag_kind declared defined (tag_of n) (parts_of n.parts.items)) ≡ Some m → Some m ≡ first_mark (node_then n Done)
 mark_own n declared defined m declared_is defined_is own =
     let kids = parts_of n.parts.items in
-    sym (ap (λ ds. or_else (marked (tag_of n) (tag_kind (declared_in [] kids) ds (tag_of n))) (first_in (declared_in [] kids) [] kids)) (sym defined_is)
-    ∙ ap (λ ds. or_else (marked (tag_of n) (tag_kind ds defined (tag_of n))) (first_in (declared_in [] kids) [] kids)) (sym declared_is)
+    sym (ap (λ ds. or_else (marked (tag_of n) (tag_kind (declared_in [] kids) ds (tag_of n) kids)) (first_in (declared_in [] kids) [] kids)) (sym defined_is)
+    ∙ ap (λ ds. or_else (marked (tag_of n) (tag_kind ds defined (tag_of n) kids)) (first_in (declared_in [] kids) [] kids)) (sym declared_is)
     ∙ ap (λ (o : Option Mark). or_else o (first_in (declared_in [] kids) [] kids)) own)
 
-pub mark_within : (n : Node) (declared defined : List (List ℕ)) → declared ≡ declared_in [] (parts_of n.parts.items) → defined ≡ [] → marked (tag_of n) (tag_kind declared defined (tag_of n)) ≡ None → first_in declared defined (parts_of n.parts.items) ≡ first_mark (node_then n Done)
+pub mark_within : (n : Node) (declared defined : List (List ℕ)) → declared ≡ declared_in [] (parts_of n.parts.items) → defined ≡ [] → marked (tag_of n) (tag_kind declared defined (tag_of n) (parts_of n.parts.items)) ≡ None → first_in declared defined (parts_of n.parts.items) ≡ first_mark (node_then n Done)
 mark_within n declared defined declared_is defined_is own =
     let kids = parts_of n.parts.items in
-    sym (ap (λ ds. or_else (marked (tag_of n) (tag_kind (declared_in [] kids) ds (tag_of n))) (first_in (declared_in [] kids) [] kids)) (sym defined_is)
-    ∙ ap (λ ds. or_else (marked (tag_of n) (tag_kind ds defined (tag_of n))) (first_in (declared_in [] kids) [] kids)) (sym declared_is)
+    sym (ap (λ ds. or_else (marked (tag_of n) (tag_kind (declared_in [] kids) ds (tag_of n) kids)) (first_in (declared_in [] kids) [] kids)) (sym defined_is)
+    ∙ ap (λ ds. or_else (marked (tag_of n) (tag_kind ds defined (tag_of n) kids)) (first_in (declared_in [] kids) [] kids)) (sym declared_is)
     ∙ ap (λ (o : Option Mark). or_else o (first_in (declared_in [] kids) [] kids)) own
     ∙ ap (λ ds. first_in ds [] kids) (sym declared_is)
     ∙ ap (λ ds. first_in declared ds kids) (sym defined_is))

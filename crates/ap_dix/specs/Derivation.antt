@@ -3,12 +3,14 @@ use Rattle.std.specs.Option.{option_to_list}
 use Rattle.std.specs.List.{flat_map}
 use Rattle.ap_symbol.specs.declared.symbol.Symbol.{Symbol}
 use Rattle.ap_symbol.specs.Lists.{IsIn, IsAt}
+use Rattle.ap_dix.specs.Forms.{Form}
+use Rattle.ap_dix.specs.Language.{Lang}
 use Rattle.ap_dix.specs.declared.dictionary.Dictionary.{Dictionary}
 use Rattle.ap_dix.specs.declared.dictionary.Direction.{Direction}
 use Rattle.ap_dix.specs.declared.dictionary.Direction.TheVariants.{Lr, Rl}
 use Rattle.ap_dix.specs.declared.dictionary.Entry.{Entry}
 use Rattle.ap_dix.specs.declared.dictionary.EntryPart.{EntryPart}
-use Rattle.ap_dix.specs.declared.dictionary.EntryPart.TheVariants.{Identity, Pair, Paradigm}
+use Rattle.ap_dix.specs.declared.dictionary.EntryPart.TheVariants.{Identity, Pair, Paradigm, Expression}
 use Rattle.ap_dix.specs.declared.dictionary.Kind.{Kind}
 use Rattle.ap_dix.specs.declared.dictionary.Pardef.{Pardef}
 use Rattle.ap_dix.specs.declared.dictionary.Section.{Section}
@@ -66,6 +68,7 @@ pub data Derives (d : Dictionary) (direction : Direction) : List EntryPart → L
   pair : {left right : List Symbol} {parts : List EntryPart} {labels whole : List Label} → Derives d direction parts labels → whole ≡ facing direction (paired left right) ++ labels → Derives d direction (Pair left right ∷ parts) whole
   paradigm : {n : ℕ} {parts : List EntryPart} {own labels whole : List Label} (pardef : Pardef) (entry : Entry) → IsAt d.pardefs n pardef → IsIn entry pardef.entries → IsTrue (is_kept direction entry)
       → Derives d direction entry.parts own → Derives d direction parts labels → whole ≡ own ++ labels → Derives d direction (Paradigm n ∷ parts) whole
+  expression : {e : Form} {text : List ℕ} {parts : List EntryPart} {labels whole : List Label} (string : List Symbol) → Lang e string → Derives d direction parts labels → whole ≡ facing direction (paired string string) ++ labels → Derives d direction (Expression e text ∷ parts) whole
 
 -- Some kept entry of a section of that kind derives the labels.
 pub record Strings (d : Dictionary) (direction : Direction) (kind : Kind) (labels : List Label) : Type 0 where

@@ -2,12 +2,13 @@
 use Rattle.std.specs.Prelude.{ℕ, Bool, not, ◌&&◌, ◌||◌, ◌==◌, nat_lt, List, [], Option, Some, None, is_some, codes, if◌then◌else◌}
 use Rattle.ap_markup.specs.Pieces.{Pair}
 use Rattle.ap_markup.specs.Tree.{Tag, Parts, Done, Run, Element}
+use Rattle.ap_dix.specs.Machines.{expression}
 use Rattle.ap_dix.specs.Names.{has_name, with_name}
 use Rattle.ap_dix.specs.Refusals.{kind_number}
-use Rattle.ap_dix.specs.Said.{attribute, name_of, is_named}
+use Rattle.ap_dix.specs.Said.{attribute, name_of, is_named, texts}
 use Rattle.ap_dix.specs.declared.faults.Mark.{Mark}
 use Rattle.ap_dix.specs.declared.refusal.DixKind.{DixKind}
-use Rattle.ap_dix.specs.declared.refusal.DixKind.TheVariants.{DuplicateName, UndeclaredSymbol, UndefinedParadigm, Weighted, Unsupported}
+use Rattle.ap_dix.specs.declared.refusal.DixKind.TheVariants.{DuplicateName, UndeclaredSymbol, UndefinedParadigm, BadRegex, Weighted, Unsupported}
 
 abbrev pub has_attribute : List ℕ → List Pair → Bool
 has_attribute name given = is_some (attribute name given)
@@ -18,17 +19,22 @@ has_unsupported given =
     has_attribute (codes "alt") given || has_attribute (codes "v") given || has_attribute (codes "vl") given
     || has_attribute (codes "vr") given || has_attribute (codes "srl") given || has_attribute (codes "slr") given
 
--- `ig`, `re`, and an entry with such an attribute
+-- `ig`, and an entry with such an attribute
 abbrev pub is_unsupported : Tag → Bool
-is_unsupported tag = is_named (codes "ig") tag || is_named (codes "re") tag || (is_named (codes "e") tag && has_unsupported tag.attributes)
+is_unsupported tag = is_named (codes "ig") tag || (is_named (codes "e") tag && has_unsupported tag.attributes)
 
--- The fault of least number at a start tag, where these names of symbols are declared and the paradigms of
--- these names stand above.
-abbrev pub tag_kind : List (List ℕ) → List (List ℕ) → Tag → Option DixKind
-tag_kind declared defined tag =
+-- `re` whose text is no expression
+abbrev pub is_bad_regex : Tag → Parts → Bool
+is_bad_regex tag kids = is_named (codes "re") tag && not (is_some (expression (texts kids)))
+
+-- The fault of least number at a start tag of an element with these parts, where these names of symbols are declared
+-- and the paradigms of these names stand above.
+abbrev pub tag_kind : List (List ℕ) → List (List ℕ) → Tag → Parts → Option DixKind
+tag_kind declared defined tag kids =
     if is_named (codes "pardef") tag && has_name defined (name_of tag.attributes) then Some DuplicateName
     else if is_named (codes "s") tag && not (has_name declared (name_of tag.attributes)) then Some UndeclaredSymbol
     else if is_named (codes "par") tag && not (has_name defined (name_of tag.attributes)) then Some UndefinedParadigm
+    else if is_bad_regex tag kids then Some BadRegex
     else if has_attribute (codes "w") tag.attributes then Some Weighted
     else if is_unsupported tag then Some Unsupported
     else None
@@ -57,7 +63,7 @@ unfoldable pub first_in : List (List ℕ) → List (List ℕ) → Parts → Opti
 first_in declared defined Done = None
 first_in declared defined (Run text at more) = first_in declared defined more
 first_in declared defined (Element tag kids more) =
-    or_else (marked tag (tag_kind declared defined tag))
+    or_else (marked tag (tag_kind declared defined tag kids))
     (or_else (first_in declared defined kids) (first_in declared (defined_after tag (defined_in defined kids)) more))
 
 abbrev pub declared_by : Tag → List (List ℕ) → List (List ℕ)
@@ -73,7 +79,7 @@ declared_in names (Element tag kids more) = declared_in (declared_in (declared_b
 abbrev pub first_mark : Parts → Option Mark
 first_mark Done = None
 first_mark (Run text at more) = None
-first_mark (Element tag kids more) = or_else (marked tag (tag_kind (declared_in [] kids) [] tag)) (first_in (declared_in [] kids) [] kids)
+first_mark (Element tag kids more) = or_else (marked tag (tag_kind (declared_in [] kids) [] tag kids)) (first_in (declared_in [] kids) [] kids)
 
 -- of two faults, by their places and then by their numbers
 abbrev pub is_before : Mark → Mark → Bool

@@ -1,5 +1,5 @@
 -- What a start tag says, and the parts of an element's child.
-use Rattle.std.specs.Prelude.{ℕ, Bool, List, [], ◌∷◌, Option, Some, None, codes, if◌then◌else◌}
+use Rattle.std.specs.Prelude.{ℕ, Bool, List, [], ◌∷◌, ◌++◌, Option, Some, None, codes, if◌then◌else◌}
 use Rattle.std.specs.Option.{unwrap_or}
 use Rattle.std.specs.Str.{bytes_eq}
 use Rattle.ap_markup.specs.Pieces.{Pair}
@@ -22,3 +22,9 @@ unfoldable pub child : List ℕ → Parts → Parts
 child name Done = Done
 child name (Run text at more) = child name more
 child name (Element tag kids more) = if is_named name tag then kids else child name more
+
+-- the characters of the texts among the parts, one after another
+unfoldable pub texts : Parts → List ℕ
+texts Done = []
+texts (Run text at more) = text ++ texts more
+texts (Element tag kids more) = texts more

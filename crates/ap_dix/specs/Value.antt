@@ -4,13 +4,14 @@ use Rattle.std.specs.Option.{option_map, option_to_list}
 use Rattle.std.specs.Str.{bytes_eq}
 use Rattle.ap_symbol.specs.Words.{is_white}
 use Rattle.ap_markup.specs.Tree.{Tag, Parts, Done, Run, Element}
+use Rattle.ap_dix.specs.Machines.{expression}
 use Rattle.ap_dix.specs.Names.{with_name, number_of}
-use Rattle.ap_dix.specs.Said.{attribute, name_of, is_named, child}
+use Rattle.ap_dix.specs.Said.{attribute, name_of, is_named, child, texts}
 use Rattle.ap_dix.specs.WordText.{symbols}
 use Rattle.ap_dix.specs.declared.dictionary.Dictionary.{Dictionary}
 use Rattle.ap_dix.specs.declared.dictionary.Entry.{Entry}
 use Rattle.ap_dix.specs.declared.dictionary.EntryPart.{EntryPart}
-use Rattle.ap_dix.specs.declared.dictionary.EntryPart.TheVariants.{Identity, Pair, Paradigm}
+use Rattle.ap_dix.specs.declared.dictionary.EntryPart.TheVariants.{Identity, Pair, Paradigm, Expression}
 use Rattle.ap_dix.specs.declared.dictionary.Kind.{Kind}
 use Rattle.ap_dix.specs.declared.dictionary.Kind.TheVariants.{Standard, Inconditional, Postblank, Preblank}
 use Rattle.ap_dix.specs.declared.dictionary.Pardef.{Pardef}
@@ -18,13 +19,18 @@ use Rattle.ap_dix.specs.declared.dictionary.Section.{Section}
 use Rattle.ap_dix.specs.declared.dictionary.Side.{Side}
 use Rattle.ap_dix.specs.declared.dictionary.Side.TheVariants.{Both, LrOnly, RlOnly}
 
+-- the expression that the text of `re` is
+abbrev pub expression_part : List ℕ → Option EntryPart
+expression_part text = option_map (λ e. Expression e text) (expression text)
+
 -- an element of an entry, where the paradigms of these names stand above: the word of `i`, the two words
--- of `p`, or the number of the paradigm that `par` names
+-- of `p`, the number of the paradigm that `par` names, or the expression of `re`
 abbrev pub entry_part : List (List ℕ) → Tag → Parts → Option EntryPart
 entry_part names tag kids =
     if is_named (codes "i") tag then Some (Identity (symbols kids))
     else if is_named (codes "p") tag then Some (Pair (symbols (child (codes "l") kids)) (symbols (child (codes "r") kids)))
     else if is_named (codes "par") tag then option_map Paradigm (number_of names (name_of tag.attributes))
+    else if is_named (codes "re") tag then expression_part (texts kids)
     else None
 
 unfoldable pub entry_parts : List (List ℕ) → Parts → List EntryPart

@@ -1,6 +1,7 @@
 ghost use Rattle.std.specs.Prelude.{◌≡◌};
 ghost use Rattle.ap_dix.specs.Derivation.{takes};
 
+use crate::expression::Expression;
 use ap_symbol::{Letters, Sequence, Text, Word};
 
 /// A direction of translation: from left to right, or from right to left.
@@ -50,6 +51,9 @@ pub enum EntryPart {
     Pair(Word, Word),
     /// The paradigm of this number, counted from 0.
     Paradigm(usize),
+    /// An expression, whose strings stand on both sides, and its text: references are replaced, and
+    /// comments are left out.
+    Expression(Expression, Text),
 }
 
 /// The parts of an entry, in order.

@@ -1,15 +1,28 @@
 ghost use Rattle.std.specs.Prelude.{◌≡◌, IfOk};
 ghost use Rattle.std.specs.Option.{option_copied};
 ghost use Rattle.ap_markup.specs.View.{parts_of, tag_of};
-ghost use Rattle.ap_dix.specs.Value.{entry_part, entry_parts, entry, entries, side_of, is_yes};
+ghost use Rattle.ap_dix.specs.Said.{texts};
+ghost use Rattle.ap_dix.specs.Value.{expression_part, entry_part, entry_parts, entry, entries, side_of, is_yes};
 
 use crate::dictionary::{Entries, Entry, EntryPart, EntryParts, Side};
+use crate::expressions::read_expression;
 use crate::names::Names;
 use crate::said::{attribute, child, is_named, is_text, name_of};
-use crate::words::word_of;
+use crate::words::{texts, word_of};
 use ap_markup::{Node, Part};
 use ap_symbol::{Memory, Sequence};
 use std::alloc::Global;
+
+/// The expression that the text of an element is.
+fn expression_part(alloc: Global, node: &Node) -> Result<Option<EntryPart>, Memory>
+    ensures { IfOk result (λ made. made ≡ expression_part (texts (parts_of node.now.parts.items))) }
+{
+    let text = texts(alloc, &node.parts)?;
+    match read_expression(alloc, text.as_slice())? {
+        None => Ok(None),
+        Some(expression) => Ok(Some(EntryPart::Expression(expression, text))),
+    }
+}
 
 /// The part of an entry that an element is, where the paradigms of these names stand above.
 fn entry_part(alloc: Global, names: &Names, node: &Node) -> Result<Option<EntryPart>, Memory>
@@ -28,6 +41,9 @@ fn entry_part(alloc: Global, names: &Names, node: &Node) -> Result<Option<EntryP
             Some(n) => Some(EntryPart::Paradigm(n)),
             None => None,
         });
+    }
+    if is_named("re", node) {
+        return expression_part(alloc, node);
     }
     Ok(None)
 }

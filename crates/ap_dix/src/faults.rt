@@ -3,11 +3,13 @@ ghost use Rattle.std.specs.Option.{IfNone};
 ghost use Rattle.ap_markup.specs.Tree.{Done};
 ghost use Rattle.ap_markup.specs.View.{parts_of, tag_of, node_then};
 ghost use Rattle.ap_markup.specs.Views.{pairs};
-ghost use Rattle.ap_dix.specs.Faults.{has_attribute, has_unsupported, is_unsupported, tag_kind, marked, first_in, defined_in, declared_in, first_mark, is_before, sooner};
+ghost use Rattle.ap_dix.specs.Faults.{has_attribute, has_unsupported, is_unsupported, is_bad_regex, tag_kind, marked, first_in, defined_in, declared_in, first_mark, is_before, sooner};
 
+use crate::expressions::read_expression;
 use crate::names::Names;
 use crate::refusal::DixKind;
 use crate::said::{attribute, is_named, name_of};
+use crate::words::texts;
 use ap_markup::{Attribute, Node, Part};
 use ap_symbol::Memory;
 use std::alloc::Global;
@@ -41,47 +43,74 @@ fn is_unsupported(node: &Node) -> bool
     ensures { result ≡ is_unsupported (tag_of node.now) }
 {
     is_named("ig", node)
-        || is_named("re", node)
         || (is_named("e", node) && has_unsupported(node.attributes.as_slice()))
 }
 
+/// Whether it is `re` and its text is no expression.
+fn is_bad_regex(alloc: Global, node: &Node) -> Result<bool, Memory>
+    ensures { IfOk result (λ bad. bad ≡ is_bad_regex (tag_of node.now) (parts_of node.now.parts.items)) }
+{
+    if !is_named("re", node) {
+        return Ok(false);
+    }
+    let text = texts(alloc, &node.parts)?;
+    Ok(read_expression(alloc, text.as_slice())?.is_none())
+}
+
 /// The fault of least number at a start tag.
-fn tag_kind(declared: &Names, defined: &Names, node: &Node) -> Option<DixKind>
-    ensures { result ≡ tag_kind declared.now defined.now (tag_of node.now) }
+fn tag_kind(
+    alloc: Global,
+    declared: &Names,
+    defined: &Names,
+    node: &Node,
+) -> Result<Option<DixKind>, Memory>
+    ensures { IfOk result (λ kind. kind ≡ tag_kind declared.now defined.now (tag_of node.now) (parts_of node.now.parts.items)) }
 {
     let name = name_of(node);
     if is_named("pardef", node) && defined.has(name) {
-        Some(DixKind::DuplicateName)
-    } else if is_named("s", node) && !declared.has(name) {
-        Some(DixKind::UndeclaredSymbol)
-    } else if is_named("par", node) && !defined.has(name) {
-        Some(DixKind::UndefinedParadigm)
-    } else if has_attribute("w", node.attributes.as_slice()) {
-        Some(DixKind::Weighted)
-    } else if is_unsupported(node) {
-        Some(DixKind::Unsupported)
-    } else {
-        None
+        return Ok(Some(DixKind::DuplicateName));
     }
+    if is_named("s", node) && !declared.has(name) {
+        return Ok(Some(DixKind::UndeclaredSymbol));
+    }
+    if is_named("par", node) && !defined.has(name) {
+        return Ok(Some(DixKind::UndefinedParadigm));
+    }
+    if is_bad_regex(alloc, node)? {
+        return Ok(Some(DixKind::BadRegex));
+    }
+    if has_attribute("w", node.attributes.as_slice()) {
+        return Ok(Some(DixKind::Weighted));
+    }
+    if is_unsupported(node) {
+        return Ok(Some(DixKind::Unsupported));
+    }
+    Ok(None)
 }
 
 /// The fault of least number at a start tag, with its place.
-fn tag_mark(declared: &Names, defined: &Names, node: &Node) -> Option<Mark>
-    ensures { result ≡ marked (tag_of node.now) (tag_kind declared.now defined.now (tag_of node.now)) }
+fn tag_mark(
+    alloc: Global,
+    declared: &Names,
+    defined: &Names,
+    node: &Node,
+) -> Result<Option<Mark>, Memory>
+    ensures { IfOk result (λ mark. mark ≡ marked (tag_of node.now) (tag_kind declared.now defined.now (tag_of node.now) (parts_of node.now.parts.items))) }
 {
-    match tag_kind(declared, defined, node) {
-        None => None,
-        Some(kind) => Some(Mark {
+    match tag_kind(alloc, declared, defined, node)? {
+        None => Ok(None),
+        Some(kind) => Ok(Some(Mark {
             place: node.place,
             line: node.line,
             kind,
-        }),
+        })),
     }
 }
 
 /// The fault of the first start tag that has one. The names of the paradigms that the parts define
 /// are added to those above.
 fn first_in<'a>(
+    alloc: Global,
     declared: &Names,
     defined: &mut Names<'a>,
     parts: &'a [Part],
@@ -93,10 +122,10 @@ fn first_in<'a>(
         match part {
             Part::Run(_, _) => {}
             Part::Element(node) => {
-                if let Some(mark) = tag_mark(declared, defined, node) {
+                if let Some(mark) = tag_mark(alloc, declared, defined, node)? {
                     return Ok(Some(mark));
                 }
-                if let Some(mark) = first_in(declared, defined, &node.parts)? {
+                if let Some(mark) = first_in(alloc, declared, defined, &node.parts)? {
                     return Ok(Some(mark));
                 }
                 if is_named("pardef", node) {
@@ -133,10 +162,10 @@ pub fn first_mark(alloc: Global, root: &Node) -> Result<Option<Mark>, Memory>
     let mut declared = Names::new(alloc);
     declare(&mut declared, &root.parts)?;
     let mut defined = Names::new(alloc);
-    if let Some(mark) = tag_mark(&declared, &defined, root) {
+    if let Some(mark) = tag_mark(alloc, &declared, &defined, root)? {
         return Ok(Some(mark));
     }
-    first_in(&declared, &mut defined, &root.parts)
+    first_in(alloc, &declared, &mut defined, &root.parts)
 }
 
 fn is_before(f: Mark, g: Mark) -> bool

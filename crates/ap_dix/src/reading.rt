@@ -66,7 +66,7 @@ fn judged(alloc: Global, tree: Elements) -> Result<Dictionary, DixRefusal>
 /// The refusal is `Fault` exactly where the text spells no dictionary, and then it is its first
 /// fault: one of the kinds NotUtf8 and Syntax before all others, and among those the one of the
 /// least place, and at one place the one of the least number. It is `Memory` for want of memory
-/// alone. An expression (the element `re`) isn't read: it is Unsupported.
+/// alone. A text of `re` that is no expression is BadRegex at the start tag.
 pub fn read_dictionary(alloc: Global, text: &[u8]) -> Result<Dictionary, DixRefusal>
     ensures spells { IfOk result (λ d. Spells text.now d) }
     ensures sound { IfOk result (λ d. IsSound d) }

@@ -1,7 +1,9 @@
 use crate::dictionary::{Dictionary, Direction, Entry, EntryPart, Kind, Section, Side};
+use crate::expr::{Expr, Range};
+use crate::expressions::read_expression;
 use crate::reading::read_dictionary;
 use crate::refusal::{DixFault, DixKind, DixRefusal};
-use ap_symbol::Word;
+use ap_symbol::{Symbol, Word};
 use std::alloc::{AllocError, Global};
 use std::test::Fail;
 
@@ -19,6 +21,53 @@ fn show_word(into: &mut String, word: &Word) -> Result<(), AllocError> {
     }
 }
 
+fn show_ranges(into: &mut String, ranges: &[Range]) -> Result<(), AllocError> {
+    for range in ranges {
+        into.push(range.first)?;
+        into.push(range.last)?;
+    }
+    Ok(())
+}
+
+/// A sequence in `<` and `>`, a choice in parentheses, each range of a class as its two ends.
+fn show_expr(into: &mut String, e: &Expr) -> Result<(), AllocError> {
+    match e {
+        Expr::One(Symbol::Letter(c)) => into.push(*c),
+        Expr::One(_) => into.push('_'),
+        Expr::Class(ranges) => {
+            into.push('[')?;
+            show_ranges(into, ranges.as_slice())?;
+            into.push(']')
+        }
+        Expr::Sequence(es) => {
+            into.push('<')?;
+            for inner in es {
+                show_expr(into, inner)?;
+            }
+            into.push('>')
+        }
+        Expr::Either(es) => {
+            into.push('(')?;
+            for inner in es {
+                show_expr(into, inner)?;
+            }
+            into.push(')')
+        }
+        Expr::Star(inner) => {
+            show_expr(into, inner)?;
+            into.push('*')
+        }
+        Expr::Plus(inner) => {
+            show_expr(into, inner)?;
+            into.push('+')
+        }
+        Expr::Opt(inner) => {
+            show_expr(into, inner)?;
+            into.push('?')
+        }
+    }
+}
+
 fn show_part(alloc: Global, into: &mut String, part: &EntryPart) -> Result<(), AllocError> {
     match part {
         EntryPart::Identity(word) => {
@@ -32,6 +81,12 @@ fn show_part(alloc: Global, into: &mut String, part: &EntryPart) -> Result<(), A
             show_word(into, right)
         }
         EntryPart::Paradigm(n) => into.push_str(&format!(in alloc; "@{}", *n)?),
+        EntryPart::Expression(expression, text) => {
+            into.push('/')?;
+            show_chars(into, text.as_slice())?;
+            into.push('/')?;
+            show_expr(into, expression.tree())
+        }
     }
 }
 
@@ -104,6 +159,14 @@ fn reads_dictionaries(rt: HostRuntime) -> Result<(), Fail> {
             "<dictionary><pardefs><pardef n='a'/><pardef n='b'><e><par n='a'/><par n='a'/></e></pardef></pardefs><section type='standard'><e><par n='b'/></e></section></dictionary>",
             "; a; b 1@0@0; standard 1@1",
         ),
+        (
+            "<dictionary><section type='standard'><e><re>[0-9]+([.,][0-9]+)?</re><i>x</i></e></section></dictionary>",
+            "; standard 1/[0-9]+([.,][0-9]+)?/(<[09]+(<[..,,][09]+>)?>)=x",
+        ),
+        (
+            "<dictionary><section type='standard'><e><re>a\\*|<!-- -->\n [b\\]\\--\u{E9}] -</re></e></section></dictionary>",
+            "; standard 1/a\\*|\n [b\\]\\--\u{E9}] -/(<a*><_[bb]]-\u{E9}]_->)",
+        ),
     ];
     for (text, want) in cases {
         let got = shown(rt.alloc(), text)?;
@@ -162,7 +225,15 @@ fn refuses_dictionaries(rt: HostRuntime) -> Result<(), Fail> {
         ),
         (
             "<dictionary><section type='standard'>\n<e><re>a</re></e>\n<e w='1'/></section></dictionary>",
-            "Unsupported in 2",
+            "Weighted in 3",
+        ),
+        (
+            "<dictionary>\n<section id=\"m\" type=\"standard\">\n<e><re>[^a]</re></e>\n<e w='1'/></section></dictionary>",
+            "BadRegex in 3",
+        ),
+        (
+            "<dictionary><section type='standard'>\n<e><re></re></e></section></dictionary>",
+            "BadRegex in 2",
         ),
         (
             "<dictionary><section type='standard'>\n<re>a</re></section></dictionary>",
@@ -197,5 +268,47 @@ fn sides_and_kinds(rt: HostRuntime) -> Result<(), Fail> {
     assert!(rt; !Side::RlOnly.takes(Direction::Lr));
     assert_eq!(rt; DixKind::Unsupported.number(), 12);
     assert_eq!(rt; DixKind::BadRegex.name(), "BadRegex");
+    Ok(())
+}
+
+/// A dictionary with an expression of so many parentheses within one another.
+fn nested(alloc: Global, depth: usize) -> Result<String, Fail> {
+    let mut text = String::new(alloc);
+    text.push_str("<dictionary><section type='standard'>\n<e><re>")?;
+    for _ in 0..depth {
+        text.push('(')?;
+    }
+    text.push('a')?;
+    for _ in 0..depth {
+        text.push(')')?;
+    }
+    text.push_str("</re></e></section></dictionary>")?;
+    Ok(text)
+}
+
+#[test]
+fn two_hundred_parentheses_are_open_at_most(rt: HostRuntime) -> Result<(), Fail> {
+    let alloc = rt.alloc();
+    let text = nested(alloc, 200)?;
+    assert!(rt; read_dictionary(alloc, text.as_bytes()).is_ok());
+    let text = nested(alloc, 201)?;
+    let got = shown(alloc, text.as_str())?;
+    assert_eq!(rt; got.as_str(), "BadRegex in 2");
+    Ok(())
+}
+
+#[test]
+fn expressions_are_read_or_refused(rt: HostRuntime) -> Result<(), Fail> {
+    for text in ["a", " ", "a|b c*", "(a)+", "[a-a]", "[\\^]", "\\(", "a-b", "(((a)?)*)+"] {
+        let characters: Vec<char> = text.chars().collect(rt.alloc())?;
+        assert!(rt; read_expression(rt.alloc(), characters.as_slice())?.is_some(), "at {text}");
+    }
+    for text in [
+        "", "|", "a|", "()", "(a", "a)", "*", "a**", "a+?", "[]", "[a", "[b-a]", "[a-b-c]", "[-a]",
+        "[a-]", "[ ]", "[a(]", "]", "^", "\\", "\\ ", "(|a)",
+    ] {
+        let characters: Vec<char> = text.chars().collect(rt.alloc())?;
+        assert!(rt; read_expression(rt.alloc(), characters.as_slice())?.is_none(), "at {text}");
+    }
     Ok(())
 }

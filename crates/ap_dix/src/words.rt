@@ -3,11 +3,12 @@ ghost use Rattle.std.specs.Str.{encode_utf8_all};
 ghost use Rattle.std.specs.String.{string_bytes};
 ghost use Rattle.ap_symbol.specs.Words.{is_white};
 ghost use Rattle.ap_markup.specs.View.{parts_of, tag_of};
+ghost use Rattle.ap_dix.specs.Said.{texts};
 ghost use Rattle.ap_dix.specs.WordText.{letter, letters, mark, tag_named, symbols};
 
 use crate::said::{is_named, name_of};
 use ap_markup::{Node, Part};
-use ap_symbol::{Memory, Symbol, TagName, Word};
+use ap_symbol::{Memory, Sequence, Symbol, TagName, Text, Word};
 use std::alloc::Global;
 
 pub fn is_white(c: char) -> bool
@@ -96,6 +97,32 @@ fn add_symbols(alloc: Global, word: &mut Word, parts: &[Part]) -> Result<(), Mem
         }
     }
     Ok(())
+}
+
+/// Appends characters.
+fn add_characters(made: &mut Text, text: &[char]) -> Result<(), Memory>
+    ensures { OnOk result (made.new ≡ made.old ++ text.now) }
+{
+    'text: for c in text {
+        made.push(*c)?;
+    }
+    Ok(())
+}
+
+/// The characters of the texts among the parts, one after another.
+pub fn texts(alloc: Global, parts: &[Part]) -> Result<Text, Memory>
+    ensures { IfOk result (λ made. made ≡ texts (parts_of parts.now)) }
+{
+    let mut made = Sequence::new(alloc);
+    'parts: for part in parts {
+        match part {
+            Part::Run(text, _) => {
+                add_characters(&mut made, text.as_slice())?;
+            }
+            Part::Element(_) => {}
+        }
+    }
+    Ok(made)
 }
 
 /// The word that the parts of an element spell.

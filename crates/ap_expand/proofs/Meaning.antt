@@ -8,12 +8,12 @@ use Rattle.ap_symbol.specs.Rendering.{rendering}
 use Rattle.ap_dix.specs.declared.dictionary.Dictionary.{Dictionary}
 use Rattle.ap_dix.specs.declared.dictionary.Entry.{Entry}
 use Rattle.ap_dix.specs.declared.dictionary.EntryPart.{EntryPart}
-use Rattle.ap_dix.specs.declared.dictionary.EntryPart.TheVariants.{Identity, Pair, Paradigm}
+use Rattle.ap_dix.specs.declared.dictionary.EntryPart.TheVariants.{Identity, Pair, Paradigm, Expression}
 use Rattle.ap_dix.specs.declared.dictionary.Pardef.{Pardef}
 use Rattle.ap_dix.specs.declared.dictionary.Section.{Section}
 use Rattle.ap_dix.specs.declared.dictionary.Side.{Side}
 use Rattle.ap_dix.specs.declared.dictionary.Side.TheVariants.{Both, LrOnly, RlOnly}
-use Rattle.ap_expand.specs.Lines.{Way, words, joined, all_joined, parts_ways, side_way, entry_ways, entries_ways, pardefs_ways, way_line, lines}
+use Rattle.ap_expand.specs.Lines.{expression_bytes, Way, words, joined, all_joined, parts_ways, side_way, entry_ways, entries_ways, pardefs_ways, way_line, lines}
 use Rattle.ap_expand.specs.Search.{Opening, Follow, parts_trace, entry_trace, entries_trace, pardefs_trace, sections_trace, end_trace, with_words, with_side, no_entries, lines_among}
 
 -- ways
@@ -114,6 +114,7 @@ parts-mean : (openings : List Opening) (above : List (List Way)) (parts : List E
 parts-mean openings above [] h follow way = ap (λ (w : Way). lines_among (follow w)) (joined-nothing way) ∙ sym (append-nil (lines_among (follow (joined way (words [] [])))))
 parts-mean openings above (Identity word ∷ parts) h follow way = words-mean openings above parts (rendering word) (rendering word) follow way (parts-mean openings above parts h)
 parts-mean openings above (Pair left right ∷ parts) h follow way = words-mean openings above parts (rendering left) (rendering right) follow way (parts-mean openings above parts h)
+parts-mean openings above (Expression e text ∷ parts) h follow way = words-mean openings above parts (expression_bytes text) (expression_bytes text) follow way (parts-mean openings above parts h)
 parts-mean openings above (Paradigm n ∷ parts) h follow way =
     mean-at openings above n h (parts_trace openings parts follow) way
     ∙ flat-same (λ (a : Way). lines_among (parts_trace openings parts follow (joined way a))) (λ (a : Way). after (λ (w : Way). lines_among (follow w)) (joined way a) (parts_ways above parts)) (get_or above n []) (λ a. parts-mean openings above parts h follow (joined way a))

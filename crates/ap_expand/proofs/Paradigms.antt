@@ -8,9 +8,9 @@ use Rattle.ap_symbol.specs.Rendering.{rendering}
 use Rattle.ap_dix.specs.Soundness.{is_sound_part, is_sound_entry, are_sound_pardefs}
 use Rattle.ap_dix.specs.declared.dictionary.Entry.{Entry}
 use Rattle.ap_dix.specs.declared.dictionary.EntryPart.{EntryPart}
-use Rattle.ap_dix.specs.declared.dictionary.EntryPart.TheVariants.{Identity, Pair, Paradigm}
+use Rattle.ap_dix.specs.declared.dictionary.EntryPart.TheVariants.{Identity, Pair, Paradigm, Expression}
 use Rattle.ap_dix.specs.declared.dictionary.Pardef.{Pardef}
-use Rattle.ap_expand.specs.Lines.{Way}
+use Rattle.ap_expand.specs.Lines.{expression_bytes, Way}
 use Rattle.ap_expand.specs.Search.{Opening, Follow, parts_trace, entry_trace, entries_trace, pardefs_trace, with_words, with_side, no_entries}
 use Rattle.ap_expand.specs.Places.{entries_at}
 
@@ -30,6 +30,7 @@ parts-local : (above more : List Opening) (parts : List EntryPart) (follow : Fol
 parts-local above more [] follow h = refl
 parts-local above more (Identity word ∷ parts) follow h = ap {B = Follow} (λ (k : Follow) (way : Way). k (with_words way (rendering word) (rendering word))) (parts-local above more parts follow (and-right _ _ h))
 parts-local above more (Pair left right ∷ parts) follow h = ap {B = Follow} (λ (k : Follow) (way : Way). k (with_words way (rendering left) (rendering right))) (parts-local above more parts follow (and-right _ _ h))
+parts-local above more (Expression e text ∷ parts) follow h = ap {B = Follow} (λ (k : Follow) (way : Way). k (with_words way (expression_bytes text) (expression_bytes text))) (parts-local above more parts follow (and-right _ _ h))
 parts-local above more (Paradigm n ∷ parts) follow h =
     ap {B = Follow} (λ (k : Follow) (way : Way). None ∷ get_or (above ++ more) n no_entries k way) (parts-local above more parts follow (and-right _ _ h))
     ∙ ap {B = Follow} (λ (o : Opening) (way : Way). None ∷ o (parts_trace above parts follow) way) (get_or_append_left above more no_entries n (below-bound n (length above) (and-left _ _ h)))

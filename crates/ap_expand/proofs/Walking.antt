@@ -2,7 +2,7 @@ use Rattle.std.proofs.Common.{◌≡◌, ℕ, ◌+◌, ◌<◌, ◌≤◌, Bool,
 use Rattle.std.specs.Prelude.{reverse}
 use Rattle.std.proofs.lemmas.List.{append_assoc, append-nil, take-append-le, length-append, nil_from_length}
 use Rattle.ap_dix.specs.declared.dictionary.EntryPart.{EntryPart}
-use Rattle.ap_dix.specs.declared.dictionary.EntryPart.TheVariants.{Identity, Pair, Paradigm}
+use Rattle.ap_dix.specs.declared.dictionary.EntryPart.TheVariants.{Identity, Pair, Paradigm, Expression}
 use Rattle.ap_expand.specs.Search.{Opening, Follow, parts_trace, todo_of, end_trace, AreLinked, Begins}
 use Rattle.ap_expand.specs.Walks.{Adds, SameSteps, todo_trace, way_of}
 use Rattle.ap_expand.specs.declared.frame.Frame.{Frame}
@@ -31,6 +31,7 @@ pub record Walked (frames : List Frame) (parts : List EntryPart) (parent : ℕ) 
 part-steps : (above : List Opening) (part : EntryPart) (rest : List EntryPart) (left right new_left new_right : List ℕ) (lr rl : Bool) (follow : Follow) → Adds part None left right new_left new_right → parts_trace above (part ∷ rest) follow (way_of left right lr rl) ≡ parts_trace above rest follow (way_of new_left new_right lr rl)
 part-steps above (Identity word) rest left right new_left new_right lr rl follow h = rw (h.left_is, h.right_is) refl
 part-steps above (Pair l r) rest left right new_left new_right lr rl follow h = rw (h.left_is, h.right_is) refl
+part-steps above (Expression e text) rest left right new_left new_right lr rl follow h = rw (h.left_is, h.right_is) refl
 part-steps above (Paradigm n) rest left right new_left new_right lr rl follow h = let is : None ≡ Some n = h.number_is in cc
 
 pub walked-start : (frames : List Frame) (parts : List EntryPart) (parent : ℕ) (left right : List ℕ) → parent ≤ length frames → Walked frames parts parent left right parts parent left right

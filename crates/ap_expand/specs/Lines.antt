@@ -1,11 +1,12 @@
 use Rattle.std.specs.Prelude.{ℕ, Bool, true, false, ◌||◌, ◌&&◌, if◌then◌else◌, List, [], ◌∷◌, ◌++◌, Option, Some, None, map, codes, get_or}
 use Rattle.std.specs.Option.{option_to_list}
 use Rattle.std.specs.List.{flat_map}
+use Rattle.std.specs.Str.{encode_utf8_all}
 use Rattle.ap_symbol.specs.Rendering.{rendering}
 use Rattle.ap_dix.specs.declared.dictionary.Dictionary.{Dictionary}
 use Rattle.ap_dix.specs.declared.dictionary.Entry.{Entry}
 use Rattle.ap_dix.specs.declared.dictionary.EntryPart.{EntryPart}
-use Rattle.ap_dix.specs.declared.dictionary.EntryPart.TheVariants.{Identity, Pair, Paradigm}
+use Rattle.ap_dix.specs.declared.dictionary.EntryPart.TheVariants.{Identity, Pair, Paradigm, Expression}
 use Rattle.ap_dix.specs.declared.dictionary.Pardef.{Pardef}
 use Rattle.ap_dix.specs.declared.dictionary.Section.{Section}
 use Rattle.ap_dix.specs.declared.dictionary.Side.{Side}
@@ -30,11 +31,16 @@ joined a b = record { left = a.left ++ b.left; right = a.right ++ b.right; lr = 
 abbrev pub all_joined : List Way → List Way → List Way
 all_joined firsts seconds = flat_map (λ a. map (joined a) seconds) firsts
 
+-- what stands for an expression: `__REGEXP__` and its text, as it is
+abbrev pub expression_bytes : List ℕ → List ℕ
+expression_bytes text = codes "__REGEXP__" ++ encode_utf8_all text
+
 -- the ways of a part; the lists are those of the paradigms, by their numbers
 abbrev pub part_ways : List (List Way) → EntryPart → List Way
 part_ways above (Identity word) = words (rendering word) (rendering word) ∷ []
 part_ways above (Pair left right) = words (rendering left) (rendering right) ∷ []
 part_ways above (Paradigm n) = get_or above n []
+part_ways above (Expression e text) = words (expression_bytes text) (expression_bytes text) ∷ []
 
 -- the ways of an entry's parts, the leftmost varying slowest
 abbrev pub parts_ways : List (List Way) → List EntryPart → List Way

@@ -4,12 +4,12 @@ use Rattle.std.specs.List.{flat_map}
 use Rattle.ap_symbol.specs.Rendering.{rendering}
 use Rattle.ap_dix.specs.declared.dictionary.Entry.{Entry}
 use Rattle.ap_dix.specs.declared.dictionary.EntryPart.{EntryPart}
-use Rattle.ap_dix.specs.declared.dictionary.EntryPart.TheVariants.{Identity, Pair, Paradigm}
+use Rattle.ap_dix.specs.declared.dictionary.EntryPart.TheVariants.{Identity, Pair, Paradigm, Expression}
 use Rattle.ap_dix.specs.declared.dictionary.Pardef.{Pardef}
 use Rattle.ap_dix.specs.declared.dictionary.Section.{Section}
 use Rattle.ap_dix.specs.declared.dictionary.Side.{Side}
 use Rattle.ap_dix.specs.declared.dictionary.Side.TheVariants.{LrOnly, RlOnly}
-use Rattle.ap_expand.specs.Lines.{Way, words, way_line}
+use Rattle.ap_expand.specs.Lines.{Way, words, way_line, expression_bytes}
 use Rattle.ap_expand.specs.declared.frame.Frame.{Frame}
 
 -- The search for the next line takes steps, and each step gives a line or none.
@@ -46,6 +46,7 @@ abbrev pub parts_trace : List Opening → List EntryPart → Opening
 parts_trace above [] follow way = follow way
 parts_trace above (Identity word ∷ parts) follow way = parts_trace above parts follow (with_words way (rendering word) (rendering word))
 parts_trace above (Pair left right ∷ parts) follow way = parts_trace above parts follow (with_words way (rendering left) (rendering right))
+parts_trace above (Expression e text ∷ parts) follow way = parts_trace above parts follow (with_words way (expression_bytes text) (expression_bytes text))
 parts_trace above (Paradigm n ∷ parts) follow way = None ∷ get_or above n no_entries (parts_trace above parts follow) way
 
 -- the steps of an entry

@@ -1,8 +1,8 @@
 use Rattle.std.specs.Prelude.{◌≡◌, ℕ, ◌≤◌, Bool, List, [], ◌∷◌, ◌++◌, Option, Some, None, length}
 use Rattle.ap_symbol.specs.Rendering.{rendering}
 use Rattle.ap_dix.specs.declared.dictionary.EntryPart.{EntryPart}
-use Rattle.ap_dix.specs.declared.dictionary.EntryPart.TheVariants.{Identity, Pair, Paradigm}
-use Rattle.ap_expand.specs.Lines.{Way}
+use Rattle.ap_dix.specs.declared.dictionary.EntryPart.TheVariants.{Identity, Pair, Paradigm, Expression}
+use Rattle.ap_expand.specs.Lines.{Way, expression_bytes}
 use Rattle.ap_expand.specs.Search.{Opening, parts_trace, end_trace, todo_of}
 use Rattle.ap_expand.specs.declared.frame.Frame.{Frame}
 use Rattle.ap_expand.specs.declared.walk.Met.{Met}
@@ -12,16 +12,19 @@ abbrev pub part_left : EntryPart → List ℕ
 part_left (Identity word) = rendering word
 part_left (Pair left right) = rendering left
 part_left (Paradigm n) = []
+part_left (Expression e text) = expression_bytes text
 
 abbrev pub part_right : EntryPart → List ℕ
 part_right (Identity word) = rendering word
 part_right (Pair left right) = rendering right
 part_right (Paradigm n) = []
+part_right (Expression e text) = expression_bytes text
 
 abbrev pub part_number : EntryPart → Option ℕ
 part_number (Identity word) = None
 part_number (Pair left right) = None
 part_number (Paradigm n) = Some n
+part_number (Expression e text) = None
 
 -- the words of the part were added, and this is the number of its paradigm
 pub record Adds (part : EntryPart) (number : Option ℕ) (left right new_left new_right : List ℕ) : Type 0 where

@@ -3,7 +3,9 @@ ghost use Rattle.std.specs.List.{list_all};
 ghost use Rattle.ap_dix.specs.Soundness.{IsSound, is_entry_symbol, is_sound_part, is_sound_entry};
 
 use crate::expansion::Expansion;
-use ap_dix::{Dictionary, Entries, Entry, EntryPart, EntryParts, Kind, Pardef, Section, Side};
+use ap_dix::{
+    Dictionary, Entries, Entry, EntryPart, EntryParts, Expr, Expression, Kind, Pardef, Section, Side,
+};
 use ap_symbol::{Bytes, Sequence, Symbol, TagName, Word};
 use std::alloc::Global;
 use std::test::Fail;
@@ -14,6 +16,8 @@ enum Piece {
     /// A left text, and a right text with a tag.
     Two(&'static str, &'static str, &'static str),
     Paradigm(usize),
+    /// The text of an expression.
+    Regex(&'static str),
 }
 
 #[derive(Clone, Copy)]
@@ -54,6 +58,14 @@ fn part_of(alloc: Global, piece: Piece, bound: usize) -> Result<EntryPart, Fail>
                 return Ok(EntryPart::Paradigm(number));
             }
             Ok(EntryPart::Identity(word_of(alloc, "", "")?))
+        }
+        Piece::Regex(text) => {
+            let mut characters = Sequence::new(alloc);
+            for c in text.chars() {
+                characters.push(c)?;
+            }
+            let expression = Expression::from_tree(Expr::One(Symbol::Blank));
+            Ok(EntryPart::Expression(expression, characters))
         }
     }
 }
@@ -187,5 +199,21 @@ fn directions_are_marked(rt: HostRuntime) -> Result<(), Fail> {
     let dictionary = dictionary_of(alloc, &first, &[], &rows)?;
     let text = lines_of(alloc, &dictionary)?;
     assert_eq!(rt; text.as_slice(), "a:>:a\nbd:<:bd\n".as_bytes());
+    Ok(())
+}
+
+#[test]
+fn expressions_stand_as_their_text(rt: HostRuntime) -> Result<(), Fail> {
+    let alloc = rt.alloc();
+    let rows: [Row; 1] = [
+        kept(
+            Side::Both,
+            &[Piece::Regex("[0-9]+([.,][0-9]+)?"), Piece::Two("", "", "num")],
+        ),
+    ];
+    let dictionary = dictionary_of(alloc, &[], &[], &rows)?;
+    let text = lines_of(alloc, &dictionary)?;
+    let want = "__REGEXP__[0-9]+([.,][0-9]+)?:__REGEXP__[0-9]+([.,][0-9]+)?<num>\n";
+    assert_eq!(rt; text.as_slice(), want.as_bytes());
     Ok(())
 }

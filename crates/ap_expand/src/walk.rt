@@ -1,4 +1,7 @@
 ghost use Rattle.std.specs.Prelude.{◌≡◌, ◌≤◌, ◌++◌, ◌∷◌, IfOk, MatchOption, OnOk, Bool, length, List, reverse};
+ghost use Rattle.std.specs.Char.{encode_utf8};
+ghost use Rattle.std.specs.Str.{encode_utf8_all};
+ghost use Rattle.ap_expand.specs.Lines.{expression_bytes};
 ghost use Rattle.ap_expand.specs.Search.{AreLinked, Begins, todo_of};
 ghost use Rattle.ap_expand.specs.Walks.{Adds, ComesTo};
 
@@ -12,6 +15,36 @@ pub(crate) struct Met<'a> {
     pub(crate) number: usize,
     pub(crate) rest: &'a [EntryPart],
     pub(crate) parent: usize,
+}
+
+/// Appends a character in UTF-8.
+fn push_character(bytes: &mut Vec<u8>, c: char) -> Result<(), Memory>
+    ensures ok { OnOk result (bytes.new.items ≡ bytes.old.items ++ encode_utf8 c) }
+    ensures begins { Begins bytes.old.items bytes.new.items }
+{
+    let mut buffer = [0; 4];
+    bytes.extend_from_slice(c.encode_utf8(&mut buffer).as_bytes())?;
+    Ok(())
+}
+
+/// Appends characters in UTF-8.
+fn push_characters(bytes: &mut Vec<u8>, text: &[char]) -> Result<(), Memory>
+    ensures ok { OnOk result (bytes.new.items ≡ bytes.old.items ++ encode_utf8_all text.now) }
+    ensures begins { Begins bytes.old.items bytes.new.items }
+{
+    for c in text {
+        push_character(bytes, *c)?;
+    }
+    Ok(())
+}
+
+/// Appends what stands for the expression of that text: `__REGEXP__` and the text, unescaped.
+fn push_expression(bytes: &mut Vec<u8>, text: &[char]) -> Result<(), Memory>
+    ensures ok { OnOk result (bytes.new.items ≡ bytes.old.items ++ expression_bytes text.now) }
+    ensures begins { Begins bytes.old.items bytes.new.items }
+{
+    bytes.extend_from_slice(b"__REGEXP__")?;
+    push_characters(bytes, text)
 }
 
 /// Appends the words of the part, or answers the number of its paradigm.
@@ -36,6 +69,11 @@ fn push_words(
             Ok(None)
         }
         EntryPart::Paradigm(number) => Ok(Some(*number)),
+        EntryPart::Expression(_, text) => {
+            push_expression(left, text.as_slice())?;
+            push_expression(right, text.as_slice())?;
+            Ok(None)
+        }
     }
 }
 

@@ -3,7 +3,7 @@ use Rattle.std.specs.Prelude.{◌↔◌, IsTrue}
 use Rattle.std.specs.Option.{option_to_list}
 use Rattle.ap_fst.specs.Lists.{IsIn}
 use Rattle.ap_fst.specs.Sketches.{Sketch, IsWithin, IsSketch}
-use Rattle.ap_fst.specs.Paths.{Path, here, on, Accepts, IsOptional, Repeats, done, more}
+use Rattle.ap_fst.specs.Paths.{Path, here, on, Accepts, IsOptional, IsMoreThanNone, Repeats, done, more}
 use Rattle.ap_fst.specs.declared.draft.Move.{Move}
 use Rattle.ap_fst.specs.declared.label.Label.{Label}
 use Rattle.ap_fst.specs.Sides.{has_side}
@@ -238,3 +238,78 @@ opt_law a x moves ok e f w =
     let P : Sketch → Type 0 = λ v. Path moves a.start w a.finish ↔ IsOptional v w in
     let Q : List Move → Type 0 = λ v. Path v a.start w a.finish ↔ IsOptional a w in
     subst P f (subst Q (sym e) (opt_from_path a w ok, path_from_opt a w))
+
+-- the three moves of a plus: in, again and out
+abbrev pub plus_moves : Sketch → List Move
+plus_moves a = quiet a.states a.start ∷ quiet a.finish a.start ∷ quiet a.finish (a.states + 1) ∷ []
+
+abbrev pub more_moves : Sketch → List Move
+more_moves a = a.moves ++ plus_moves a
+
+plus_in_star : (a : Sketch) (m : Move) → IsIn m (plus_moves a) → IsIn m (star_moves a)
+plus_in_star a m (inl e) = inl e
+plus_in_star a m (inr (inl e)) = inr (inl e)
+plus_in_star a m (inr (inr (inl e))) = inr (inr (inl e))
+plus_in_star a m (inr (inr (inr h))) = elim h [ ]
+
+more_in_all : (a : Sketch) (m : Move) → IsIn m (more_moves a) → IsIn m (all_moves a)
+more_in_all a m i = elim (in_either m a.moves (plus_moves a) i) [
+      inl k ↦ in_front m a.moves (star_moves a) k
+    | inr k ↦ in_back m a.moves (star_moves a) (plus_in_star a m k) ]
+
+not_past : (a : Sketch) (m : Move) → IsSketch a → IsIn m (plus_moves a) → a.states ≡ m.from → m ≡ quiet a.states a.start
+not_past a m ok (inl e) q = e
+not_past a m ok (inr (inl e)) q = let f : m.from ≡ a.finish = ap (λ (x : Move). x.from) e in let g : a.finish < a.states = ok.finish_in in absurd (omega arith)
+not_past a m ok (inr (inr (inl e))) q = let f : m.from ≡ a.finish = ap (λ (x : Move). x.from) e in let g : a.finish < a.states = ok.finish_in in absurd (omega arith)
+not_past a m ok (inr (inr (inr h))) q = elim h [ ]
+
+more_from_path : (a : Sketch) (s t : ℕ) (w : List Label) → IsSketch a → s ≡ a.states → t ≡ a.states + 1 → Path (more_moves a) s w t → IsMoreThanNone a w
+more_from_path a s t w ok y z (here e) = absurd (omega arith)
+more_from_path a s t w ok y z (on {labels = labels} m listed q whole rest) =
+    elim (in_either m a.moves (plus_moves a) listed) [
+      inl k ↦ let h : m.from < a.states = (ok.each m k).from_in in absurd (omega arith)
+    | inr k ↦
+        let e : m ≡ quiet a.states a.start = not_past a m ok k (sym y ∙ q) in
+        let to : m.to ≡ a.start = ap (λ (x : Move). x.to) e in
+        let r : IsRound a m.to labels = round a m.to t labels ok z (subst (λ (x : ℕ). x < a.states) (sym to) ok.start_in) (path_in_more (more_moves a) (all_moves a) m.to t labels (more_in_all a) rest) in
+        record {
+          front = r.front;
+          back = r.back;
+          whole = none_of m a.states a.start w labels e whole ∙ r.whole;
+          first = subst (λ (x : ℕ). Path a.moves x r.front a.finish) to r.first;
+          repeats = r.repeats } ]
+
+plus_on : (a : Sketch) (m : Move) → IsIn m (plus_moves a) → IsIn m (more_moves a)
+plus_on a m h = in_back m a.moves (plus_moves a) h
+
+-- from the draft's end on
+more_onwards : (a : Sketch) (w : List Label) → Repeats a w → Path (more_moves a) a.finish w (a.states + 1)
+more_onwards a w done = on (quiet a.finish (a.states + 1)) (plus_on a (quiet a.finish (a.states + 1)) (inr (inr (inl refl)))) refl refl (here refl)
+more_onwards a w (more front back whole first rest) =
+    on (quiet a.finish a.start) (plus_on a (quiet a.finish a.start) (inr (inl refl))) refl whole
+    (path_then (more_moves a) a.start a.finish (a.states + 1) front back (path_in_more a.moves (more_moves a) a.start a.finish front (λ m k. in_front m a.moves (plus_moves a) k) first) (more_onwards a back rest))
+
+path_from_more : (a : Sketch) (w : List Label) → IsMoreThanNone a w → Path (more_moves a) a.states w (a.states + 1)
+path_from_more a w h =
+    on (quiet a.states a.start) (plus_on a (quiet a.states a.start) (inl refl)) refl h.whole
+    (path_then (more_moves a) a.start a.finish (a.states + 1) h.front h.back (path_in_more a.moves (more_moves a) a.start a.finish h.front (λ m k. in_front m a.moves (plus_moves a) k) h.first) (more_onwards a h.back h.repeats))
+
+pub plus_is_sketch : (a : Sketch) (moves : List Move) → IsSketch a → moves ≡ more_moves a → IsSketch (record { states = a.states + 2; start = a.states; finish = a.states + 1; moves = moves })
+plus_is_sketch a moves ok e = record {
+    start_in = omega arith;
+    finish_in = omega arith;
+    apart = λ q. absurd (omega arith);
+    each = λ m i. star_each a m ok (more_in_all a m (subst (λ (z : List Move). IsIn m z) e i));
+    sided = λ m l i b. star_sided a m l ok (more_in_all a m (subst (λ (z : List Move). IsIn m z) e i)) b }
+
+pub plus_law : (a x : Sketch) (moves : List Move) → IsSketch a → moves ≡ more_moves a → a ≡ x → (w : List Label) → Path moves a.states w (a.states + 1) ↔ IsMoreThanNone x w
+plus_law a x moves ok e f w =
+    let P : Sketch → Type 0 = λ v. Path moves a.states w (a.states + 1) ↔ IsMoreThanNone v w in
+    let Q : List Move → Type 0 = λ v. Path v a.states w (a.states + 1) ↔ IsMoreThanNone a w in
+    subst P f (subst Q (sym e) (more_from_path a a.states (a.states + 1) w ok refl refl, path_from_more a w))
+
+pub three_pushed : (a : Sketch) (m0 m1 m2 m3 : List Move) → m0 ≡ a.moves → m1 ≡ m0 ++ quiet a.states a.start ∷ [] → m2 ≡ m1 ++ quiet a.finish a.start ∷ [] → m3 ≡ m2 ++ quiet a.finish (a.states + 1) ∷ [] → m3 ≡ more_moves a
+three_pushed a m0 m1 m2 m3 e0 e1 e2 e3 =
+    let one : m1 ≡ a.moves ++ quiet a.states a.start ∷ [] = e1 ∙ ap (λ z. z ++ quiet a.states a.start ∷ []) e0 in
+    let two : m2 ≡ a.moves ++ (quiet a.states a.start ∷ quiet a.finish a.start ∷ []) = e2 ∙ ap (λ z. z ++ quiet a.finish a.start ∷ []) one ∙ append_assoc a.moves (quiet a.states a.start ∷ []) (quiet a.finish a.start ∷ []) in
+    e3 ∙ ap (λ z. z ++ quiet a.finish (a.states + 1) ∷ []) two ∙ append_assoc a.moves (quiet a.states a.start ∷ quiet a.finish a.start ∷ []) (quiet a.finish (a.states + 1) ∷ [])

@@ -31,3 +31,11 @@ pub data Repeats (a : Sketch) : List Label → Type 0 where
 -- the empty string, or one of a draft
 abbrev pub IsOptional : Sketch → List Label → Type 0
 IsOptional a labels = (labels ≡ []) ⊎ Accepts a labels
+
+-- at least one string of a draft, one after another
+pub record IsMoreThanNone (a : Sketch) (labels : List Label) : Type 0 where
+  pub front : List Label
+  pub back : List Label
+  pub whole : labels ≡ front ++ back
+  pub first : Accepts a front
+  pub repeats : Repeats a back

@@ -107,7 +107,7 @@ impl Model for Draft {
 }
 
 impl Draft {
-    ghost use Rattle.ap_fst.specs.Paths.{Accepts, IsJoined, IsEither, IsOptional, Repeats};
+    ghost use Rattle.ap_fst.specs.Paths.{Accepts, IsJoined, IsEither, IsOptional, IsMoreThanNone, Repeats};
     ghost use Rattle.ap_fst.specs.declared.label.Label.{Label};
 
     /// Accepts no string.
@@ -246,6 +246,30 @@ impl Draft {
         push_empty(&mut moves, end, start)?;
         push_empty(&mut moves, end, states + 1)?;
         push_empty(&mut moves, states, states + 1)?;
+        Ok(Draft {
+            states: all,
+            start: states,
+            end: states + 1,
+            moves,
+        })
+    }
+
+    /// Accepts one string of it or more, one after another.
+    pub fn plus(self) -> Result<Draft, Memory>
+        ensures { IfOk result (λ made. (labels : List Label) → Accepts made labels ↔ IsMoreThanNone self labels) }
+    {
+        let Draft {
+            states,
+            start,
+            end,
+            mut moves,
+        } = self;
+        let Some(all) = states.checked_add(2) else {
+            return Err(Memory);
+        };
+        push_empty(&mut moves, states, start)?;
+        push_empty(&mut moves, end, start)?;
+        push_empty(&mut moves, end, states + 1)?;
         Ok(Draft {
             states: all,
             start: states,

@@ -3,12 +3,14 @@ use Rattle.std.specs.Prelude.{IsTrue, nat_lt}
 use Rattle.std.proofs.lemmas.Option.{slice_get_read}
 use Rattle.std.proofs.lemmas.Bool.Decides.{nat_tests}
 use Rattle.ap_dix.specs.Derivation.{Derives}
-use Rattle.ap_dix.specs.Soundness.{is_sound_part}
+use Rattle.ap_dix.specs.Soundness.{is_sound_part, is_sound_form}
 use Rattle.ap_dix.specs.declared.dictionary.EntryPart.{EntryPart}
 use Rattle.ap_fst.specs.Sketches.{Sketch}
 use Rattle.ap_compile.specs.Drafts.{IsDraftOf}
 use Rattle.ap_compile.proofs.Drafting.{if_ok_more}
 use Rattle.ap_compile.proofs.Deriving.{identity_draft, pair_draft, paradigm_draft}
+use Rattle.ap_dix.specs.Plain.{plain}
+use Rattle.ap_compile.proofs.Forming.{part_drafted, form_drafted, form_sound}
 use Rattle.ap_compile.proofs.drafts.part_draft.Goals as goal
 
 pub returns-in-Identity : goal.returns-in-Identity
@@ -27,3 +29,11 @@ returns-in-Paradigm c =
     if_ok_more c.copy.result _ _ (λ made h d are.
     subst (λ (p : EntryPart). IsDraftOf (Derives d c.args.direction (p ∷ [])) made) (sym c.in-Paradigm.is)
     (paradigm_draft d c.args.direction c.args.drafts.now c.in-Paradigm.n c.index-drafts-n.result made are at h)) c.copy.ensures
+
+pub returns-in-Expression : goal.returns-in-Expression
+returns-in-Expression c =
+    let sound : IsTrue (is_sound_form c.in-Expression.expression) = subst (λ (p : EntryPart). IsTrue (is_sound_part (length c.args.drafts.now) p)) c.in-Expression.is c.requires in
+    if_ok_more c.expression_draft.result _ _ (λ made h d are.
+    subst (λ (p : EntryPart). IsDraftOf (Derives d c.args.direction (p ∷ [])) made) (sym c.in-Expression.is)
+    (part_drafted d c.args.direction c.in-Expression.expression c.in-Expression.field-1 made
+      (form_drafted c.in-Expression.expression (plain c.tree.result.now) made (sym c.tree.ensures) (h (form_sound c.in-Expression.expression (plain c.tree.result.now) (sym c.tree.ensures) sound))))) c.expression_draft.ensures

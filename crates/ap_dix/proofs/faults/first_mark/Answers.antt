@@ -11,7 +11,7 @@ returns-in-Some c =
     mark_own c.args.root.now c.declare.new.names c.new-defined.result c.in-Some.mark
     (c.in_ok-declare.ensures ∙ ap (λ ns. declared_in ns (parts_of c.deref.result.now)) c.new-declared.ensures ∙ ap (λ ps. declared_in [] (parts_of ps)) c.deref.ensures.value)
     c.new-defined.ensures
-    (sym c.tag_mark.ensures ∙ c.in-Some.is)
+    (sym c.in_ok-mark.ensures ∙ c.in-Some.is)
 
 pub returns : goal.returns
 returns c =
@@ -20,5 +20,5 @@ returns c =
     ∙ mark_within c.args.root.now c.declare.new.names c.new-defined.result
     (c.in_ok-declare.ensures ∙ ap (λ ns. declared_in ns (parts_of c.deref.result.now)) c.new-declared.ensures ∙ ap (λ ps. declared_in [] (parts_of ps)) c.deref.ensures.value)
     c.new-defined.ensures
-    (sym c.tag_mark.ensures ∙ c.in_default.is) in
+    (sym c.in_ok-mark.ensures ∙ c.in_default.is) in
     subst (λ (x : Option Mark). IfOk c.first_in.result (λ first. first ≡ x)) same c.first_in.ensures.first
