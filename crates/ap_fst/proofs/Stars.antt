@@ -254,8 +254,9 @@ plus_in_star a m (inr (inr (inr h))) = elim h [ ]
 
 more_in_all : (a : Sketch) (m : Move) → IsIn m (more_moves a) → IsIn m (all_moves a)
 more_in_all a m i = elim (in_either m a.moves (plus_moves a) i) [
-      inl k ↦ in_front m a.moves (star_moves a) k
-    | inr k ↦ in_back m a.moves (star_moves a) (plus_in_star a m k) ]
+  | inl k ↦ in_front m a.moves (star_moves a) k
+  | inr k ↦ in_back m a.moves (star_moves a) (plus_in_star a m k)
+]
 
 not_past : (a : Sketch) (m : Move) → IsSketch a → IsIn m (plus_moves a) → a.states ≡ m.from → m ≡ quiet a.states a.start
 not_past a m ok (inl e) q = e
@@ -267,17 +268,19 @@ more_from_path : (a : Sketch) (s t : ℕ) (w : List Label) → IsSketch a → s 
 more_from_path a s t w ok y z (here e) = absurd (omega arith)
 more_from_path a s t w ok y z (on {labels = labels} m listed q whole rest) =
     elim (in_either m a.moves (plus_moves a) listed) [
-      inl k ↦ let h : m.from < a.states = (ok.each m k).from_in in absurd (omega arith)
-    | inr k ↦
-        let e : m ≡ quiet a.states a.start = not_past a m ok k (sym y ∙ q) in
-        let to : m.to ≡ a.start = ap (λ (x : Move). x.to) e in
-        let r : IsRound a m.to labels = round a m.to t labels ok z (subst (λ (x : ℕ). x < a.states) (sym to) ok.start_in) (path_in_more (more_moves a) (all_moves a) m.to t labels (more_in_all a) rest) in
-        record {
-          front = r.front;
-          back = r.back;
-          whole = none_of m a.states a.start w labels e whole ∙ r.whole;
-          first = subst (λ (x : ℕ). Path a.moves x r.front a.finish) to r.first;
-          repeats = r.repeats } ]
+      | inl k ↦ let h : m.from < a.states = (ok.each m k).from_in in absurd (omega arith)
+      | inr k ↦
+          let e : m ≡ quiet a.states a.start = not_past a m ok k (sym y ∙ q) in
+          let to : m.to ≡ a.start = ap (λ (x : Move). x.to) e in
+          let r : IsRound a m.to labels = round a m.to t labels ok z (subst (λ (x : ℕ). x < a.states) (sym to) ok.start_in) (path_in_more (more_moves a) (all_moves a) m.to t labels (more_in_all a) rest) in
+          record {
+            front = r.front;
+            back = r.back;
+            whole = none_of m a.states a.start w labels e whole ∙ r.whole;
+            first = subst (λ (x : ℕ). Path a.moves x r.front a.finish) to r.first;
+            repeats = r.repeats;
+          }
+    ]
 
 plus_on : (a : Sketch) (m : Move) → IsIn m (plus_moves a) → IsIn m (more_moves a)
 plus_on a m h = in_back m a.moves (plus_moves a) h
@@ -296,11 +299,12 @@ path_from_more a w h =
 
 pub plus_is_sketch : (a : Sketch) (moves : List Move) → IsSketch a → moves ≡ more_moves a → IsSketch (record { states = a.states + 2; start = a.states; finish = a.states + 1; moves = moves })
 plus_is_sketch a moves ok e = record {
-    start_in = omega arith;
-    finish_in = omega arith;
-    apart = λ q. absurd (omega arith);
-    each = λ m i. star_each a m ok (more_in_all a m (subst (λ (z : List Move). IsIn m z) e i));
-    sided = λ m l i b. star_sided a m l ok (more_in_all a m (subst (λ (z : List Move). IsIn m z) e i)) b }
+  start_in = omega arith;
+  finish_in = omega arith;
+  apart = λ q. absurd (omega arith);
+  each = λ m i. star_each a m ok (more_in_all a m (subst (λ (z : List Move). IsIn m z) e i));
+  sided = λ m l i b. star_sided a m l ok (more_in_all a m (subst (λ (z : List Move). IsIn m z) e i)) b;
+}
 
 pub plus_law : (a x : Sketch) (moves : List Move) → IsSketch a → moves ≡ more_moves a → a ≡ x → (w : List Label) → Path moves a.states w (a.states + 1) ↔ IsMoreThanNone x w
 plus_law a x moves ok e f w =
