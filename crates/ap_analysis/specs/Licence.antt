@@ -1,20 +1,44 @@
-use Rattle.std.specs.Prelude.{◌≡◌, ℕ, suc, zero, ◌<◌, ◌≤◌, ◌⊎◌, Bool, true, false, ◌&&◌, not, List, [], ◌∷◌, length, take, drop, if◌then◌else◌, IsTrue}
+-- Which lengths are licensed at a place, and how far the place must be looked at.
+use Rattle.std.specs.Prelude.{ℕ, suc, zero, Bool, true, false, nat_lt, max, List, [], ◌∷◌, ◌++◌, length, take, drop, Option, Some, None, if◌then◌else◌}
+use Rattle.std.specs.List.{prefix_len}
 use Rattle.ap_symbol.specs.declared.symbol.Symbol.{Symbol}
-use Rattle.ap_analysis.specs.Items.{symbol_of, symbols_of, is_alphabetic}
+use Rattle.ap_symbol.specs.declared.symbol.Symbol.TheVariants.{Letter}
+use Rattle.ap_fst.specs.declared.compiled.Kind2.TheVariants.{Standard, Inconditional, Postblank, Preblank}
+use Rattle.ap_stream.specs.declared.item.Read.{Read}
+use Rattle.ap_analysis.specs.Items.{symbol_of, front}
 use Rattle.ap_analysis.specs.Lexicon.{Lexicon}
 
--- whether the first item of a text is an alphabetic character
-abbrev pub begins_alphabetic : List ℕ → List ℕ → Bool
-begins_alphabetic alphabet [] = false
-begins_alphabetic alphabet (item ∷ text) = is_alphabetic alphabet (symbol_of item)
+abbrev pub is_letter_symbol : Lexicon → Option Symbol → Bool
+is_letter_symbol lexicon (Some (Letter c)) = lexicon.is_letter c
+is_letter_symbol lexicon _ = false
+
+-- whether the item is an alphabetic character
+abbrev pub is_alphabetic : Lexicon → Read → Bool
+is_alphabetic lexicon read = is_letter_symbol lexicon (symbol_of read.item)
+
+-- whether the first item is an alphabetic character
+abbrev pub begins_alphabetic : Lexicon → List Read → Bool
+begins_alphabetic lexicon [] = false
+begins_alphabetic lexicon (read ∷ reads) = is_alphabetic lexicon read
+
+-- the symbols of the first n items
+abbrev pub surface : List Read → ℕ → List Symbol
+surface reads n = take n (front reads)
+
+-- The right words that are licensed at the length n: of each kind those whose left word fits the first n items, but of
+-- standard sections only where no alphabetic character comes next.
+abbrev pub standard_words : Lexicon → List Read → ℕ → List (List Symbol)
+standard_words lexicon reads n = if begins_alphabetic lexicon (drop n reads) then [] else lexicon.readings Standard (surface reads n)
+
+abbrev pub licensed_words : Lexicon → List Read → ℕ → List (List Symbol)
+licensed_words lexicon reads n = standard_words lexicon reads n ++ (lexicon.readings Inconditional (surface reads n) ++ (lexicon.readings Postblank (surface reads n) ++ lexicon.readings Preblank (surface reads n)))
 
 abbrev pub is_some_word : List (List Symbol) → Bool
 is_some_word [] = false
 is_some_word (word ∷ words) = true
 
--- whether the first n items are licensed: a left word fits them, and no alphabetic character comes next
-abbrev pub is_licensed : Lexicon → List ℕ → List ℕ → ℕ → Bool
-is_licensed lexicon alphabet text n = is_some_word (lexicon.readings (symbols_of (take n text))) && not (begins_alphabetic alphabet (drop n text))
+abbrev pub is_licensed : Lexicon → List Read → ℕ → Bool
+is_licensed lexicon reads n = is_some_word (licensed_words lexicon reads n)
 
 -- the greatest number from 1 to the bound that passes, or 0
 abbrev pub greatest : (ℕ → Bool) → ℕ → ℕ
@@ -22,16 +46,21 @@ greatest test zero = 0
 greatest test (suc n) = if test (suc n) then suc n else greatest test n
 
 -- the greatest licensed length at the front of a text, or 0
-unfoldable pub licence : Lexicon → List ℕ → List ℕ → ℕ
-licence lexicon alphabet text = greatest (is_licensed lexicon alphabet text) (length text)
+unfoldable pub licence : Lexicon → List Read → ℕ
+licence lexicon reads = greatest (is_licensed lexicon reads) (length (front reads))
 
--- how many alphabetic characters a text begins with
-abbrev pub unknown_length : List ℕ → List ℕ → ℕ
-unknown_length alphabet [] = 0
-unknown_length alphabet (item ∷ text) = if is_alphabetic alphabet (symbol_of item) then suc (unknown_length alphabet text) else 0
+-- the greatest number of items that fit a beginning of a left word
+unfoldable pub viable_length : Lexicon → List Read → ℕ
+viable_length lexicon reads = greatest (λ n. lexicon.viable (surface reads n)) (length (front reads))
 
--- a length is licensed or 0, and none above it is licensed
-pub record IsGreatestLicensed (lexicon : Lexicon) (alphabet text : List ℕ) (n : ℕ) : Type 0 where
-  pub within : n ≤ length text
-  pub licensed : (n ≡ 0) ⊎ IsTrue (is_licensed lexicon alphabet text n)
-  pub none_longer : (m : ℕ) → n < m → m ≤ length text → is_licensed lexicon alphabet text m ≡ false
+-- the length of the longest run of alphabetic characters at the front
+unfoldable pub run_length : Lexicon → List Read → ℕ
+run_length lexicon reads = prefix_len (is_alphabetic lexicon) reads
+
+-- The length of the unknown word: where no length is licensed, the run of alphabetic characters.
+unfoldable pub unknown_length : Lexicon → List Read → ℕ
+unknown_length lexicon reads = if nat_lt 0 (licence lexicon reads) then 0 else run_length lexicon reads
+
+-- how many items must be seen together
+unfoldable pub span : Lexicon → List Read → ℕ
+span lexicon reads = max (viable_length lexicon reads) (unknown_length lexicon reads)
