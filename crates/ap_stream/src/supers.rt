@@ -1,11 +1,23 @@
 ghost use Rattle.std.specs.Prelude.{◌≡◌, ◌≢◌, ℕ, ◌≤◌, ◌++◌, length, IfSome, None, OnOk, false};
 ghost use Rattle.std.specs.List.{flat_map};
-ghost use Rattle.ap_stream.specs.Blanks.{Closed, closing};
+ghost use Rattle.ap_stream.specs.Blanks.{Closed, closes, closing, escapes};
 ghost use Rattle.ap_stream.specs.Supers.{blank_supers, inner_supers, item_supers};
 
 use crate::decode::{Decoded, decode};
 use crate::item::{Inner, Item};
 use ap_symbol::{Bytes, Memory};
+
+fn is_closing(escaped: bool, letter: char) -> bool
+    ensures { result ≡ closes escaped letter }
+{
+    !escaped && letter == ']'
+}
+
+fn is_escaping(escaped: bool, letter: char) -> bool
+    ensures { result ≡ escapes escaped letter }
+{
+    !escaped && letter == '\\'
+}
 
 /// How many of the bytes behind its bracket a superblank has, the closing bracket included, if it is closed.
 fn closed_size(bytes: &[u8]) -> Option<usize>
@@ -17,13 +29,14 @@ fn closed_size(bytes: &[u8]) -> Option<usize>
     let mut escaped = false;
     while at < bytes.len() {
         match decode(&bytes[at..]) {
-            Decoded::Part | Decoded::NotChar => return None,
+            Decoded::Part => return None,
+            Decoded::NotChar => return None,
             Decoded::Char { letter, size } => {
                 at += size;
-                if !escaped && letter == ']' {
+                if is_closing(escaped, letter) {
                     return Some(at);
                 }
-                escaped = !escaped && letter == '\\';
+                escaped = is_escaping(escaped, letter);
             }
         }
     }
@@ -40,11 +53,12 @@ fn push_blank(bytes: &[u8], into: &mut Bytes) -> Result<(), Memory>
                 None => return Ok(()),
                 Some(size) => {
                     into.extend(&bytes[at..at + 1 + size])?;
-                    at += size;
+                    at += 1 + size;
                 }
             }
+        } else {
+            at += 1;
         }
-        at += 1;
     }
     Ok(())
 }
