@@ -1,4 +1,4 @@
-ghost use Rattle.std.specs.Prelude.{◌≡◌, ◌≢◌, ℕ, ◌+◌, ◌<◌, ◌≤◌, Bool, true, false, length, take, IfOk, OnOk, OnErr, IfSome, max};
+ghost use Rattle.std.specs.Prelude.{◌≡◌, ℕ, ◌+◌, ◌<◌, ◌≤◌, Bool, true, false, List, [], None, length, take, IfOk, OnOk, OnErr, IfSome, max};
 ghost use Rattle.std.specs.List.{list_all, prefix_len};
 ghost use Rattle.ap_analysis.specs.Items.{front};
 ghost use Rattle.ap_analysis.specs.Lexicon.{lexicon_of};
