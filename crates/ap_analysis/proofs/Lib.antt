@@ -1,6 +1,6 @@
-pub mod Conjunction
-pub mod Placing
 pub mod Greatest
-pub mod Longest
+pub mod Fronts
+pub mod Lengths
 pub mod Steps
-pub mod Lexicons
+pub mod Sizes
+pub mod Stepping
