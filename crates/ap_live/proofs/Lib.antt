@@ -5,3 +5,5 @@ pub mod TailLaws
 pub mod OutputLaws
 pub mod WordLaws
 pub mod LiveLaws
+pub mod WordOrder
+pub mod Finding

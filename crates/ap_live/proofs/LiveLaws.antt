@@ -101,7 +101,7 @@ reach_below m seen s ok (begin e z) = let h : 0 < m.states = ok.some in omega ar
 reach_below m seen s ok (silent f j p more) = let h : p.edge.to < m.states = to_in m ok j p.edge p.at in let q : s ≡ p.edge.to = p.to_is in omega arith
 reach_below m seen s ok (taken before input f j p e more) = let h : p.edge.to < m.states = to_in m ok j p.edge p.at in let q : s ≡ p.edge.to = p.to_is in omega arith
 
-beginning : (m : Machine) (seen : List Input) (s : ℕ) → IsMachine m → IsTrimmed m → (m.finals ≡ [] → ⊥) → Reach m.edges seen s → FitBeginning m seen
+pub beginning : (m : Machine) (seen : List Input) (s : ℕ) → IsMachine m → IsTrimmed m → (m.finals ≡ [] → ⊥) → Reach m.edges seen s → FitBeginning m seen
 beginning m seen s ok trimmed some reach =
     let t : IsTrace m.edges seen s = trace m.edges seen s reach in
     let f : IsFinishing m s = finishing_at m s ok trimmed some (reach_below m seen s ok reach) in

@@ -25,7 +25,7 @@ pub record IsWay (m : Machine) (s : ℕ) (later : List Input) (output : List Sym
   pub fit : IsTrue (fits_inputs (left_word labels) later)
   pub is : output ≡ right_word labels
 
-reverse-option : (rest : List Symbol) (o : Option Symbol) → reverse (rest ++ option_to_list o) ≡ option_to_list o ++ reverse rest
+pub reverse-option : (rest : List Symbol) (o : Option Symbol) → reverse (rest ++ option_to_list o) ≡ option_to_list o ++ reverse rest
 reverse-option rest None = ap reverse (append-nil rest)
 reverse-option rest (Some x) = reverse-append rest (x ∷ [])
 
@@ -34,7 +34,7 @@ back-option None word = sym (append-nil (reverse word))
 back-option (Some x) word = reverse-append (x ∷ []) word
 
 -- by the left side of the first label
-way_silent : (m : Machine) (s t j : ℕ) (later : List Input) (rest : List Symbol) (output : List Symbol) (e : Edge) (left : Option Symbol) → slice_get m.edges j ≡ Some e → s ≡ e.from → t ≡ e.to → e.label.left ≡ left → left ≡ None
+pub way_silent : (m : Machine) (s t j : ℕ) (later : List Input) (rest : List Symbol) (output : List Symbol) (e : Edge) (left : Option Symbol) → slice_get m.edges j ≡ Some e → s ≡ e.from → t ≡ e.to → e.label.left ≡ left → left ≡ None
     → output ≡ option_to_list e.label.right ++ rest → IsWay m t later rest → IsWay m s later output
 way_silent m s t j later rest output e (Some x) at f g l n o w = absurd (cc)
 way_silent m s t j later rest output e None at f g l n o w = record {
@@ -46,7 +46,7 @@ way_silent m s t j later rest output e None at f g l n o w = record {
   is = o ∙ ap (λ x. option_to_list e.label.right ++ x) w.is;
 }
 
-way_taken : (m : Machine) (s t j : ℕ) (input : Input) (more later : List Input) (rest : List Symbol) (output : List Symbol) (e : Edge) (left : Option Symbol) → slice_get m.edges j ≡ Some e → s ≡ e.from → t ≡ e.to → e.label.left ≡ left → fits_side input left ≡ true
+pub way_taken : (m : Machine) (s t j : ℕ) (input : Input) (more later : List Input) (rest : List Symbol) (output : List Symbol) (e : Edge) (left : Option Symbol) → slice_get m.edges j ≡ Some e → s ≡ e.from → t ≡ e.to → e.label.left ≡ left → fits_side input left ≡ true
     → later ≡ input ∷ more → output ≡ option_to_list e.label.right ++ rest → IsWay m t more rest → IsWay m s later output
 way_taken m s t j input more later rest output e None at f g l n q o w = absurd (cc)
 way_taken m s t j input more later rest output e (Some x) at f g l n q o w = record {

@@ -3,3 +3,4 @@ pub mod Spreads
 pub mod Rows
 pub mod Tails
 pub mod Outputs
+pub mod Found

@@ -1,5 +1,5 @@
 use Rattle.std.specs.Prelude.{◌≡◌, Bool, true, List, IsTrue, Option, Some, None, take, length}
-use Rattle.ap_symbol.specs.Words.{is_word_symbol}
+use Rattle.ap_symbol.specs.Words.{is_word_symbol, is_proper}
 use Rattle.ap_symbol.specs.declared.symbol.Symbol.{Symbol}
 use Rattle.ap_fst.specs.Lists.{IsIn}
 use Rattle.ap_fst.specs.Machines.{Machine}
@@ -30,3 +30,12 @@ is_word_side (Some x) = is_word_symbol x
 -- no label has a white-space letter on its right side
 abbrev pub WritesWords : Machine → Type 0
 WritesWords m = (e : Edge) → IsIn e m.edges → IsTrue (is_word_side e.label.right)
+
+-- the side has no symbol, or a proper one: one that a word may hold, and where it is a tag, with the name of a tag
+abbrev pub is_proper_side : Option Symbol → Bool
+is_proper_side None = true
+is_proper_side (Some x) = is_proper x
+
+-- Each right side is proper. So is each of a transducer of the program that writes words.
+abbrev pub WritesProper : Machine → Type 0
+WritesProper m = (e : Edge) → IsIn e m.edges → IsTrue (is_proper_side e.label.right)

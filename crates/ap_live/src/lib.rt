@@ -3,6 +3,7 @@
 #![tactic(auto)]
 
 mod backward;
+mod laws;
 mod live;
 mod picking;
 mod rows;
@@ -10,5 +11,6 @@ mod rows;
 mod tests;
 mod wording;
 
+pub use laws::{outputs_law, viable_law};
 pub use live::Live;
 pub use wording::writes_words;

@@ -1,4 +1,4 @@
-ghost use Rattle.std.specs.Prelude.{◌≡◌, ◌++◌, ◌∷◌, ◌↔◌, [], List, IfOk, OnOk, OnErr, IsTrue, length, take};
+ghost use Rattle.std.specs.Prelude.{◌≡◌, ◌++◌, ◌∷◌, ◌↔◌, [], List, IfOk, OnOk, OnErr, IsTrue, length, take, not};
 ghost use Rattle.std.specs.List.Sorted.{IsStrictlySortedBy};
 ghost use Rattle.ap_symbol.specs.Rendering.{word_cmp};
 ghost use Rattle.ap_symbol.specs.declared.symbol.Symbol.{Symbol};
@@ -45,6 +45,7 @@ impl Live {
     ghost use Rattle.ap_live.specs.Fitting.{Input};
     ghost use Rattle.ap_live.specs.Rows.{IsLive};
     ghost use Rattle.ap_live.specs.Outputs.{IsOutput, FitBeginning, WritesWords};
+    ghost use Rattle.ap_live.specs.Found.{outputs, has_output, is_viable};
 
     /// What no input reaches: the start, and all that edges with an empty left side lead to from it.
     pub fn start(alloc: Global, fst: &Fst) -> Result<Live, Memory>
@@ -72,9 +73,11 @@ impl Live {
     pub fn finals(&self, alloc: Global, fst: &Fst) -> Result<Words, Memory>
         requires no_cycle { HasNoEmptyCycle fst.now }
         requires writes { WritesWords fst.now }
+        ensures found { IfOk result (λ words. (seen : List Input) → IsLive fst.now seen self.now → words ≡ outputs fst.now seen) }
         ensures outputs { IfOk result (λ words. (seen : List Input) → IsLive fst.now seen self.now → (output : List Symbol) → IsIn output words ↔ IsOutput fst.now seen output) }
         ensures order { IfOk result (λ words. IsStrictlySortedBy word_cmp words) }
     {
+        let _ = fst.states();
         let backs = backs_of(alloc, fst, self.rows.as_slice())?;
         let words = ordered_words(alloc, backs.as_slice())?;
         Ok(Words::from_vec(words))
@@ -83,8 +86,10 @@ impl Live {
     /// Whether `finals` would give a word: whether an accepted label list has a left word that fits
     /// the inputs so far. It makes no word and takes no memory.
     pub fn accepts(&self, fst: &Fst) -> bool
-        ensures { (seen : List Input) → IsLive fst.now seen self.now → (IsTrue result ↔ ((output : List Symbol) × IsOutput fst.now seen output)) }
+        ensures some { (seen : List Input) → IsLive fst.now seen self.now → (IsTrue result ↔ ((output : List Symbol) × IsOutput fst.now seen output)) }
+        ensures found { (seen : List Input) → HasNoEmptyCycle fst.now → IsLive fst.now seen self.now → result ≡ has_output fst.now seen }
     {
+        let _ = fst.states();
         ends_finally(fst, self.rows.as_slice())
     }
 
@@ -106,7 +111,8 @@ impl Live {
     /// Whether the inputs fit no beginning of the left word of an accepted label list. This is exact
     /// for a trimmed transducer, which is the same throughout. It takes no memory.
     pub fn is_dead(&self) -> bool
-        ensures { (m : Machine) (seen : List Input) → IsMachine m → IsTrimmed m → IsLive m seen self.now → (IsTrue result ↔ (FitBeginning m seen → ⊥)) }
+        ensures none { (m : Machine) (seen : List Input) → IsMachine m → IsTrimmed m → IsLive m seen self.now → (IsTrue result ↔ (FitBeginning m seen → ⊥)) }
+        ensures found { (m : Machine) (seen : List Input) → IsMachine m → HasNoEmptyCycle m → IsTrimmed m → IsLive m seen self.now → result ≡ not (is_viable m seen) }
     {
         self.is_void || reaches_none(self.rows.as_slice())
     }

@@ -2,10 +2,10 @@ ghost use Rattle.std.specs.Prelude.{◌≡◌, ◌↔◌, List, IfOk, IsTrue, re
 ghost use Rattle.std.specs.List.{list_all};
 ghost use Rattle.std.specs.List.Sorted.{IsStrictlySortedBy};
 ghost use Rattle.ap_symbol.specs.Rendering.{word_cmp};
-ghost use Rattle.ap_symbol.specs.Words.{AreProper, is_word_symbol};
+ghost use Rattle.ap_symbol.specs.Words.{AreProper, is_proper, is_word_symbol};
 ghost use Rattle.ap_symbol.specs.declared.symbol.Symbol.{Symbol};
 ghost use Rattle.ap_fst.specs.Lists.{IsIn};
-ghost use Rattle.ap_live.specs.Outputs.{WritesWords, is_word_side};
+ghost use Rattle.ap_live.specs.Outputs.{WritesProper, WritesWords, is_proper_side, is_word_side};
 
 use crate::backward::Symbols;
 use ap_fst::{Edge, Fst};
@@ -64,17 +64,24 @@ pub(crate) fn ordered_words(alloc: Global, backs: &[Symbols]) -> Result<Vec<Word
     Ok(words)
 }
 
+/// Whether a word may hold the symbol. A tag of the program bears the name of a tag.
 fn is_word_symbol_of(symbol: &Symbol) -> bool
-    ensures { result ≡ is_word_symbol symbol.now }
+    ensures word { result ≡ is_word_symbol symbol.now }
+    ensures proper { result ≡ is_proper symbol.now }
 {
     match symbol {
         Symbol::Letter(c) => !matches!(*c, '\t' | '\n' | '\r' | ' '),
+        Symbol::Tag(name) => {
+            let _ = name.text();
+            true
+        }
         _ => true,
     }
 }
 
 fn writes_word(edge: &Edge) -> bool
-    ensures { result ≡ is_word_side edge.now.label.right }
+    ensures word { result ≡ is_word_side edge.now.label.right }
+    ensures proper { result ≡ is_proper_side edge.now.label.right }
 {
     match &edge.label.right {
         None => true,
@@ -83,7 +90,8 @@ fn writes_word(edge: &Edge) -> bool
 }
 
 fn all_write(edges: &[Edge]) -> bool
-    ensures { IsTrue result ↔ ((e : Edge) → IsIn e edges.now → IsTrue (is_word_side e.label.right)) }
+    ensures words { IsTrue result ↔ ((e : Edge) → IsIn e edges.now → IsTrue (is_word_side e.label.right)) }
+    ensures proper { IsTrue result → (e : Edge) → IsIn e edges.now → IsTrue (is_proper_side e.label.right) }
 {
     for edge in edges {
         if !writes_word(edge) {
@@ -94,8 +102,10 @@ fn all_write(edges: &[Edge]) -> bool
 }
 
 /// Whether no label has a white-space letter (U+0009, U+000A, U+000D, U+0020) on its right side.
+/// Then each right side is proper, since the tags of the program bear names of tags.
 pub fn writes_words(fst: &Fst) -> bool
-    ensures { IsTrue result ↔ WritesWords fst.now }
+    ensures words { IsTrue result ↔ WritesWords fst.now }
+    ensures proper { IsTrue result → WritesProper fst.now }
 {
     all_write(fst.edges())
 }
