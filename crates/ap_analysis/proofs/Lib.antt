@@ -4,3 +4,4 @@ pub mod Lengths
 pub mod Steps
 pub mod Sizes
 pub mod Stepping
+pub mod Coherence

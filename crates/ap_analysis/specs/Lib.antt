@@ -4,3 +4,4 @@ pub mod Licence
 pub mod Analysis
 pub mod Held
 pub mod Whole
+pub mod Laws
