@@ -5,3 +5,5 @@ pub mod Steps
 pub mod Sizes
 pub mod Stepping
 pub mod Coherence
+pub mod Lexicons
+pub mod Goings
