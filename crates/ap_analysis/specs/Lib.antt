@@ -4,4 +4,7 @@ pub mod Licence
 pub mod Analysis
 pub mod Held
 pub mod Whole
+pub mod Searching
+pub mod Meant
+pub mod Measure
 pub mod Laws

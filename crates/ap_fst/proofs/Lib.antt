@@ -4,6 +4,7 @@ pub mod Commons
 pub mod PlaceLaws
 pub mod WalkLaws
 pub mod OrderLaws
+pub mod LeftLaws
 pub mod Trims
 pub mod SilenceLaws
 pub mod CycleLaws

@@ -20,7 +20,7 @@ use Rattle.ap_fst.proofs.Listing.{in_contains, contains_in, in_permutation, from
 use Rattle.ap_fst.proofs.Commons.{ascends_from_sorted}
 use Rattle.ap_fst.proofs.WalkLaws.{equal_from_cmp}
 
-side_total : IsTotalOrder side_cmp
+pub side_total : IsTotalOrder side_cmp
 side_total = then_total (on_total side_class nat_cmp_total) (on_total side_text nat_list_cmp_total)
 
 label_total : IsTotalOrder label_cmp
@@ -29,7 +29,7 @@ label_total = then_total (on_total (λ (l : Label). l.left) side_total) (on_tota
 pub edge_total : IsTotalOrder edge_cmp
 edge_total = then_total (on_total (λ (e : Edge). e.from) nat_cmp_total) (then_total (on_total (λ (e : Edge). e.label) label_total) (on_total (λ (e : Edge). e.to) nat_cmp_total))
 
-then_equal : (a b : Ordering) → ordering_then a b ≡ Equal → (a ≡ Equal) × (b ≡ Equal)
+pub then_equal : (a b : Ordering) → ordering_then a b ≡ Equal → (a ≡ Equal) × (b ≡ Equal)
 then_equal Less b h = cc
 then_equal Equal b h = (refl, h)
 then_equal Greater b h = cc
@@ -64,7 +64,7 @@ side_again (Some Alarm) = refl
 side_again (Some Star) = refl
 side_again (Some At) = refl
 
-side_equal : (s t : Option Symbol) → side_cmp s t ≡ Equal → s ≡ t
+pub side_equal : (s t : Option Symbol) → side_cmp s t ≡ Equal → s ≡ t
 side_equal s t h =
     let p : (nat_cmp (side_class s) (side_class t) ≡ Equal) × (slice_cmp nat_cmp (side_text s) (side_text t) ≡ Equal) = then_equal (nat_cmp (side_class s) (side_class t)) (slice_cmp nat_cmp (side_text s) (side_text t)) h in
     sym (side_again s) ∙ ap (λ z. side_of z (side_text s)) (equal_from_cmp (side_class s) (side_class t) p.0) ∙ ap (side_of (side_class t)) (lists_equal (side_text s) (side_text t) p.1) ∙ side_again t

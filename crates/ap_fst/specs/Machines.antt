@@ -1,9 +1,10 @@
-use Rattle.std.specs.Prelude.{◌≡◌, ℕ, ◌<◌, ◌≤◌, ◌==◌, List, Some, slice_get, IsTrue, length}
+use Rattle.std.specs.Prelude.{◌≡◌, ℕ, ◌<◌, ◌≤◌, ◌==◌, List, Option, Some, slice_get, IsTrue, length}
 use Rattle.std.specs.List.{filter}
 use Rattle.std.specs.Ordering.{nat_cmp}
 use Rattle.ap_fst.specs.Lists.{IsIn, Ascends}
 use Rattle.ap_fst.specs.Order.{edge_cmp}
 use Rattle.ap_fst.specs.Sides.{has_side}
+use Rattle.ap_symbol.specs.declared.symbol.Symbol.{Symbol}
 use Rattle.ap_fst.specs.declared.label.Edge.{Edge}
 
 -- what is seen of a transducer; state 0 is the start
@@ -38,3 +39,10 @@ pub record IsSpan (edges : List Edge) (state low high : ℕ) : Type 0 where
   pub end : high ≤ length edges
   pub inside : (j : ℕ) (e : Edge) → slice_get edges j ≡ Some e → low ≤ j → j < high → e.from ≡ state
   pub outside : (j : ℕ) (e : Edge) → slice_get edges j ≡ Some e → e.from ≡ state → (low ≤ j) × (j < high)
+
+-- the edges of a state with this left side stand at the places from low up to high
+pub record IsSpanBy (edges : List Edge) (state : ℕ) (left : Option Symbol) (low high : ℕ) : Type 0 where
+  pub rises : low ≤ high
+  pub end : high ≤ length edges
+  pub inside : (j : ℕ) (e : Edge) → slice_get edges j ≡ Some e → low ≤ j → j < high → (e.from ≡ state) × (e.label.left ≡ left)
+  pub outside : (j : ℕ) (e : Edge) → slice_get edges j ≡ Some e → e.from ≡ state → e.label.left ≡ left → (low ≤ j) × (j < high)

@@ -1,6 +1,6 @@
 use Rattle.std.specs.Prelude.{ℕ, Option, Some, None, List, [], ◌∷◌}
 use Rattle.std.specs.declared.cmp.Ordering.{Ordering}
-use Rattle.std.specs.Ordering.{nat_cmp, ordering_then}
+use Rattle.std.specs.Ordering.{nat_cmp, ordering_then, ordering_index}
 use Rattle.std.specs.Cmp.Lexicographic.{slice_cmp}
 use Rattle.ap_symbol.specs.declared.symbol.Symbol.{Symbol}
 use Rattle.ap_symbol.specs.declared.symbol.Symbol.TheVariants.{Letter, Tag, Blank, Join, Queue, Alarm, Star, At}
@@ -42,3 +42,11 @@ label_cmp a b = ordering_then (side_cmp a.left b.left) (side_cmp a.right b.right
 -- edges are ordered by the state that they leave, then by the label, then by the state that they enter
 abbrev pub edge_cmp : Edge → Edge → Ordering
 edge_cmp a b = ordering_then (nat_cmp a.from b.from) (ordering_then (label_cmp a.label b.label) (nat_cmp a.to b.to))
+
+-- how an edge stands to the edges of a state with a left side
+abbrev pub left_cmp : Edge → ℕ → Option Symbol → Ordering
+left_cmp e state left = ordering_then (nat_cmp e.from state) (side_cmp e.label.left left)
+
+-- the same as a number: before them 0, among them 1, behind them 2
+abbrev pub left_place : ℕ → Option Symbol → Edge → ℕ
+left_place state left e = ordering_index (left_cmp e state left)

@@ -1,11 +1,15 @@
 ghost use Rattle.std.specs.Prelude.{◌≡◌, ◌<◌, ◌↔◌, IsTrue, nat_lt, nat_le, ◌≤◌, ◌==◌, length, true, false};
 ghost use Rattle.std.specs.List.{filter};
+ghost use Rattle.std.specs.Option.{option_copied};
 ghost use Rattle.std.specs.Ordering.{nat_cmp};
 ghost use Rattle.std.specs.List.Sorted.{IsNonDecreasingBy, IsPartitionPoint};
 ghost use Rattle.ap_fst.specs.Lists.{IsIn, IsKeyRange, Ascends};
-ghost use Rattle.ap_fst.specs.Machines.{edge_from, edges_of, IsSpan};
+ghost use Rattle.ap_fst.specs.Machines.{edge_from, edges_of, IsSpan, IsSpanBy};
+ghost use Rattle.ap_fst.specs.Order.{left_place};
 
 use crate::label::{Edge, Edges, Finals};
+use crate::order::compare_left;
+use ap_symbol::Symbol;
 use std::marker::Model;
 
 fn low_of(edges: &[Edge], state: usize) -> usize
@@ -40,6 +44,32 @@ fn part_of(edges: &[Edge], state: usize) -> &[Edge]
 {
     let (low, high) = range_of(edges, state);
     &edges[low..high]
+}
+
+fn low_by(edges: &[Edge], state: usize, left: Option<&Symbol>) -> usize
+    requires { IsNonDecreasingBy (left_place state (option_copied left)) edges.now }
+    ensures point { IsPartitionPoint (λ e. nat_lt (left_place state (option_copied left.entry) e) 1 ≡ true) (λ e. nat_lt (left_place state (option_copied left.entry) e) 1 ≡ false) edges.now result }
+    ensures bound { result ≤ length edges.now }
+{
+    edges.partition_point(|e| compare_left(e, state, left).is_lt())
+}
+
+fn high_by(edges: &[Edge], state: usize, left: Option<&Symbol>) -> usize
+    requires { IsNonDecreasingBy (left_place state (option_copied left)) edges.now }
+    ensures point { IsPartitionPoint (λ e. nat_le (left_place state (option_copied left.entry) e) 1 ≡ true) (λ e. nat_le (left_place state (option_copied left.entry) e) 1 ≡ false) edges.now result }
+    ensures bound { result ≤ length edges.now }
+{
+    edges.partition_point(|e| compare_left(e, state, left).is_le())
+}
+
+/// Where the edges of a state with this left side begin and end, by halving.
+fn range_by(edges: &[Edge], state: usize, left: Option<&Symbol>) -> (usize, usize)
+    requires { IsNonDecreasingBy (left_place state (option_copied left)) edges.now }
+    ensures { IsKeyRange (left_place state (option_copied left.entry)) 1 edges.now result.0 result.1 }
+{
+    let low = low_by(edges, state, left);
+    let high = high_by(edges, state, left);
+    (low, high)
 }
 
 fn is_listed(states: &[usize], state: usize) -> bool
@@ -120,6 +150,15 @@ impl Fst {
         ensures sound { IsMachine self.now }
     {
         range_of(self.edges.as_slice(), state)
+    }
+
+    /// The places in `edges` from the first up to the second that hold the edges of a state with
+    /// this left side, or with an empty one. They are found by halving.
+    pub fn span_by(&self, state: usize, left: Option<&Symbol>) -> (usize, usize)
+        ensures span { IsSpanBy self.now.edges state (option_copied left.entry) result.0 result.1 }
+        ensures sound { IsMachine self.now }
+    {
+        range_by(self.edges.as_slice(), state, left)
     }
 
     /// Whether the state is final. It is found by halving.

@@ -1,14 +1,15 @@
 ghost use Rattle.std.specs.Prelude.{◌≡◌, Some};
 ghost use Rattle.std.specs.Ordering.{nat_cmp};
+ghost use Rattle.std.specs.Option.{option_copied};
 ghost use Rattle.std.specs.Cmp.Lexicographic.{slice_cmp};
-ghost use Rattle.ap_fst.specs.Order.{side_class, side_text, side_cmp, label_cmp, edge_cmp};
+ghost use Rattle.ap_fst.specs.Order.{side_class, side_text, side_cmp, label_cmp, edge_cmp, left_cmp};
 
 use crate::label::{Edge, Label};
 use ap_symbol::Symbol;
 use std::cmp::Ordering;
 
-fn class_of(side: &Option<Symbol>) -> u8
-    ensures { result ≡ side_class side.now }
+fn class_of(side: Option<&Symbol>) -> u8
+    ensures { result ≡ side_class (option_copied side.entry) }
 {
     match side {
         None => 0,
@@ -35,8 +36,8 @@ fn compare_texts(a: &Symbol, b: &Symbol) -> Ordering
     }
 }
 
-fn compare_sides(a: &Option<Symbol>, b: &Option<Symbol>) -> Ordering
-    ensures { result ≡ side_cmp a.now b.now }
+fn compare_sides(a: Option<&Symbol>, b: Option<&Symbol>) -> Ordering
+    ensures { result ≡ side_cmp (option_copied a.entry) (option_copied b.entry) }
 {
     let (first, second) = (class_of(a), class_of(b));
     if first != second {
@@ -51,8 +52,8 @@ fn compare_sides(a: &Option<Symbol>, b: &Option<Symbol>) -> Ordering
 fn compare_labels(a: &Label, b: &Label) -> Ordering
     ensures { result ≡ label_cmp a.now b.now }
 {
-    match compare_sides(&a.left, &b.left) {
-        Ordering::Equal => compare_sides(&a.right, &b.right),
+    match compare_sides(a.left.as_ref(), b.left.as_ref()) {
+        Ordering::Equal => compare_sides(a.right.as_ref(), b.right.as_ref()),
         other => other,
     }
 }
@@ -70,4 +71,14 @@ pub fn compare_edges(a: &Edge, b: &Edge) -> Ordering
         Ordering::Equal => a.to.cmp(&b.to),
         other => other,
     }
+}
+
+/// How an edge stands to the edges of a state with this left side, in the order of edges.
+pub(crate) fn compare_left(edge: &Edge, state: usize, left: Option<&Symbol>) -> Ordering
+    ensures { result ≡ left_cmp edge.now state (option_copied left.entry) }
+{
+    if edge.from != state {
+        return edge.from.cmp(&state);
+    }
+    compare_sides(edge.label.left.as_ref(), left)
 }
