@@ -7,3 +7,4 @@ pub mod Stepping
 pub mod Coherence
 pub mod Lexicons
 pub mod Goings
+pub mod Searches
