@@ -8,3 +8,4 @@ pub mod Coherence
 pub mod Lexicons
 pub mod Goings
 pub mod Searches
+pub mod Turns
