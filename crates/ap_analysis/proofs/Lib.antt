@@ -1,0 +1,11 @@
+pub mod Greatest
+pub mod Fronts
+pub mod Lengths
+pub mod Steps
+pub mod Sizes
+pub mod Stepping
+pub mod Coherence
+pub mod Lexicons
+pub mod Goings
+pub mod Searches
+pub mod Turns

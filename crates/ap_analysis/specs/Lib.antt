@@ -7,3 +7,4 @@ pub mod Whole
 pub mod Searching
 pub mod Meant
 pub mod Measure
+pub mod Laws

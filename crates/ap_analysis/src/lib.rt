@@ -3,6 +3,7 @@
 
 mod analysis;
 mod items;
+mod laws;
 mod live_sections;
 mod queue;
 mod readings;
@@ -11,6 +12,10 @@ mod work;
 mod writing;
 
 pub use analysis::Analysis;
+pub use laws::{
+    compiled_has_a_lexicon, compiled_have_lexicons, first_step_then_rest, licence_is_greatest,
+    one_lexicon, same_relation_same_lexicon, sides_are_proper,
+};
 pub use work::AnalysisWork;
 
 #[cfg(test)]
