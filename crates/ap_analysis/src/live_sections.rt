@@ -1,4 +1,4 @@
-ghost use Rattle.std.specs.Prelude.{◌≡◌, Bool, true, false, not, ◌++◌, ◌∷◌, [], List, take, OnOk, OnErr, IfOk};
+ghost use Rattle.std.specs.Prelude.{◌≡◌, Bool, true, false, not, ◌&&◌, ◌++◌, ◌∷◌, [], List, take, OnOk, OnErr, IfOk};
 ghost use Rattle.ap_symbol.specs.declared.symbol.Symbol.{Symbol};
 ghost use Rattle.ap_fst.specs.Machines.{Machine};
 ghost use Rattle.ap_fst.specs.Sections.{Parts};
@@ -28,6 +28,12 @@ fn steps(live: &mut Live, fst: &Fst, input: &Symbol, sensitive: bool) -> bool
         Ok(()) => true,
         Err(_) => false,
     }
+}
+
+fn are_all(standard: bool, inconditional: bool, postblank: bool, preblank: bool) -> bool
+    ensures { result ≡ (standard && inconditional && postblank && preblank) }
+{
+    standard && inconditional && postblank && preblank
 }
 
 impl LiveSections {
@@ -60,7 +66,10 @@ impl LiveSections {
         if standard & inconditional & postblank & preblank {
             return Ok(());
         }
-        self.cut(before);
+        self.standard.cut(before);
+        self.inconditional.cut(before);
+        self.postblank.cut(before);
+        self.preblank.cut(before);
         Err(Memory)
     }
 
@@ -69,7 +78,11 @@ impl LiveSections {
         ensures { (sensitive : Bool) (symbols : List Symbol) → AreLive compiled.now sensitive symbols self.now → result ≡ not (viable_in compiled.now sensitive symbols) }
     {
         let _ = compiled.alphabet();
-        self.standard.is_dead() && self.inconditional.is_dead() && self.postblank.is_dead() && self.preblank.is_dead()
+        let standard = self.standard.is_dead();
+        let inconditional = self.inconditional.is_dead();
+        let postblank = self.postblank.is_dead();
+        let preblank = self.preblank.is_dead();
+        are_all(standard, inconditional, postblank, preblank)
     }
 
     /// The live set of a section.

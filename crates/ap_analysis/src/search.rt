@@ -142,6 +142,7 @@ impl Search {
         ensures stepping { self.new.phase ≡ Phase.Stepping }
         ensures greatest { (sensitive : Bool) → IsSearch compiled.now sensitive reads.now self.old → self.new.looked ≡ greatest (licensed_test (lexicon_of compiled.now sensitive) reads.now) self.old.looked }
     {
+        let _ = compiled.alphabet();
         while self.looked > 0 {
             if self.is_licensed(compiled, reads) {
                 return;
@@ -183,6 +184,7 @@ impl Search {
         ensures at { IfOk result (λ look. IfSome look (λ found. 0 < found.licence → self.new.looked ≡ found.licence)) }
         ensures waits { result ≡ Ok None → (finished ≡ false) × (span (lexicon_of compiled.now sensitive) reads.now ≡ length reads.now) }
     {
+        let _ = compiled.alphabet();
         match self.phase {
             Phase::Unmatched { viable, run } => Ok(self.run(compiled, reads, finished, viable, run)),
             Phase::Stepping => {
