@@ -60,7 +60,8 @@ letters_next p (y ∷ xs) zero x lt is h all = let e : p y ≡ true = ap p (sym 
 letters_next p (y ∷ xs) (suc i) x lt is h all =
     let both = and_parts (p y) (list_all p (take i xs)) all in
     let rest = letters_next p xs i x (omega arith) is h both.1 in
-    both_true (p y) (list_all p (take (i + 1) xs)) both.0 rest
+    let count : suc i + 1 ≡ suc (i + 1) = omega arith in
+    rw count (both_true (p y) (list_all p (take (i + 1) xs)) both.0 rest)
 
 -- and that ends
 pub letters_end : {X : Type 0} (p : X → Bool) (xs : List X) (i : ℕ) (x : X) → i < length xs → x ≡ get_or xs i x → p x ≡ false → list_all p (take i xs) ≡ true → i ≡ prefix_len p xs

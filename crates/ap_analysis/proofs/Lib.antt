@@ -13,3 +13,5 @@ pub mod SectionLives
 pub mod Holdings
 pub mod Ordered
 pub mod Stepped
+pub mod Running
+pub mod Limits

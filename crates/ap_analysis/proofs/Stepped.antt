@@ -52,7 +52,7 @@ module _ (p : Parts) (sensitive : Bool) (reads : List Read) (n : ℕ) (d : Read)
     next = front_next reads n (get_or reads n d) d x viable.within more refl (sym some)
 
     pub dead_here : (answer : Bool) → answer ≡ true → answer ≡ not (viable_in p sensitive (take n (front reads) ++ x ∷ [])) → IsEnd (lexicon_of p sensitive) reads n
-    dead_here answer yes e = record { here = viable; past = inr (ap (viable_in p sensitive) next.is ∙ true_not (viable_in p sensitive (take n (front reads) ++ x ∷ [])) (sym yes ∙ e)) }
+    dead_here answer dead e = record { here = viable; past = inr (ap (viable_in p sensitive) next.is ∙ true_not (viable_in p sensitive (take n (front reads) ++ x ∷ [])) (sym dead ∙ e)) }
 
     pub cut_here : (lives : LiveSections) → AreLive p sensitive (take n (take n (front reads) ++ x ∷ [])) lives → AreLive p sensitive (take n (front reads)) lives
     cut_here lives live =
@@ -90,9 +90,9 @@ search_down p sensitive reads n lives new phase compiled e cut is =
     (viable_down (lexicon_of p sensitive) reads (n - 1) n (coherent p sensitive compiled) (omega arith) (viable_of (lexicon_of p sensitive) reads n phase e is.phase_is))
 
 pub greatest_down : (test : ℕ → Bool) (n : ℕ) → 0 < n → test n ≡ false → greatest test n ≡ greatest test (n - 1)
-greatest_down test zero some no = absurd (omega arith)
-greatest_down test (suc n) some no = let one : suc n - 1 ≡ n = omega arith in rw (no, one) refl
+greatest_down test zero some fails = absurd (omega arith)
+greatest_down test (suc n) some fails = let one : suc n - 1 ≡ n = omega arith in rw (fails, one) refl
 
 pub greatest_here : (test : ℕ → Bool) (n : ℕ) → 0 < n → test n ≡ true → greatest test n ≡ n
-greatest_here test zero some yes = absurd (omega arith)
-greatest_here test (suc n) some yes = rw yes refl
+greatest_here test zero some passes = absurd (omega arith)
+greatest_here test (suc n) some passes = rw passes refl

@@ -1,4 +1,4 @@
-use Rattle.std.proofs.Common.{arith, ◌≡◌, ◌∙◌, ◌<◌, ◌≤◌, ◌+◌, ℕ, length, take, get_or, sym, ap, refl, suc, ◌++◌, ◌∷◌, []}
+use Rattle.std.proofs.Common.{rules, arith, ◌≡◌, ◌∙◌, ◌<◌, ◌≤◌, ◌+◌, ℕ, length, take, get_or, sym, ap, refl, suc, ◌++◌, ◌∷◌, []}
 use Rattle.ap_analysis.specs.Items.{front}
 use Rattle.ap_analysis.proofs.Fronts.{front_short}
 use Rattle.ap_analysis.proofs.Searches.{front_stops, front_next}
@@ -8,7 +8,7 @@ pub bounds-reads-i : goal.bounds-reads-i
 bounds-reads-i c = let s = front_short c.args.reads.now in let r : c.args.count ≤ length (front c.args.reads.now) = c.requires in omega (arith, s, r, c.loop-i-test.true)
 
 pub offset_bounds-reads-i : goal.offset_bounds-reads-i
-offset_bounds-reads-i c = ?
+offset_bounds-reads-i c = let s = front_short c.args.reads.now in let r : c.args.count ≤ length (front c.args.reads.now) = c.requires in let lt : c.loop-i.i < length c.args.reads.now = omega (arith, s, r, c.loop-i-test.true) in search rules
 
 pub unreachable-requires : goal.unreachable-requires
 unreachable-requires c =

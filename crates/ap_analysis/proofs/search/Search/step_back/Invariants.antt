@@ -10,7 +10,7 @@ abbrev pub invariant-loop-self : goal.invariant-loop-self
 invariant-loop-self l = record {
   stepping : l.self.phase ≡ Stepping;
   search : (sensitive : Bool) → IsSearch l.compiled sensitive l.reads l.fn.self → IsSearch l.compiled sensitive l.reads l.self;
-  greatest_is : (sensitive : Bool) → greatest (is_licensed (lexicon_of l.compiled sensitive) l.reads) l.fn.self.looked ≡ greatest (is_licensed (lexicon_of l.compiled sensitive) l.reads) l.self.looked;
+  greatest_is : (sensitive : Bool) → IsSearch l.compiled sensitive l.reads l.fn.self → greatest (is_licensed (lexicon_of l.compiled sensitive) l.reads) l.fn.self.looked ≡ greatest (is_licensed (lexicon_of l.compiled sensitive) l.reads) l.self.looked;
 }
 
 abbrev pub decreases-loop-self : goal.decreases-loop-self
