@@ -15,3 +15,5 @@ pub mod Ordered
 pub mod Stepped
 pub mod Running
 pub mod Limits
+pub mod Turned
+pub mod PushedOn
