@@ -1,4 +1,4 @@
-use Rattle.std.proofs.Common.{refl, arith, ap, sym, ◌∙◌, ◌≡◌, ◌<◌, ◌≤◌, length, drop, ◌++◌}
+use Rattle.std.proofs.Common.{refl, arith, ap, sym, ◌∙◌, ◌≡◌, ◌<◌, ◌≤◌, length, drop, ◌++◌, Ok}
 use Rattle.ap_analysis.specs.Items.{bytes_of}
 use Rattle.ap_analysis.specs.Lexicon.{lexicon_of}
 use Rattle.ap_analysis.specs.Held.{Held}
@@ -12,7 +12,12 @@ returns-then-is_finished-clause-over c = λ _.
     (refl, refl, sym c.is_finished.ensures ∙ c.if-is_finished.true, none, over_bytes c.args.self.now.items none, over_silent (lexicon_of c.args.self.now.compiled c.args.self.now.sensitive) c.args.self.now.sensitive c.args.self.now.items none)
 
 pub returns-then-held_bytes-clause-limit : goal.returns-then-held_bytes-clause-limit
-returns-then-held_bytes-clause-limit c = ?
+returns-then-held_bytes-clause-limit c = λ other xs last.
+    let some : 0 < length c.args.self.now.items = omega (arith, c.held_count.ensures, c.if-held_count-eq0.false) in
+    let bytes = ap (λ (h : Held). bytes_of h.items) c.in-Ok-None.ensures.same in
+    let long : 4194304 < bytes_of c.args.self.now.items = omega (arith, bytes, c.held_bytes.ensures, c.if-held_bytes.true) in
+    let waits = c.in-Ok-None.ensures.waits (ap Ok c.in-Ok-None.field-0-is) in
+    turned_overlong c.args.self.now c.in-Ok-None.ensures.coherent some c.first_place-place.result c.first_place-place.ensures waits.1 long xs
 
 pub returns-in-Ok-Some-Stops-clause-limit : goal.returns-in-Ok-Some-Stops-clause-limit
 returns-in-Ok-Some-Stops-clause-limit c = λ other xs last.
