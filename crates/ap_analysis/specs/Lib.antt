@@ -1,6 +1,10 @@
 pub mod Items
 pub mod Lexicon
-pub mod Relation
 pub mod Licence
-pub mod Longest
 pub mod Analysis
+pub mod Held
+pub mod Whole
+pub mod Searching
+pub mod Meant
+pub mod Measure
+pub mod Laws

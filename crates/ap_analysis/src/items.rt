@@ -1,76 +1,76 @@
-ghost use Rattle.std.specs.Prelude.{◌≡◌, ◌++◌, OnOk};
-ghost use Rattle.ap_symbol.specs.Words.{is_white};
-ghost use Rattle.ap_symbol.specs.Rendering.{is_escaped_lem, symbol_bytes, rendering};
-ghost use Rattle.ap_analysis.specs.Items.{symbol_of, symbols_of, is_alphabetic, fits};
+ghost use Rattle.std.specs.Prelude.{◌≡◌, ℕ, Bool, ◌≤◌, length, take, drop, IsTrue, IfSome, IfOk};
+ghost use Rattle.ap_symbol.specs.Words.{is_white as white_test, is_word_symbol};
+ghost use Rattle.ap_analysis.specs.Items.{symbol_of, front};
+ghost use Rattle.ap_analysis.specs.Lexicon.{lexicon_of};
+ghost use Rattle.ap_analysis.specs.Licence.{is_alphabetic as alphabetic_test, begins_alphabetic as begins_test, surface as surface_lem};
 
-use ap_symbol::{Bytes, Memory, Symbol};
+use ap_fst::Compiled;
+use ap_stream::{Item, Read};
+use ap_symbol::{Memory, Symbol, Word};
+use std::alloc::Global;
 
-fn is_blank(item: u8) -> bool
-    ensures { result ≡ is_white item }
+fn is_white(letter: char) -> bool
+    ensures { result ≡ white_test letter }
 {
-    matches!(item, b'\t' | b'\n' | b'\r' | b' ')
+    matches!(letter, '\t' | '\n' | '\r' | ' ')
 }
 
-fn is_escaped(item: u8) -> bool
-    ensures { result ≡ is_escaped_lem item }
+/// The item as an input symbol: a blank is the mark, and a character its letter, unless it is white space.
+pub(crate) fn symbol_of_item(item: &Item) -> Option<Symbol>
+    ensures symbol { result ≡ symbol_of item.now }
+    ensures word { IfSome result (λ x. IsTrue (is_word_symbol x)) }
 {
-    matches!(
-        item,
-        b'^' | b'$'
-            | b'/'
-            | b'<'
-            | b'>'
-            | b'{'
-            | b'}'
-            | b'\\'
-            | b'['
-            | b']'
-            | b'@'
-            | b'*'
-            | b'#'
-            | b'+'
-            | b'~'
-    )
-}
-
-/// Whether the item is a character of the alphabet.
-pub(crate) fn is_in_alphabet(alphabet: &[char], item: u8) -> bool
-    ensures { result ≡ is_alphabetic alphabet.now (symbol_of item) }
-{
-    !is_blank(item) && alphabet.contains(&(item as char))
-}
-
-/// Whether the symbol of a word fits the item.
-pub(crate) fn fits_item(symbol: &Symbol, item: u8) -> bool
-    ensures { result ≡ fits symbol.now (symbol_of item) }
-{
-    match symbol {
-        Symbol::Letter(c) => !is_blank(item) && *c == item as char,
-        Symbol::Blank => is_blank(item),
-        _ => false,
+    match item {
+        Item::Plain(character) => {
+            if is_white(character.letter) {
+                None
+            } else {
+                Some(Symbol::Letter(character.letter))
+            }
+        }
+        Item::Blank(_) => Some(Symbol::Blank),
+        Item::Unit(_) | Item::Chunk(_) => None,
     }
 }
 
-/// Appends the bytes of the item as a symbol.
-fn push_item(out: &mut Bytes, item: u8) -> Result<(), Memory>
-    ensures { OnOk result (out.new ≡ out.old ++ symbol_bytes (symbol_of item)) }
+/// Whether the item is an alphabetic character.
+pub(crate) fn is_alphabetic(compiled: &Compiled, read: &Read) -> bool
+    ensures { (sensitive : Bool) → result ≡ alphabetic_test (lexicon_of compiled.now sensitive) read.now }
 {
-    if is_blank(item) {
-        return out.extend(b" ");
+    match &read.item {
+        Item::Plain(character) => {
+            if is_white(character.letter) {
+                false
+            } else {
+                compiled.is_alphabetic(character.letter)
+            }
+        }
+        Item::Blank(_) | Item::Unit(_) | Item::Chunk(_) => false,
     }
-    if is_escaped(item) {
-        out.extend(b"\\")?;
-    }
-    let mut buffer = [0; 4];
-    out.extend((item as char).encode_utf8(&mut buffer).as_bytes())
 }
 
-/// Appends the bytes of the word that the items are.
-pub(crate) fn push_surface(out: &mut Bytes, text: &[u8]) -> Result<(), Memory>
-    ensures { OnOk result (out.new ≡ out.old ++ rendering (symbols_of text.now)) }
+/// Whether an alphabetic character stands at this place.
+pub(crate) fn begins_alphabetic(compiled: &Compiled, reads: &[Read], at: usize) -> bool
+    ensures { (sensitive : Bool) → result ≡ begins_test (lexicon_of compiled.now sensitive) (drop at reads.now) }
 {
-    for item in text {
-        push_item(out, *item)?;
+    if at < reads.len() {
+        is_alphabetic(compiled, &reads[at])
+    } else {
+        false
     }
-    Ok(())
+}
+
+/// The word of the first so many items. Each of them fits a symbol.
+pub(crate) fn surface(alloc: Global, reads: &[Read], count: usize) -> Result<Word, Memory>
+    requires { count ≤ length (front reads.now) }
+    ensures { IfOk result (λ word. word ≡ surface_lem reads.now count) }
+{
+    let mut word = Word::new(alloc);
+    for i in 0..count {
+        match symbol_of_item(&reads[i].item) {
+            Some(symbol) => word.push(symbol)?,
+            None => unreachable!(),
+        }
+    }
+    Ok(word)
 }

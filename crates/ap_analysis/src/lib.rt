@@ -1,22 +1,22 @@
-//! Morphological analysis of a text by a list of pairs of words, as `lt-proc -a` gives it.
-//!
-//! This is the plain program: each pair is tried at each place.
+//! Morphological analysis of a text by a compiled dictionary, as `lt-proc -a` gives it.
 #![tactic(auto)]
 
 mod analysis;
-mod fitting;
 mod items;
 mod laws;
-mod licence;
-mod pair;
+mod live_sections;
+mod queue;
 mod readings;
+mod search;
+mod work;
+mod writing;
 
-pub use analysis::analyse;
+pub use analysis::Analysis;
 pub use laws::{
-    first_step_then_rest, licence_is_greatest, one_lexicon, pairs_have_a_lexicon,
-    right_words_are_proper, some_lexicon,
+    compiled_has_a_lexicon, compiled_have_lexicons, first_step_then_rest, licence_is_greatest,
+    one_lexicon, same_relation_same_lexicon, sides_are_proper,
 };
-pub use pair::Pair;
+pub use work::AnalysisWork;
 
 #[cfg(test)]
 mod tests;

@@ -3,3 +3,4 @@ pub mod Encoding
 pub mod Spells
 pub mod Trying
 pub mod Moved
+pub mod Superblanks

@@ -13,6 +13,7 @@ mod pipe;
 mod reader;
 mod stage;
 mod staged;
+mod supers;
 mod unit;
 mod write;
 
@@ -25,6 +26,7 @@ pub use pipe::Pipe;
 pub use reader::{Fed, Reader};
 pub use stage::{Finish, Stage};
 pub use staged::Staged;
+pub use supers::push_superblanks;
 pub use unit::Unit;
 pub use write::write_item;
 

@@ -1,0 +1,105 @@
+ghost use Rattle.std.specs.Prelude.{◌≡◌, ℕ, ◌+◌, ◌<◌, ◌≤◌, ◌^◌, ◌++◌, ◌∷◌, [], length, drop, take, vec_len, nat_lt, OnOk, OnErr};
+ghost use Rattle.ap_analysis.specs.Items.{bytes_of};
+
+use ap_stream::Read;
+use ap_symbol::Memory;
+use std::alloc::Global;
+use std::marker::Model;
+
+/// The items that are held, in their order, and the number of their bytes. Those that were let go stay at the front of
+/// the vector until they are half of it, so that no item moves more than once for each that was let go.
+#[derive(Drop)]
+pub(crate) struct Queue {
+    items: Vec<Read>,
+    from: usize,
+    bytes: u64,
+}
+
+impl Model for Queue {
+    ghost use Rattle.std.specs.Prelude.{◌≡◌, ◌≤◌, List, length, drop};
+    ghost use Rattle.ap_stream.specs.declared.item.Read.{Read};
+    ghost use Rattle.ap_analysis.specs.Items.{bytes_of};
+
+    ghost Value = { List Read };
+
+    ghost view = { λ q. drop q.from q.items.items };
+
+    ghost invariant = { λ q. (q.from ≤ length q.items.items) × (q.bytes ≡ bytes_of (drop q.from q.items.items)) };
+}
+
+/// Drops the items before this place.
+fn let_go(items: &mut Vec<Read>, from: usize)
+    requires { from ≤ vec_len items.old }
+    ensures { items.new.items ≡ drop from items.old.items }
+{
+    items.drain(..from);
+}
+
+/// The bytes of so many items at the front.
+pub(crate) fn size_of_front(reads: &[Read], count: usize) -> u64
+    requires within { count ≤ length reads.now }
+    requires fits { bytes_of reads.now < 2 ^ 64 }
+    ensures { result ≡ bytes_of (take count reads.now) }
+{
+    let mut size = 0;
+    for i in 0..count {
+        size += reads[i].size;
+    }
+    size
+}
+
+impl Queue {
+    pub(crate) fn new(alloc: Global) -> Queue
+        ensures { result ≡ [] }
+    {
+        Queue {
+            items: Vec::new(alloc),
+            from: 0,
+            bytes: 0,
+        }
+    }
+
+    /// After a refusal, which means want of memory, the same items are held.
+    pub(crate) fn push(&mut self, read: Read) -> Result<(), Memory>
+        requires { bytes_of self.old + read.size < 2 ^ 64 }
+        ensures ok { OnOk result (self.new ≡ self.old ++ read ∷ []) }
+        ensures err { OnErr result (self.new ≡ self.old) }
+    {
+        let size = read.size;
+        self.items.push(read)?;
+        self.bytes += size;
+        Ok(())
+    }
+
+    pub(crate) fn as_slice(&self) -> &[Read]
+        ensures { result.now ≡ self.now }
+    {
+        &self.items.as_slice()[self.from..]
+    }
+
+    pub(crate) fn len(&self) -> usize
+        ensures { result ≡ length self.now }
+    {
+        self.items.len() - self.from
+    }
+
+    /// The bytes of the held items.
+    pub(crate) fn bytes(&self) -> u64
+        ensures { result ≡ bytes_of self.now }
+    {
+        self.bytes
+    }
+
+    /// Lets so many items at the front go.
+    pub(crate) fn forget(&mut self, count: usize)
+        requires { count ≤ length self.old }
+        ensures { self.new ≡ drop count self.old }
+    {
+        self.bytes -= size_of_front(self.as_slice(), count);
+        self.from += count;
+        if self.from >= self.items.len() - self.from {
+            let_go(&mut self.items, self.from);
+            self.from = 0;
+        }
+    }
+}
