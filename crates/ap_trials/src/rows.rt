@@ -18,16 +18,56 @@ fn words_are_read_whatever_the_pieces(rt: HostRuntime) -> Result<(), Fail> {
     let alloc = rt.alloc();
     for (dictionary, sensitive, text, wanted) in [
         (NOUNS, false, "houses", "^houses/house<n><pl>$"),
-        (NOUNS, false, "Houses HOUSES", "^Houses/House<n><pl>$ ^HOUSES/HOUSE<n><pl>$"),
+        (
+            NOUNS,
+            false,
+            "Houses HOUSES",
+            "^Houses/House<n><pl>$ ^HOUSES/HOUSE<n><pl>$",
+        ),
         (NOUNS, false, "housex", "^housex/*housex$"),
-        (NOUNS, false, "saw.", "^saw/saw<n><sg>/see<vblex><past>$^./.<sent>$"),
-        (NOUNS, false, "in [<i>]front", "^in front/in front<adv>$[<i>]"),
-        (NOUNS, false, "in  []front [x]in", "^in front/in front<adv>$[] [x]^in/*in$"),
-        (NOUNS, false, "house[<b>]s", "^house/house<n><sg>$[<b>]^s/*s$"),
-        (NOUNS, true, "Houses houses", "^Houses/*Houses$ ^houses/house<n><pl>$"),
+        (
+            NOUNS,
+            false,
+            "saw.",
+            "^saw/saw<n><sg>/see<vblex><past>$^./.<sent>$",
+        ),
+        (
+            NOUNS,
+            false,
+            "in [<i>]front",
+            "^in front/in front<adv>$[<i>]",
+        ),
+        (
+            NOUNS,
+            false,
+            "in  []front [x]in",
+            "^in front/in front<adv>$[] [x]^in/*in$",
+        ),
+        (
+            NOUNS,
+            false,
+            "house[<b>]s",
+            "^house/house<n><sg>$[<b>]^s/*s$",
+        ),
+        (
+            NOUNS,
+            true,
+            "Houses houses",
+            "^Houses/*Houses$ ^houses/house<n><pl>$",
+        ),
         (NOUNS, false, "a\\*b", "^a/*a$\\*^b/*b$"),
-        (NOUNS, false, "sa\\w 3", "^saw/saw<n><sg>/see<vblex><past>$ 3"),
-        (NOUNS, false, "saw\\ .", "^saw/saw<n><sg>/see<vblex><past>$\\ ^./.<sent>$"),
+        (
+            NOUNS,
+            false,
+            "sa\\w 3",
+            "^saw/saw<n><sg>/see<vblex><past>$ 3",
+        ),
+        (
+            NOUNS,
+            false,
+            "saw\\ .",
+            "^saw/saw<n><sg>/see<vblex><past>$\\ ^./.<sent>$",
+        ),
         (CLITICS, false, "l'amic", "^l'/el<det>$ ^amic/*amic$"),
         (CLITICS, false, "amic's", "^amic/*amic$ ^'s/'s<det>$"),
         (LETTERS, false, "", ""),
@@ -46,7 +86,12 @@ fn what_comes_before_a_fault_is_given(rt: HostRuntime) -> Result<(), Fail> {
     let alloc = rt.alloc();
     for (text, wanted, kind, place) in [
         ("house ^x", "^house/house<n><sg>$ ", MalformedKind::Stray, 6),
-        ("house [<b", "^house/house<n><sg>$", MalformedKind::Unfinished, 5),
+        (
+            "house [<b",
+            "^house/house<n><sg>$",
+            MalformedKind::Unfinished,
+            5,
+        ),
     ] {
         for cut in [1, 7, 65_536] {
             let (out, answer) = analysed(alloc, NOUNS, false, text.as_bytes(), cut)?;
