@@ -47,7 +47,7 @@ live_back m fst sensitive true symbols x n old middle new e count step stay cut 
     let s = step refl (inputs_of sensitive symbols) (subst (λ (z : Machine). IsLive z (inputs_of sensitive symbols) old) (sym e) live) in
     let c = cut fst (inputs_of sensitive symbols ++ (record { symbol = x; sensitive = sensitive }) ∷ []) s in
     let t : take n (inputs_of sensitive symbols ++ (record { symbol = x; sensitive = sensitive }) ∷ []) ≡ inputs_of sensitive symbols =
-        ap (λ (k : ℕ). take k (inputs_of sensitive symbols ++ (record { symbol = x; sensitive = sensitive }) ∷ [])) count ∙ take-append_seam (inputs_of sensitive symbols) _ in
+    ap (λ (k : ℕ). take k (inputs_of sensitive symbols ++ (record { symbol = x; sensitive = sensitive }) ∷ [])) count ∙ take-append_seam (inputs_of sensitive symbols) _ in
     subst (λ (z : Machine). IsLive z (inputs_of sensitive symbols) new) e (subst (λ (seen : List Input). IsLive fst seen new) t c)
 live_back m fst sensitive false symbols x n old middle new e count step stay cut live =
     let c = cut m (inputs_of sensitive symbols) (subst (λ (l : Lives). IsLive m (inputs_of sensitive symbols) l) (sym (stay refl)) live) in

@@ -54,15 +54,40 @@ impl LiveSections {
     }
 
     /// Goes on by a symbol. After a refusal, which means want of memory, the symbols so far are the same.
-    pub(crate) fn step(&mut self, compiled: &Compiled, input: &Symbol, sensitive: bool) -> Result<(), Memory>
+    pub(crate) fn step(
+        &mut self,
+        compiled: &Compiled,
+        input: &Symbol,
+        sensitive: bool,
+    ) -> Result<(), Memory>
         ensures ok { OnOk result ((symbols : List Symbol) → AreLive compiled.now sensitive symbols self.old → AreLive compiled.now sensitive (symbols ++ input.now ∷ []) self.new) }
         ensures err { OnErr result ((symbols : List Symbol) → AreLive compiled.now sensitive symbols self.old → AreLive compiled.now sensitive symbols self.new) }
     {
         let before = self.standard.len();
-        let standard = steps(&mut self.standard, compiled.section(Kind2::Standard), input, sensitive);
-        let inconditional = steps(&mut self.inconditional, compiled.section(Kind2::Inconditional), input, sensitive);
-        let postblank = steps(&mut self.postblank, compiled.section(Kind2::Postblank), input, sensitive);
-        let preblank = steps(&mut self.preblank, compiled.section(Kind2::Preblank), input, sensitive);
+        let standard = steps(
+            &mut self.standard,
+            compiled.section(Kind2::Standard),
+            input,
+            sensitive,
+        );
+        let inconditional = steps(
+            &mut self.inconditional,
+            compiled.section(Kind2::Inconditional),
+            input,
+            sensitive,
+        );
+        let postblank = steps(
+            &mut self.postblank,
+            compiled.section(Kind2::Postblank),
+            input,
+            sensitive,
+        );
+        let preblank = steps(
+            &mut self.preblank,
+            compiled.section(Kind2::Preblank),
+            input,
+            sensitive,
+        );
         if standard & inconditional & postblank & preblank {
             return Ok(());
         }
@@ -105,7 +130,12 @@ impl LiveSections {
     }
 
     /// What the entries of that kind read in the symbols so far.
-    pub(crate) fn readings(&self, alloc: Global, compiled: &Compiled, kind: Kind2) -> Result<Words, Memory>
+    pub(crate) fn readings(
+        &self,
+        alloc: Global,
+        compiled: &Compiled,
+        kind: Kind2,
+    ) -> Result<Words, Memory>
         ensures { IfOk result (λ words. (sensitive : Bool) (symbols : List Symbol) → AreLive compiled.now sensitive symbols self.now → words ≡ (lexicon_of compiled.now sensitive).readings kind symbols) }
     {
         self.section(kind).finals(alloc, compiled.section(kind))

@@ -124,7 +124,12 @@ impl Search {
     }
 
     /// Looks at items while they may be read together, and answers whether it is known that one item more may not.
-    fn step_on(&mut self, compiled: &Compiled, sensitive: bool, reads: &[Read]) -> Result<bool, Memory>
+    fn step_on(
+        &mut self,
+        compiled: &Compiled,
+        sensitive: bool,
+        reads: &[Read],
+    ) -> Result<bool, Memory>
         requires search { IsSearch compiled.now sensitive reads.now self.old }
         requires stepping { self.old.phase ≡ Phase.Stepping }
         ensures search { IsSearch compiled.now sensitive reads.now self.new }
@@ -154,7 +159,8 @@ impl Search {
     fn reads_standard(&self, compiled: &Compiled, reads: &[Read]) -> bool
         ensures { (sensitive : Bool) → IsSearch compiled.now sensitive reads.now self.now → result ≡ is_some_word (standard_words (lexicon_of compiled.now sensitive) reads.now self.now.looked) }
     {
-        !begins_alphabetic(compiled, reads, self.looked) && self.lives.reads(compiled, Kind2::Standard)
+        !begins_alphabetic(compiled, reads, self.looked)
+            && self.lives.reads(compiled, Kind2::Standard)
     }
 
     /// Goes back to the greatest licensed length.
@@ -175,7 +181,14 @@ impl Search {
     }
 
     /// Goes on with an unknown word; an item more is wanted where none of those held ends it and it isn't the last.
-    fn run(&mut self, compiled: &Compiled, reads: &[Read], finished: bool, viable: usize, seen: usize) -> Option<Found>
+    fn run(
+        &mut self,
+        compiled: &Compiled,
+        reads: &[Read],
+        finished: bool,
+        viable: usize,
+        seen: usize,
+    ) -> Option<Found>
         requires within { seen ≤ length reads.now }
         requires letters { (sensitive : Bool) → list_all (alphabetic_test (lexicon_of compiled.now sensitive)) (take seen reads.now) ≡ true }
         ensures search { (sensitive : Bool) → IsSearch compiled.now sensitive reads.now self.old → IsUnlicensed (lexicon_of compiled.now sensitive) reads.now viable finished → IsSearch compiled.now sensitive reads.now self.new }
@@ -197,7 +210,13 @@ impl Search {
     }
 
     /// Looks further, and back for the greatest licensed length.
-    fn look_on(&mut self, compiled: &Compiled, sensitive: bool, reads: &[Read], finished: bool) -> Result<Option<Found>, Memory>
+    fn look_on(
+        &mut self,
+        compiled: &Compiled,
+        sensitive: bool,
+        reads: &[Read],
+        finished: bool,
+    ) -> Result<Option<Found>, Memory>
         requires search { IsSearch compiled.now sensitive reads.now self.old }
         requires stepping { self.old.phase ≡ Phase.Stepping }
         ensures search { IsSearch compiled.now sensitive reads.now self.new }
@@ -224,7 +243,13 @@ impl Search {
 
     /// What stands at the front of the items, of which there is at least one; none where an item more is wanted. Where a
     /// length is licensed, it stands there.
-    pub(crate) fn look(&mut self, compiled: &Compiled, sensitive: bool, reads: &[Read], finished: bool) -> Result<Option<Found>, Memory>
+    pub(crate) fn look(
+        &mut self,
+        compiled: &Compiled,
+        sensitive: bool,
+        reads: &[Read],
+        finished: bool,
+    ) -> Result<Option<Found>, Memory>
         requires search { IsSearch compiled.now sensitive reads.now self.old }
         ensures search { IsSearch compiled.now sensitive reads.now self.new }
         ensures found { IfOk result (λ look. IfSome look (IsFound (lexicon_of compiled.now sensitive) reads.now finished)) }

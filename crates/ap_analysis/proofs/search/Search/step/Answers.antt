@@ -5,8 +5,11 @@ use Rattle.ap_analysis.proofs.Stepped.{viable_of, search_at, stops_here, dead_he
 use Rattle.ap_analysis.proofs.search.Search.step.Goals as goal
 
 pub returns-in-None-clause-ends : goal.returns-in-None-clause-ends
-returns-in-None-clause-ends c = λ _. (refl, stops_here c.args.compiled.now c.args.sensitive c.args.reads.now c.args.self.now.looked c.index-reads-self.result
-    (viable_of _ c.args.reads.now c.args.self.now.looked _ c.requires.stepping c.requires.search.phase_is) c.requires.more c.in-None.ensures.symbol)
+returns-in-None-clause-ends c = λ _. (
+  refl,
+  stops_here c.args.compiled.now c.args.sensitive c.args.reads.now c.args.self.now.looked c.index-reads-self.result
+      (viable_of _ c.args.reads.now c.args.self.now.looked _ c.requires.stepping c.requires.search.phase_is) c.requires.more c.in-None.ensures.symbol,
+)
 
 pub returns-then-is_dead-clause-search : goal.returns-then-is_dead-clause-search
 returns-then-is_dead-clause-search c =

@@ -29,7 +29,7 @@ pub forget-requires : goal.forget-requires
 forget-requires c =
     let some : 0 < length c.args.self.now.items = omega (arith, c.held_count.ensures, c.if-held_count-eq0.false) in
     let w = turned_within c.args.self.now c.in-Ok-Some-Gives.ensures.coherent some c.in-Ok-Some-Gives.count c.in-Ok-Some-Gives.text c.in-Ok-Some-Gives.ensures.items
-        (step_is c.args.self.now c.in-Ok-Some-Gives.field-0 c.in-Ok-Some-Gives.field-0-0 _ c.in-Ok-Some-Gives.field-0-is c.in-Ok-Some-Gives.field-0-0-is c.in-Ok-Some-Gives.ensures.step) in
+    (step_is c.args.self.now c.in-Ok-Some-Gives.field-0 c.in-Ok-Some-Gives.field-0-0 _ c.in-Ok-Some-Gives.field-0-is c.in-Ok-Some-Gives.field-0-0-is c.in-Ok-Some-Gives.ensures.step) in
     let e = ap (λ (h : Held). length h.items) c.in-Ok-Some-Gives.ensures.same in
     omega (arith, w, e)
 
