@@ -230,9 +230,11 @@ usage-by words old new status (Ok (Proc sensitive file)) (inl r) = ((λ e. absur
 usage-by words old new status (Ok (Expand file)) (inl r) = ((λ e. absurd (not-refused words old new status file Usage r e)), (λ e. cc))
 usage-by words old new status (Ok (Expand file)) (inr p) =
     ((λ e. listed-so old.sink new.sink (listing p.dictionary) status Usage _ p.listed e (λ x w. cc) (λ x w. cc) (λ x w. cc)), (λ e. cc))
-usage-by words old new status (Ok (Proc sensitive file)) (inr p) =
-    ((λ e. absurd (streamed-so p.dictionary file sensitive old new status Usage ⊥ p.stream e (λ x w. cc) (λ x w. cc) (λ line i x t w. cc)
-    (λ s l i ending c x. no-usage (ending-is ending Usage x)) (λ s l i f h other x. no-usage (fault-is f Usage x)))), (λ e. cc))
+usage-by words old new status (Ok (Proc sensitive file)) (inr p) = (
+  (λ e. absurd (streamed-so p.dictionary file sensitive old new status Usage ⊥ p.stream e (λ x w. cc) (λ x w. cc) (λ line i x t w. cc)
+      (λ s l i ending c x. no-usage (ending-is ending Usage x)) (λ s l i f h other x. no-usage (fault-is f Usage x)))),
+  (λ e. cc),
+)
 
 pub usage-from : (words : List (List ℕ)) (old new : Outside) (status : Status) → IsAnswer words old new status → (status ≡ Usage) ↔ (command_of words ≡ usage)
 usage-from words old new status a = usage-by words old new status (command_of words) a.by_words
@@ -325,9 +327,11 @@ fault-for (Expand file) text number line f = f
 empty-bad : (name : List ℕ) (old new : Outside) (status : Status) (sensitive : Bool) (f file number l line : ℕ) → (p : Proceeds name f sensitive old new status) → IsFirstEmpty p.dictionary Lr (section_entries p.dictionary.sections) l → BadDictionary f 13 l ≡ BadDictionary file number line
     → (f ≡ file) × HasText old.files name (λ text. IsFaultFor (Proc sensitive file) text number line)
 empty-bad name old new status sensitive f file number l line p i e =
-    let same : l ≡ line = cc in
-    (cc, text-more old.files name (λ text. IsAccepted text p.dictionary) (λ text. IsFaultFor (Proc sensitive file) text number line)
-    (λ text accepted. inr (record { dictionary = p.dictionary; accepted = accepted; number_is = cc; empty = subst (λ n. IsFirstEmpty p.dictionary Lr (section_entries p.dictionary.sections) n) same i })) p.opened)
+    let same : l ≡ line = cc in (
+      cc,
+      text-more old.files name (λ text. IsAccepted text p.dictionary) (λ text. IsFaultFor (Proc sensitive file) text number line)
+          (λ text accepted. inr (record { dictionary = p.dictionary; accepted = accepted; number_is = cc; empty = subst (λ n. IsFirstEmpty p.dictionary Lr (section_entries p.dictionary.sections) n) same i })) p.opened,
+    )
 
 refused-bad : (words : List (List ℕ)) (old : Outside) (f file number line : ℕ) (k : Command) → command_of words ≡ Ok k → file_of k ≡ f → f ≡ file → HasText old.files (name_at words f) (λ text. IsFaultFor k text number line) → HasFaultOf words old file number line
 refused-bad words old f file number line k c i e t = record { of_command = record { command = k; by_words = c; file_is = i ∙ e }; faulty = subst (λ n. HasText old.files (name_at words n) (λ text. IsFaultFor k text number line)) e t }
