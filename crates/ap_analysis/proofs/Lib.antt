@@ -9,3 +9,11 @@ pub mod Lexicons
 pub mod Goings
 pub mod Searches
 pub mod Turns
+pub mod SectionLives
+pub mod Holdings
+pub mod Ordered
+pub mod Stepped
+pub mod Running
+pub mod Limits
+pub mod Turned
+pub mod PushedOn

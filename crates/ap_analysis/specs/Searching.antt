@@ -1,5 +1,5 @@
 -- What the search for the length at the front of the held items knows.
-use Rattle.std.specs.Prelude.{◌≡◌, ◌⊎◌, ℕ, suc, ◌<◌, ◌≤◌, Bool, true, false, List, [], length, take, IsTrue, max}
+use Rattle.std.specs.Prelude.{◌≡◌, ◌⊎◌, ℕ, suc, ◌<◌, ◌≤◌, Bool, true, false, List, [], length, take, IsTrue, max, slice_index_or}
 use Rattle.std.specs.List.{list_all}
 use Rattle.ap_symbol.specs.declared.symbol.Symbol.{Symbol}
 use Rattle.ap_fst.specs.Sections.{Parts}
@@ -65,3 +65,15 @@ pub record IsRun (lexicon : Lexicon) (reads : List Read) (viable : ℕ) (finishe
   pub unknown_is : found.unknown ≡ run_length lexicon reads
   pub span_is : found.span ≡ max viable (run_length lexicon reads)
   pub settled : (found.unknown < length reads) ⊎ (finished ≡ true)
+
+-- no length is licensed, and the items hold the end, or none follows
+pub record IsUnlicensed (lexicon : Lexicon) (reads : List Read) (viable : ℕ) (finished : Bool) : Type 0 where
+  pub ends : IsEnd lexicon reads viable
+  pub none : greatest (is_licensed lexicon reads) viable ≡ 0
+  pub settled : (viable < length reads) ⊎ (finished ≡ true)
+
+-- the place of the first item
+pub record IsFirstPlace (reads : List Read) (place : ℕ) : Type 0 where
+  pub first : Read
+  pub is : first ≡ slice_index_or reads 0 first
+  pub place_is : place ≡ first.place

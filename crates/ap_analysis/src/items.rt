@@ -37,9 +37,15 @@ pub(crate) fn symbol_of_item(item: &Item) -> Option<Symbol>
 pub(crate) fn is_alphabetic(compiled: &Compiled, read: &Read) -> bool
     ensures { (sensitive : Bool) → result ≡ alphabetic_test (lexicon_of compiled.now sensitive) read.now }
 {
-    match symbol_of_item(&read.item) {
-        Some(Symbol::Letter(c)) => compiled.is_alphabetic(c),
-        _ => false,
+    match &read.item {
+        Item::Plain(character) => {
+            if is_white(character.letter) {
+                false
+            } else {
+                compiled.is_alphabetic(character.letter)
+            }
+        }
+        Item::Blank(_) | Item::Unit(_) | Item::Chunk(_) => false,
     }
 }
 

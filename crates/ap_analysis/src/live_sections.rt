@@ -1,4 +1,4 @@
-ghost use Rattle.std.specs.Prelude.{◌≡◌, Bool, true, false, not, ◌++◌, ◌∷◌, [], List, take, OnOk, OnErr, IfOk};
+ghost use Rattle.std.specs.Prelude.{◌≡◌, Bool, true, false, not, ◌&&◌, ◌++◌, ◌∷◌, [], List, take, OnOk, OnErr, IfOk};
 ghost use Rattle.ap_symbol.specs.declared.symbol.Symbol.{Symbol};
 ghost use Rattle.ap_fst.specs.Machines.{Machine};
 ghost use Rattle.ap_fst.specs.Sections.{Parts};
@@ -30,6 +30,12 @@ fn steps(live: &mut Live, fst: &Fst, input: &Symbol, sensitive: bool) -> bool
     }
 }
 
+fn are_all(standard: bool, inconditional: bool, postblank: bool, preblank: bool) -> bool
+    ensures { result ≡ (standard && inconditional && postblank && preblank) }
+{
+    standard && inconditional && postblank && preblank
+}
+
 impl LiveSections {
     ghost use Rattle.ap_analysis.specs.Licence.{is_some_word};
     ghost use Rattle.ap_fst.specs.Sections.{section_of};
@@ -48,19 +54,47 @@ impl LiveSections {
     }
 
     /// Goes on by a symbol. After a refusal, which means want of memory, the symbols so far are the same.
-    pub(crate) fn step(&mut self, compiled: &Compiled, input: &Symbol, sensitive: bool) -> Result<(), Memory>
+    pub(crate) fn step(
+        &mut self,
+        compiled: &Compiled,
+        input: &Symbol,
+        sensitive: bool,
+    ) -> Result<(), Memory>
         ensures ok { OnOk result ((symbols : List Symbol) → AreLive compiled.now sensitive symbols self.old → AreLive compiled.now sensitive (symbols ++ input.now ∷ []) self.new) }
         ensures err { OnErr result ((symbols : List Symbol) → AreLive compiled.now sensitive symbols self.old → AreLive compiled.now sensitive symbols self.new) }
     {
         let before = self.standard.len();
-        let standard = steps(&mut self.standard, compiled.section(Kind2::Standard), input, sensitive);
-        let inconditional = steps(&mut self.inconditional, compiled.section(Kind2::Inconditional), input, sensitive);
-        let postblank = steps(&mut self.postblank, compiled.section(Kind2::Postblank), input, sensitive);
-        let preblank = steps(&mut self.preblank, compiled.section(Kind2::Preblank), input, sensitive);
+        let standard = steps(
+            &mut self.standard,
+            compiled.section(Kind2::Standard),
+            input,
+            sensitive,
+        );
+        let inconditional = steps(
+            &mut self.inconditional,
+            compiled.section(Kind2::Inconditional),
+            input,
+            sensitive,
+        );
+        let postblank = steps(
+            &mut self.postblank,
+            compiled.section(Kind2::Postblank),
+            input,
+            sensitive,
+        );
+        let preblank = steps(
+            &mut self.preblank,
+            compiled.section(Kind2::Preblank),
+            input,
+            sensitive,
+        );
         if standard & inconditional & postblank & preblank {
             return Ok(());
         }
-        self.cut(before);
+        self.standard.cut(before);
+        self.inconditional.cut(before);
+        self.postblank.cut(before);
+        self.preblank.cut(before);
         Err(Memory)
     }
 
@@ -69,7 +103,11 @@ impl LiveSections {
         ensures { (sensitive : Bool) (symbols : List Symbol) → AreLive compiled.now sensitive symbols self.now → result ≡ not (viable_in compiled.now sensitive symbols) }
     {
         let _ = compiled.alphabet();
-        self.standard.is_dead() && self.inconditional.is_dead() && self.postblank.is_dead() && self.preblank.is_dead()
+        let standard = self.standard.is_dead();
+        let inconditional = self.inconditional.is_dead();
+        let postblank = self.postblank.is_dead();
+        let preblank = self.preblank.is_dead();
+        are_all(standard, inconditional, postblank, preblank)
     }
 
     /// The live set of a section.
@@ -92,7 +130,12 @@ impl LiveSections {
     }
 
     /// What the entries of that kind read in the symbols so far.
-    pub(crate) fn readings(&self, alloc: Global, compiled: &Compiled, kind: Kind2) -> Result<Words, Memory>
+    pub(crate) fn readings(
+        &self,
+        alloc: Global,
+        compiled: &Compiled,
+        kind: Kind2,
+    ) -> Result<Words, Memory>
         ensures { IfOk result (λ words. (sensitive : Bool) (symbols : List Symbol) → AreLive compiled.now sensitive symbols self.now → words ≡ (lexicon_of compiled.now sensitive).readings kind symbols) }
     {
         self.section(kind).finals(alloc, compiled.section(kind))

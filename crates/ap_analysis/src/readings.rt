@@ -43,7 +43,13 @@ fn carried_word(alloc: Global, sensitive: bool, seen: &Word, word: &Word) -> Res
 }
 
 /// Appends the words with the case of what was seen.
-fn push_carried(alloc: Global, sensitive: bool, seen: &Word, words: &[Word], into: &mut Vec<Word>) -> Result<(), Memory>
+fn push_carried(
+    alloc: Global,
+    sensitive: bool,
+    seen: &Word,
+    words: &[Word],
+    into: &mut Vec<Word>,
+) -> Result<(), Memory>
     ensures is { OnOk result (into.new.items ≡ into.old.items ++ map (carried sensitive seen.now) words.now) }
     ensures proper { OnOk result (((w : List Symbol) → IsIn w into.old.items → AreProper w) → (w : List Symbol) → IsIn w into.new.items → AreProper w) }
 {
@@ -54,7 +60,15 @@ fn push_carried(alloc: Global, sensitive: bool, seen: &Word, words: &[Word], int
 }
 
 /// Appends what the entries of a kind read in the symbols so far, with the case of what was seen.
-fn push_kind(alloc: Global, compiled: &Compiled, sensitive: bool, lives: &LiveSections, kind: Kind2, seen: &Word, into: &mut Vec<Word>) -> Result<(), Memory>
+fn push_kind(
+    alloc: Global,
+    compiled: &Compiled,
+    sensitive: bool,
+    lives: &LiveSections,
+    kind: Kind2,
+    seen: &Word,
+    into: &mut Vec<Word>,
+) -> Result<(), Memory>
     ensures is { OnOk result ((symbols : List Symbol) → AreLive compiled.now sensitive symbols lives.now → into.new.items ≡ into.old.items ++ map (carried sensitive seen.now) ((lexicon_of compiled.now sensitive).readings kind symbols)) }
     ensures proper { OnOk result (((w : List Symbol) → IsIn w into.old.items → AreProper w) → (w : List Symbol) → IsIn w into.new.items → AreProper w) }
 {
@@ -62,7 +76,16 @@ fn push_kind(alloc: Global, compiled: &Compiled, sensitive: bool, lives: &LiveSe
     push_carried(alloc, sensitive, seen, words.as_slice(), into)
 }
 
-fn push_standard(alloc: Global, compiled: &Compiled, sensitive: bool, lives: &LiveSections, reads: &[Read], count: usize, seen: &Word, into: &mut Vec<Word>) -> Result<(), Memory>
+fn push_standard(
+    alloc: Global,
+    compiled: &Compiled,
+    sensitive: bool,
+    lives: &LiveSections,
+    reads: &[Read],
+    count: usize,
+    seen: &Word,
+    into: &mut Vec<Word>,
+) -> Result<(), Memory>
     requires { AreLive compiled.now sensitive (surface reads.now count) lives.now }
     ensures is { OnOk result (into.new.items ≡ into.old.items ++ map (carried sensitive seen.now) (standard_words (lexicon_of compiled.now sensitive) reads.now count)) }
     ensures proper { OnOk result (((w : List Symbol) → IsIn w into.old.items → AreProper w) → (w : List Symbol) → IsIn w into.new.items → AreProper w) }
@@ -70,21 +93,63 @@ fn push_standard(alloc: Global, compiled: &Compiled, sensitive: bool, lives: &Li
     if begins_alphabetic(compiled, reads, count) {
         Ok(())
     } else {
-        push_kind(alloc, compiled, sensitive, lives, Kind2::Standard, seen, into)
+        push_kind(
+            alloc,
+            compiled,
+            sensitive,
+            lives,
+            Kind2::Standard,
+            seen,
+            into,
+        )
     }
 }
 
 /// The readings of the first so many items, at which the live sets stand.
-pub(crate) fn readings(alloc: Global, compiled: &Compiled, sensitive: bool, lives: &LiveSections, reads: &[Read], count: usize, seen: &Word) -> Result<Vec<Word>, Memory>
+pub(crate) fn readings(
+    alloc: Global,
+    compiled: &Compiled,
+    sensitive: bool,
+    lives: &LiveSections,
+    reads: &[Read],
+    count: usize,
+    seen: &Word,
+) -> Result<Vec<Word>, Memory>
     requires lives { AreLive compiled.now sensitive (surface reads.now count) lives.now }
     requires seen { seen.now ≡ surface reads.now count }
     ensures { IfOk result (λ words. words.items ≡ readings_at (lexicon_of compiled.now sensitive) sensitive reads.now count) }
 {
     let mut words = Vec::new(alloc);
-    push_standard(alloc, compiled, sensitive, lives, reads, count, seen, &mut words)?;
-    push_kind(alloc, compiled, sensitive, lives, Kind2::Inconditional, seen, &mut words)?;
-    push_kind(alloc, compiled, sensitive, lives, Kind2::Postblank, seen, &mut words)?;
-    push_kind(alloc, compiled, sensitive, lives, Kind2::Preblank, seen, &mut words)?;
+    push_standard(
+        alloc, compiled, sensitive, lives, reads, count, seen, &mut words,
+    )?;
+    push_kind(
+        alloc,
+        compiled,
+        sensitive,
+        lives,
+        Kind2::Inconditional,
+        seen,
+        &mut words,
+    )?;
+    push_kind(
+        alloc,
+        compiled,
+        sensitive,
+        lives,
+        Kind2::Postblank,
+        seen,
+        &mut words,
+    )?;
+    push_kind(
+        alloc,
+        compiled,
+        sensitive,
+        lives,
+        Kind2::Preblank,
+        seen,
+        &mut words,
+    )?;
     sort_words(&mut words);
     Ok(words)
 }

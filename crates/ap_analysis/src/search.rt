@@ -1,4 +1,4 @@
-ghost use Rattle.std.specs.Prelude.{◌≡◌, ℕ, ◌+◌, ◌<◌, ◌≤◌, Bool, true, false, List, [], None, length, take, IfOk, OnOk, OnErr, IfSome, max};
+ghost use Rattle.std.specs.Prelude.{◌≡◌, ◌⊎◌, ℕ, ◌+◌, ◌<◌, ◌≤◌, Bool, true, false, List, [], None, length, take, IfOk, OnOk, OnErr, IfSome, max};
 ghost use Rattle.std.specs.List.{list_all, prefix_len};
 ghost use Rattle.ap_analysis.specs.Items.{front};
 ghost use Rattle.ap_analysis.specs.Lexicon.{lexicon_of};
@@ -52,8 +52,30 @@ fn run_on(compiled: &Compiled, reads: &[Read], seen: usize) -> usize
     run
 }
 
+/// All items are alphabetic characters, and more may come.
+fn is_endless(run: usize, count: usize, finished: bool) -> bool
+    ensures endless { result ≡ true → (run ≡ count) × (finished ≡ false) }
+    ensures ended { result ≡ false → run ≤ count → (run < count) ⊎ (finished ≡ true) }
+{
+    run == count && !finished
+}
+
+/// No end is known, and more items may come.
+fn is_open(ends: bool, finished: bool) -> bool
+    ensures unknown { result ≡ true → (ends ≡ false) × (finished ≡ false) }
+    ensures known { result ≡ false → (ends ≡ true) ⊎ (finished ≡ true) }
+{
+    !ends && !finished
+}
+
+fn greater(viable: usize, run: usize) -> usize
+    ensures { result ≡ max viable run }
+{
+    viable.max(run)
+}
+
 impl Search {
-    ghost use Rattle.ap_analysis.specs.Searching.{IsSearch, IsEnd, IsFound, IsRun};
+    ghost use Rattle.ap_analysis.specs.Searching.{IsSearch, IsEnd, IsFound, IsUnlicensed};
     ghost use Rattle.ap_analysis.specs.Licence.{is_some_word, standard_words};
     ghost use Rattle.ap_fst.specs.Sections.{Parts};
     ghost use Rattle.ap_stream.specs.declared.item.Read.{Read};
@@ -102,7 +124,12 @@ impl Search {
     }
 
     /// Looks at items while they may be read together, and answers whether it is known that one item more may not.
-    fn step_on(&mut self, compiled: &Compiled, sensitive: bool, reads: &[Read]) -> Result<bool, Memory>
+    fn step_on(
+        &mut self,
+        compiled: &Compiled,
+        sensitive: bool,
+        reads: &[Read],
+    ) -> Result<bool, Memory>
         requires search { IsSearch compiled.now sensitive reads.now self.old }
         requires stepping { self.old.phase ≡ Phase.Stepping }
         ensures search { IsSearch compiled.now sensitive reads.now self.new }
@@ -132,7 +159,8 @@ impl Search {
     fn reads_standard(&self, compiled: &Compiled, reads: &[Read]) -> bool
         ensures { (sensitive : Bool) → IsSearch compiled.now sensitive reads.now self.now → result ≡ is_some_word (standard_words (lexicon_of compiled.now sensitive) reads.now self.now.looked) }
     {
-        !begins_alphabetic(compiled, reads, self.looked) && self.lives.reads(compiled, Kind2::Standard)
+        !begins_alphabetic(compiled, reads, self.looked)
+            && self.lives.reads(compiled, Kind2::Standard)
     }
 
     /// Goes back to the greatest licensed length.
@@ -142,6 +170,7 @@ impl Search {
         ensures stepping { self.new.phase ≡ Phase.Stepping }
         ensures greatest { (sensitive : Bool) → IsSearch compiled.now sensitive reads.now self.old → self.new.looked ≡ greatest (licensed_test (lexicon_of compiled.now sensitive) reads.now) self.old.looked }
     {
+        let _ = compiled.alphabet();
         while self.looked > 0 {
             if self.is_licensed(compiled, reads) {
                 return;
@@ -152,31 +181,75 @@ impl Search {
     }
 
     /// Goes on with an unknown word; an item more is wanted where none of those held ends it and it isn't the last.
-    fn run(&mut self, compiled: &Compiled, reads: &[Read], finished: bool, viable: usize, run: usize) -> Option<Found>
-        requires within { run ≤ length reads.now }
-        requires letters { (sensitive : Bool) → list_all (alphabetic_test (lexicon_of compiled.now sensitive)) (take run reads.now) ≡ true }
-        ensures found { IfSome result (λ found. (sensitive : Bool) → IsRun (lexicon_of compiled.now sensitive) reads.now viable finished found) }
-        ensures found_same { IfSome result (λ found. self.new ≡ self.old) }
-        ensures waits { result ≡ None → (finished ≡ false) × (self.new.lives ≡ self.old.lives) × (self.new.looked ≡ self.old.looked)
-            × (self.new.phase ≡ Phase.Unmatched viable (length reads.now)) × ((sensitive : Bool) → prefix_len (alphabetic_test (lexicon_of compiled.now sensitive)) reads.now ≡ length reads.now) }
+    fn run(
+        &mut self,
+        compiled: &Compiled,
+        reads: &[Read],
+        finished: bool,
+        viable: usize,
+        seen: usize,
+    ) -> Option<Found>
+        requires within { seen ≤ length reads.now }
+        requires letters { (sensitive : Bool) → list_all (alphabetic_test (lexicon_of compiled.now sensitive)) (take seen reads.now) ≡ true }
+        ensures search { (sensitive : Bool) → IsSearch compiled.now sensitive reads.now self.old → IsUnlicensed (lexicon_of compiled.now sensitive) reads.now viable finished → IsSearch compiled.now sensitive reads.now self.new }
+        ensures found { IfSome result (λ found. (sensitive : Bool) → IsUnlicensed (lexicon_of compiled.now sensitive) reads.now viable finished → IsFound (lexicon_of compiled.now sensitive) reads.now finished found) }
+        ensures none { IfSome result (λ found. found.licence ≡ 0) }
+        ensures waits { result ≡ None → (finished ≡ false) × ((sensitive : Bool) → IsUnlicensed (lexicon_of compiled.now sensitive) reads.now viable finished → span (lexicon_of compiled.now sensitive) reads.now ≡ length reads.now) }
     {
-        let run = run_on(compiled, reads, run);
-        if run == reads.len() {
-            if !finished {
-                self.phase = Phase::Unmatched { viable, run };
-                return None;
-            }
+        let _ = compiled.alphabet();
+        let run = run_on(compiled, reads, seen);
+        if is_endless(run, reads.len(), finished) {
+            self.phase = Phase::Unmatched { viable, run };
+            return None;
         }
         Some(Found {
             licence: 0,
             unknown: run,
-            span: viable.max(run),
+            span: greater(viable, run),
         })
+    }
+
+    /// Looks further, and back for the greatest licensed length.
+    fn look_on(
+        &mut self,
+        compiled: &Compiled,
+        sensitive: bool,
+        reads: &[Read],
+        finished: bool,
+    ) -> Result<Option<Found>, Memory>
+        requires search { IsSearch compiled.now sensitive reads.now self.old }
+        requires stepping { self.old.phase ≡ Phase.Stepping }
+        ensures search { IsSearch compiled.now sensitive reads.now self.new }
+        ensures found { IfOk result (λ look. IfSome look (IsFound (lexicon_of compiled.now sensitive) reads.now finished)) }
+        ensures at { IfOk result (λ look. IfSome look (λ found. 0 < found.licence → self.new.looked ≡ found.licence)) }
+        ensures waits { result ≡ Ok None → (finished ≡ false) × (span (lexicon_of compiled.now sensitive) reads.now ≡ length reads.now) }
+    {
+        let _ = compiled.alphabet();
+        let ends = self.step_on(compiled, sensitive, reads)?;
+        if is_open(ends, finished) {
+            return Ok(None);
+        }
+        let viable = self.looked;
+        self.step_back(compiled, reads);
+        if self.looked > 0 {
+            return Ok(Some(Found {
+                licence: self.looked,
+                unknown: 0,
+                span: viable,
+            }));
+        }
+        Ok(self.run(compiled, reads, finished, viable, 0))
     }
 
     /// What stands at the front of the items, of which there is at least one; none where an item more is wanted. Where a
     /// length is licensed, it stands there.
-    pub(crate) fn look(&mut self, compiled: &Compiled, sensitive: bool, reads: &[Read], finished: bool) -> Result<Option<Found>, Memory>
+    pub(crate) fn look(
+        &mut self,
+        compiled: &Compiled,
+        sensitive: bool,
+        reads: &[Read],
+        finished: bool,
+    ) -> Result<Option<Found>, Memory>
         requires search { IsSearch compiled.now sensitive reads.now self.old }
         ensures search { IsSearch compiled.now sensitive reads.now self.new }
         ensures found { IfOk result (λ look. IfSome look (IsFound (lexicon_of compiled.now sensitive) reads.now finished)) }
@@ -184,24 +257,9 @@ impl Search {
         ensures waits { result ≡ Ok None → (finished ≡ false) × (span (lexicon_of compiled.now sensitive) reads.now ≡ length reads.now) }
     {
         match self.phase {
-            Phase::Unmatched { viable, run } => Ok(self.run(compiled, reads, finished, viable, run)),
-            Phase::Stepping => {
-                let ends = self.step_on(compiled, sensitive, reads)?;
-                if !ends {
-                    if !finished {
-                        return Ok(None);
-                    }
-                }
-                let viable = self.looked;
-                self.step_back(compiled, reads);
-                if self.looked > 0 {
-                    return Ok(Some(Found {
-                        licence: self.looked,
-                        unknown: 0,
-                        span: viable,
-                    }));
-                }
-                Ok(self.run(compiled, reads, finished, viable, 0))
+            Phase::Stepping => self.look_on(compiled, sensitive, reads, finished),
+            Phase::Unmatched { viable, run } => {
+                Ok(self.run(compiled, reads, finished, viable, run))
             }
         }
     }

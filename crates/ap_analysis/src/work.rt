@@ -46,6 +46,12 @@ impl Model for AnalysisWork {
 }
 
 impl AnalysisWork {
+    ghost use Rattle.std.specs.List.{AllByRecursion};
+    ghost use Rattle.ap_stream.specs.Reading.{IsRead};
+    ghost use Rattle.ap_stream.specs.declared.dialect.Dialect.TheVariants.{Raw};
+    ghost use Rattle.ap_analysis.specs.Lexicon.{IsCoherent};
+    ghost use Rattle.ap_analysis.specs.Searching.{IsFirstPlace};
+
     /// The work by this dictionary. Where case counts, a symbol fits itself alone, and readings are given as they stand.
     pub fn new(alloc: Global, compiled: Compiled, sensitive: bool) -> Result<AnalysisWork, Memory>
         ensures compiled { IfOk result (λ work. work.compiled ≡ compiled) }
@@ -76,14 +82,44 @@ impl AnalysisWork {
         self.search.restart();
     }
 
+    /// The number of held items.
+    fn held_count(&self) -> usize
+        ensures { result ≡ length self.now.items }
+    {
+        self.items.len()
+    }
+
+    fn held_bytes(&self) -> u64
+        ensures { result ≡ bytes_of self.now.items }
+    {
+        self.items.bytes()
+    }
+
+    fn is_finished(&self) -> bool
+        ensures { result ≡ self.now.finished }
+    {
+        self.finished
+    }
+
+    /// The place of the first item.
+    fn first_place(&self) -> u64
+        requires { 0 < length self.now.items }
+        ensures { IsFirstPlace self.now.items result }
+    {
+        self.items.as_slice()[0].place
+    }
+
     /// The first step, or none where an item more is wanted.
     fn next(&mut self) -> Result<Option<Written>, Memory>
         requires { 0 < length self.old.items }
         ensures same { self.new ≡ self.old }
+        ensures coherent { IsCoherent (lexicon_of self.old.compiled self.old.sensitive) }
+        ensures items { AllByRecursion (IsRead Raw) self.old.items }
         ensures step { IfOk result (λ step. IfSome step (λ made. (meant made ≡ first_step (lexicon_of self.old.compiled self.old.sensitive) self.old.sensitive self.old.items)
             × ((span (lexicon_of self.old.compiled self.old.sensitive) self.old.items < length self.old.items) ⊎ (self.old.finished ≡ true)))) }
         ensures waits { result ≡ Ok None → (self.old.finished ≡ false) × (span (lexicon_of self.old.compiled self.old.sensitive) self.old.items ≡ length self.old.items) }
     {
+        let _ = self.compiled.alphabet();
         let reads = self.items.as_slice();
         match self
             .search
@@ -132,18 +168,17 @@ impl Handler for AnalysisWork {
     }
 
     fn turn(&mut self, into: &mut Bytes) -> Result<Turn, StageFault> {
-        if self.items.len() == 0 {
-            return Ok(if self.finished {
-                Turn::Over
-            } else {
-                Turn::Wants
-            });
+        if self.held_count() == 0 {
+            if self.is_finished() {
+                return Ok(Turn::Over);
+            }
+            return Ok(Turn::Wants);
         }
-        let place = self.items.as_slice()[0].place;
+        let place = self.first_place();
         match self.next() {
             Err(_) => Err(StageFault::Memory),
             Ok(None) => {
-                if self.items.bytes() > SPAN_MAX as u64 {
+                if self.held_bytes() > SPAN_MAX as u64 {
                     return Err(StageFault::Limit {
                         kind: LimitKind::SpanTooLong,
                         place,

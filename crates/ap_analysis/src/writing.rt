@@ -64,7 +64,12 @@ fn unknown_text(alloc: Global, seen: &Word) -> Result<Bytes, Memory>
 }
 
 /// Appends a space, where an entry of that kind reads the symbols so far.
-fn push_space(compiled: &Compiled, lives: &LiveSections, kind: Kind2, text: &mut Bytes) -> Result<(), Memory>
+fn push_space(
+    compiled: &Compiled,
+    lives: &LiveSections,
+    kind: Kind2,
+    text: &mut Bytes,
+) -> Result<(), Memory>
     ensures { OnOk result ((sensitive : Bool) (reads : List Read) (count : ℕ) → AreLive compiled.now sensitive (surface_lem reads count) lives.now → text.new ≡ text.old ++ space_at (lexicon_of compiled.now sensitive) kind reads count) }
 {
     if lives.reads(compiled, kind) {
@@ -86,7 +91,14 @@ fn push_swallowed(reads: &[Read], count: usize, text: &mut Bytes) -> Result<(), 
 }
 
 /// The unit, and what stands beside it.
-fn known_rest(alloc: Global, compiled: &Compiled, lives: &LiveSections, reads: &[Read], count: usize, unit: &Bytes) -> Result<Bytes, Memory>
+fn known_rest(
+    alloc: Global,
+    compiled: &Compiled,
+    lives: &LiveSections,
+    reads: &[Read],
+    count: usize,
+    unit: &Bytes,
+) -> Result<Bytes, Memory>
     requires { count ≤ length reads.now }
     ensures { IfOk result (λ text. (sensitive : Bool) → AreLive compiled.now sensitive (surface_lem reads.now count) lives.now → unit.now ≡ known_unit (lexicon_of compiled.now sensitive) sensitive reads.now count → text ≡ known_text (lexicon_of compiled.now sensitive) sensitive reads.now count) }
 {
@@ -106,7 +118,14 @@ fn is_too_long(unit: &Bytes) -> bool
 }
 
 /// The first so many items, at which the live sets stand, with their readings.
-fn known_step(alloc: Global, compiled: &Compiled, sensitive: bool, lives: &LiveSections, reads: &[Read], count: usize) -> Result<Written, Memory>
+fn known_step(
+    alloc: Global,
+    compiled: &Compiled,
+    sensitive: bool,
+    lives: &LiveSections,
+    reads: &[Read],
+    count: usize,
+) -> Result<Written, Memory>
     requires lives { AreLive compiled.now sensitive (surface_lem reads.now count) lives.now }
     requires within { count ≤ length (front reads.now) }
     ensures { IfOk result (λ made. meant made ≡ known (lexicon_of compiled.now sensitive) sensitive reads.now count) }
@@ -163,7 +182,14 @@ fn is_over(reads: &[Read], bytes: u64, span: usize) -> bool
 }
 
 /// The step by what the search found, at whose length the live sets stand.
-fn step_within(alloc: Global, compiled: &Compiled, sensitive: bool, lives: &LiveSections, reads: &[Read], found: Found) -> Result<Written, Memory>
+fn step_within(
+    alloc: Global,
+    compiled: &Compiled,
+    sensitive: bool,
+    lives: &LiveSections,
+    reads: &[Read],
+    found: Found,
+) -> Result<Written, Memory>
     requires some { 0 < length reads.now }
     requires lives { 0 < found.licence → AreLive compiled.now sensitive (surface_lem reads.now found.licence) lives.now }
     requires licence { found.licence ≡ licence (lexicon_of compiled.now sensitive) reads.now }
@@ -180,7 +206,15 @@ fn step_within(alloc: Global, compiled: &Compiled, sensitive: bool, lives: &Live
 }
 
 /// The first step at the front of the items, by what the search found.
-pub(crate) fn first_step(alloc: Global, compiled: &Compiled, sensitive: bool, lives: &LiveSections, reads: &[Read], bytes: u64, found: Found) -> Result<Written, Memory>
+pub(crate) fn first_step(
+    alloc: Global,
+    compiled: &Compiled,
+    sensitive: bool,
+    lives: &LiveSections,
+    reads: &[Read],
+    bytes: u64,
+    found: Found,
+) -> Result<Written, Memory>
     requires some { 0 < length reads.now }
     requires bytes { bytes ≡ bytes_of reads.now }
     requires lives { 0 < found.licence → AreLive compiled.now sensitive (surface_lem reads.now found.licence) lives.now }
