@@ -1,18 +1,22 @@
-use Rattle.std.proofs.Common.{◌≡◌, ℕ, ◌+◌, ◌-◌, ◌^◌, ◌<◌, ◌≤◌, min, List, [], ◌∷◌, ◌++◌, Bool, true, false, arith, subst, sym, ap, ◌∙◌, refl, inl, inr, ◌⊎◌, Option, Some, None, Result, Ok, Err, length, append-nil, length-append}
-use Rattle.std.specs.Prelude.{◌↔◌, if◌then◌else◌, nat_lt}
+use Rattle.std.proofs.Common.{◌≡◌, ◌≢◌, ℕ, ◌+◌, ◌-◌, ◌^◌, ◌<◌, ◌≤◌, min, List, [], ◌∷◌, ◌++◌, Bool, true, false, arith, subst, sym, ap, ◌∙◌, refl, inl, inr, ◌⊎◌, Option, Some, None, Result, Ok, Err, length}
+use Rattle.std.specs.Prelude.{◌↔◌}
 use Rattle.std.specs.Option.{IfSome, option_map}
-use Rattle.std.proofs.lemmas.Bool.{ltb-true, ltb-false, lt-ltb, le-ltb, cases_Bool}
-use Rattle.std.proofs.lemmas.List.Sums.{prefix_len-le-length}
 use Rattle.ap_outside.specs.Causes.{Rose}
 use Rattle.ap_outside.specs.Told.{Takes, IsEnd, Puts}
 use Rattle.ap_dix.specs.declared.dictionary.Dictionary.{Dictionary}
-use Rattle.ap_dix.specs.declared.refusal.DixFault.{DixFault}
-use Rattle.ap_dix.specs.Spelling.{Spells, IsFirstFault}
-use Rattle.ap_dix.specs.Refusals.{kind_number}
+use Rattle.ap_dix.specs.declared.dictionary.Direction.TheVariants.{Lr}
+use Rattle.ap_compile.specs.Empties.{IsFirstEmpty, section_entries}
+use Rattle.ap_stream.specs.Told.{Told, ends_in}
+use Rattle.ap_stream.specs.declared.fault.StreamFault.{StreamFault}
+use Rattle.ap_stream.specs.declared.fault.StreamFault.TheVariants as fault
+use Rattle.ap_analysis.specs.Lexicon.{Lexicon}
+use Rattle.ap_analysis.specs.Whole.{analysis}
 use Rattle.ap_tool.specs.declared.status.Status.{Status}
 use Rattle.ap_tool.specs.declared.status.Status.TheVariants.{Done, Usage, FileFault, ReadFault, WriteFault, BadDictionary, BadRules, BadCompiled, Malformed, Limit, Memory}
 use Rattle.ap_tool.specs.declared.intake.Ending.{Ending}
 use Rattle.ap_tool.specs.declared.intake.Ending.TheVariants.{Clean, Failed, TooLong}
+use Rattle.ap_tool.specs.declared.driving.Stop.{Stop}
+use Rattle.ap_tool.specs.declared.driving.Stop.TheVariants.{Write, Fault}
 use Rattle.ap_tool.specs.declared.words.Command.{Command}
 use Rattle.ap_tool.specs.declared.words.Command.TheVariants.{Proc, Expand}
 use Rattle.ap_tool.specs.declared.words.UsageFault.{UsageFault}
@@ -21,11 +25,13 @@ use Rattle.ap_tool.specs.Listing.{IsListed, RunsOut, listing}
 use Rattle.ap_tool.specs.Messages.{name_at}
 use Rattle.ap_tool.specs.Standing.{Standing, PutsAll, PutsSome}
 use Rattle.ap_tool.specs.Intake.{IsIntake, input_max}
-use Rattle.ap_tool.specs.Output.{stray_place, is_readable_lem, IsOutput}
-use Rattle.ap_tool.specs.Stream.{stream_status, status_of_ending, Streams, Stops, StreamsOrStops, IsWritten}
+use Rattle.ap_tool.specs.Driving.{whole, Completes, Halts, Fails, Drives, text_ending}
+use Rattle.ap_tool.specs.Output.{IsLexicon}
+use Rattle.ap_tool.specs.Stream.{status_of_ending, status_of_fault, status_of_driving, HasLeftSides, Runs, Streams, IsEmptySide, IsIdle, StreamsOrStops}
 use Rattle.ap_tool.specs.Opening.{FilesStanding, IsFileRefusal, HasText, Opens, IsAccepted, IsFaultOf, file_max}
 use Rattle.ap_tool.specs.Answer.{Outside, IsAnswer, IsAnswerTo, IsCommandAnswer, Refuses, Proceeds, Expands}
-use Rattle.ap_tool.specs.Clauses.{IsCalm, IsBadDictionary, IsFileTooLong, Holds, IsFileOf, TakesNothing, IsHonest, IsExact, IsComplete, GivesUp, Reads, RefusesFaulty, RefusesLong, IsFileFault, IsReadFault, IsMalformed, IsInputTooLong, IsDone}
+use Rattle.ap_tool.specs.Clauses.{IsCalm, IsBadDictionary, HasFaultOf, IsEmptySideOf, IsFaultFor, IsFileTooLong, Holds, IsFileOf, TakesNothing, IsFileFault, IsProc, GivesAll, GivesFault, IsReadFault, IsMalformed, IsLimit, IsInputTooLong, IsDone}
+use Rattle.ap_tool.proofs.Meaning.{completes-output, halts-outputs, fails-rose}
 
 -- the ways in which a command ends, told apart by its status
 
@@ -40,28 +46,38 @@ text-told files name text P h t =
     let same : u.0 ≡ text = (let x : Some u.0 ≡ Some text = sym u.1 ∙ h.there in cc) in
     subst P same u.2
 
+text-more-in : (contents : Option (List ℕ → Option (List ℕ))) (name : List ℕ) (P Q : List ℕ → Type 0) → ((text : List ℕ) → P text → Q text) → IfSome contents (λ at. (text : List ℕ) × (at name ≡ Some text) × P text) → IfSome contents (λ at. (text : List ℕ) × (at name ≡ Some text) × Q text)
+text-more-in None name P Q f t = t
+text-more-in (Some at) name P Q f t = (t.0, t.1, f t.0 t.2)
+
+-- and what follows from it
+pub text-more : (files : FilesStanding) (name : List ℕ) (P Q : List ℕ → Type 0) → ((text : List ℕ) → P text → Q text) → HasText files name P → HasText files name Q
+text-more files name P Q f t = text-more-in files.contents name P Q f t
+
 -- what a stream's status can be
 pub data IsStreamStatus : Status → Type 0 where
   done : IsStreamStatus Done
   read : IsStreamStatus ReadFault
-  malformed : {stage kind place : ℕ} → IsStreamStatus (Malformed stage kind place)
-  limit : {place : ℕ} → IsStreamStatus (Limit 0 7 place)
+  memory : IsStreamStatus Memory
+  malformed : {kind place : ℕ} → IsStreamStatus (Malformed 1 kind place)
+  long : {place : ℕ} → IsStreamStatus (Limit 0 7 place)
+  limit : {kind place : ℕ} → IsStreamStatus (Limit 1 kind place)
 
 of-ending : (ending : Ending) → IsStreamStatus (status_of_ending ending)
 of-ending Clean = done
 of-ending Failed = read
-of-ending TooLong = limit
+of-ending TooLong = long
 
-of-choice : (b : Bool) (place : ℕ) (ending : Ending) → IsStreamStatus (if b then Malformed 1 2 place else status_of_ending ending)
-of-choice true place ending = malformed
-of-choice false place ending = of-ending ending
+of-fault : (f : StreamFault) → IsStreamStatus (status_of_fault f)
+of-fault (fault.Malformed kind place) = malformed
+of-fault (fault.Limit kind place) = limit
+of-fault fault.Memory = memory
 
-of-stream : (input : List ℕ) (ending : Ending) → IsStreamStatus (stream_status input ending)
-unfolding stream_status
-of-stream input ending = of-choice (nat_lt (stray_place input) _) (stray_place input) ending
+ending-is : (ending : Ending) (t : Status) → status_of_ending ending ≡ t → IsStreamStatus t
+ending-is ending t e = subst IsStreamStatus e (of-ending ending)
 
-is-stream : (input : List ℕ) (ending : Ending) (s t : Status) → s ≡ stream_status input ending → s ≡ t → IsStreamStatus t
-is-stream input ending s t e f = subst IsStreamStatus (sym e ∙ f) (of-stream input ending)
+fault-is : (f : StreamFault) (t : Status) → status_of_fault f ≡ t → IsStreamStatus t
+fault-is f t e = subst IsStreamStatus e (of-fault f)
 
 no-usage : IsStreamStatus Usage → ⊥
 no-usage i = elim i [ ]
@@ -72,39 +88,61 @@ no-file file i = elim i [ ]
 no-dictionary : (file number line : ℕ) → IsStreamStatus (BadDictionary file number line) → ⊥
 no-dictionary file number line i = elim i [ ]
 
--- the limit of a stream has another kind
-kind-of : Status → ℕ
-kind-of (Limit stage kind place) = kind
-kind-of _ = 7
-
-seven : (s : Status) → IsStreamStatus s → kind-of s ≡ 7
-unfolding kind-of
-seven _ done = refl
-seven _ read = refl
-seven _ malformed = refl
-seven _ limit = refl
-
-not-both : (n : ℕ) → n ≡ 6 → n ≡ 7 → ⊥
-not-both n six seven = omega arith
-
-no-long-file : (file : ℕ) → IsStreamStatus (Limit 0 6 file) → ⊥
-unfolding kind-of
-no-long-file file i = not-both (kind-of (Limit 0 6 file)) refl (seven (Limit 0 6 file) i)
-
 no-write : IsStreamStatus WriteFault → ⊥
 no-write i = elim i [ ]
 
--- a fact that holds where nothing ran, where a file was refused, where a stream ran, and where lines were written, holds
+-- which ending or fault has a status
+ending-read : (ending : Ending) → status_of_ending ending ≡ ReadFault → ending ≡ Failed
+ending-read Clean e = cc
+ending-read Failed e = refl
+ending-read TooLong e = cc
+
+ending-done : (ending : Ending) → status_of_ending ending ≡ Done → ending ≡ Clean
+ending-done Clean e = refl
+ending-done Failed e = cc
+ending-done TooLong e = cc
+
+ending-limit : (ending : Ending) (stage kind place : ℕ) → status_of_ending ending ≡ Limit stage kind place → (ending ≡ TooLong) × (stage ≡ 0) × (kind ≡ 7)
+ending-limit Clean stage kind place e = cc
+ending-limit Failed stage kind place e = cc
+ending-limit TooLong stage kind place e = (refl, cc, cc)
+
+ending-malformed : (ending : Ending) (stage kind place : ℕ) → status_of_ending ending ≡ Malformed stage kind place → ⊥
+ending-malformed Clean stage kind place e = cc
+ending-malformed Failed stage kind place e = cc
+ending-malformed TooLong stage kind place e = cc
+
+fault-read : (f : StreamFault) → status_of_fault f ≡ ReadFault → ⊥
+fault-read (fault.Malformed kind place) e = cc
+fault-read (fault.Limit kind place) e = cc
+fault-read fault.Memory e = cc
+
+fault-done : (f : StreamFault) → status_of_fault f ≡ Done → ⊥
+fault-done (fault.Malformed kind place) e = cc
+fault-done (fault.Limit kind place) e = cc
+fault-done fault.Memory e = cc
+
+fault-limit : (f : StreamFault) (stage kind place : ℕ) → status_of_fault f ≡ Limit stage kind place → stage ≡ 1
+fault-limit (fault.Malformed k p) stage kind place e = cc
+fault-limit (fault.Limit k p) stage kind place e = cc
+fault-limit fault.Memory stage kind place e = cc
+
+fault-malformed : (f : StreamFault) (stage kind place : ℕ) → status_of_fault f ≡ Malformed stage kind place → stage ≡ 1
+fault-malformed (fault.Malformed k p) stage kind place e = cc
+fault-malformed (fault.Limit k p) stage kind place e = cc
+fault-malformed fault.Memory stage kind place e = cc
+
+-- an answer, by its cases
 by-cases : (words : List (List ℕ)) (old new : Outside) (status : Status) (P : Type 0) (r : Result Command UsageFault) → IsAnswerTo words old new status r
     → (status ≡ Usage → new ≡ old → P)
-    → ((file : ℕ) (c : Command) → r ≡ Ok c → file_of c ≡ file → Refuses (name_at words file) file old new status → P)
-    → ((file : ℕ) (d : Dictionary) → r ≡ Ok (Proc file) → StreamsOrStops d old.source new.source old.sink new.sink status → P)
-    → ((file : ℕ) (d : Dictionary) → r ≡ Ok (Expand file) → new.source ≡ old.source → IsListed old.sink new.sink (listing d) status → P) → P
+    → ((file : ℕ) (command : Command) → r ≡ Ok command → file_of command ≡ file → Refuses (name_at words file) file old new status → P)
+    → ((sensitive : Bool) (file : ℕ) → r ≡ Ok (Proc sensitive file) → Proceeds (name_at words file) file sensitive old new status → P)
+    → ((file : ℕ) → r ≡ Ok (Expand file) → Expands (name_at words file) old new status → P) → P
 by-cases words old new status P (Err fault) a f g h k = f a.0 a.1
-by-cases words old new status P (Ok (Proc file)) (inl r) f g h k = g file (Proc file) refl refl r
-by-cases words old new status P (Ok (Proc file)) (inr p) f g h k = h file p.dictionary refl p.stream
+by-cases words old new status P (Ok (Proc sensitive file)) (inl r) f g h k = g file (Proc sensitive file) refl refl r
+by-cases words old new status P (Ok (Proc sensitive file)) (inr p) f g h k = h sensitive file refl p
 by-cases words old new status P (Ok (Expand file)) (inl r) f g h k = g file (Expand file) refl refl r
-by-cases words old new status P (Ok (Expand file)) (inr p) f g h k = k file p.dictionary refl p.source p.listed
+by-cases words old new status P (Ok (Expand file)) (inr p) f g h k = k file refl p
 
 -- what lines were written with the status
 listed-so : (old new : Standing) (text : List ℕ) (status t : Status) (P : Type 0) → IsListed old new text status → status ≡ t
@@ -117,23 +155,86 @@ listed-so old new text status t P (inr (inr l)) e f g h = h (sym l.memory ∙ e)
 not-refused : (words : List (List ℕ)) (old new : Outside) (status : Status) (file : ℕ) (t : Status) → Refuses (name_at words file) file old new status → status ≡ t → IsFileRefusal old.files new.files (name_at words file) file t
 not-refused words old new status file t r e = subst (λ s. IsFileRefusal old.files new.files (name_at words file) file s) e r.refusal
 
--- a stream that ended with the status of an input
-streamed-so : (d : Dictionary) (old new : Outside) (status t : Status) (P : Type 0) → StreamsOrStops d old.source new.source old.sink new.sink status → status ≡ t
-    → (Memory ≡ t → P) → (WriteFault ≡ t → P) → ((s : Streams d old.source new.source old.sink new.sink status) → PutsAll old.sink new.sink s.text → stream_status s.input s.ending ≡ t → P) → P
-streamed-so d old new status t P (inr m) e f g h = f (sym m.memory ∙ e)
-streamed-so d old new status t P (inl s) e f g h = elim s.written [
-  | inl w ↦ h s w.0 (sym w.1 ∙ e)
-  | inr w ↦ g (sym w.1 ∙ e)
-]
+malformed-other : (kind : _) (place : ℕ) → fault.Malformed kind place ≢ fault.Memory
+malformed-other kind place e = cc
+
+limit-other : (kind : _) (place : ℕ) → fault.Limit kind place ≢ fault.Memory
+limit-other kind place e = cc
+
+driven-so : (meaning : _) (old new : Outside) (status t : Status) (P : Type 0) (driving : Result Ending Stop) → Drives meaning old.source new.source old.sink new.sink driving → status ≡ status_of_driving driving → status ≡ t
+    → (Memory ≡ t → new.sink.faults ≡ old.sink.faults → P)
+    → (WriteFault ≡ t → Rose old.sink.faults new.sink.faults → P)
+    → ((ending : Ending) → Completes meaning old.source new.source old.sink new.sink ending → status_of_ending ending ≡ t → P)
+    → ((f : StreamFault) → Halts meaning old.source new.source old.sink new.sink f → f ≢ fault.Memory → status_of_fault f ≡ t → P) → P
+driven-so meaning old new status t P (Ok ending) d s e f g h k = h ending d (sym s ∙ e)
+driven-so meaning old new status t P (Err Write) d s e f g h k = let r = fails-rose meaning old.source new.source old.sink new.sink d in g (sym s ∙ e) r.1.rose
+driven-so meaning old new status t P (Err (Fault fault.Memory)) d s e f g h k = f (sym s ∙ e) d.put.calm
+driven-so meaning old new status t P (Err (Fault (fault.Malformed kind place))) d s e f g h k = k (fault.Malformed kind place) d (malformed-other kind place) (sym s ∙ e)
+driven-so meaning old new status t P (Err (Fault (fault.Limit kind place))) d s e f g h k = k (fault.Limit kind place) d (limit-other kind place) (sym s ∙ e)
+
+-- a stream, by how it was driven
+streamed-so : (d : Dictionary) (file : ℕ) (sensitive : Bool) (old new : Outside) (status t : Status) (P : Type 0) → StreamsOrStops d file sensitive old.source new.source old.sink new.sink status → status ≡ t
+    → (Memory ≡ t → new.sink.faults ≡ old.sink.faults → P)
+    → (WriteFault ≡ t → Rose old.sink.faults new.sink.faults → P)
+    → ((line : ℕ) → IsFirstEmpty d Lr (section_entries d.sections) line → BadDictionary file 13 line ≡ t → new.source ≡ old.source → new.sink ≡ old.sink → P)
+    → (HasLeftSides d → (lexicon : Lexicon) → IsLexicon d sensitive lexicon → (ending : Ending) → Completes (analysis lexicon sensitive) old.source new.source old.sink new.sink ending → status_of_ending ending ≡ t → P)
+    → (HasLeftSides d → (lexicon : Lexicon) → IsLexicon d sensitive lexicon → (f : StreamFault) → Halts (analysis lexicon sensitive) old.source new.source old.sink new.sink f → f ≢ fault.Memory → status_of_fault f ≡ t → P) → P
+streamed-so d file sensitive old new status t P (inl s) e f g h k l =
+    driven-so (analysis s.lexicon sensitive) old new status t P s.runs.driving s.runs.driven s.runs.status_is e f g (k s.sides s.lexicon s.of_entries) (l s.sides s.lexicon s.of_entries)
+streamed-so d file sensitive old new status t P (inr (inl i)) e f g h k l = h i.line i.empty (sym i.status_is ∙ e) i.untaken i.unwritten
+streamed-so d file sensitive old new status t P (inr (inr i)) e f g h k l = f (sym i.memory ∙ e) (ap (λ (s : Standing). s.faults) i.unwritten)
+
+-- a command with a stream, whose dictionary was opened and has left sides
+proc : (words : List (List ℕ)) (old new : Outside) (status : Status) (sensitive : Bool) (file : ℕ) → command_of words ≡ Ok (Proc sensitive file) → (p : Proceeds (name_at words file) file sensitive old new status) → HasLeftSides p.dictionary → IsProc words old sensitive p.dictionary
+proc words old new status sensitive file c p s = record { file = file; command = c; opened = p.opened; sides = s }
+
+gives-all : (words : List (List ℕ)) (old new : Outside) (sensitive : Bool) (d : Dictionary) (lexicon : Lexicon) (ending : Ending) → IsProc words old sensitive d → IsLexicon d sensitive lexicon
+    → (c : Completes (analysis lexicon sensitive) old.source new.source old.sink new.sink ending) → GivesAll words old new c.input (text_ending ending)
+gives-all words old new sensitive d lexicon ending p i c = record {
+  sensitive = sensitive;
+  dictionary = d;
+  of_command = p;
+  told = whole c.text;
+  meant = completes-output d sensitive lexicon old.source new.source old.sink new.sink ending i c;
+  faultless = refl;
+  put = c.put;
+}
+
+gives-fault : (words : List (List ℕ)) (old new : Outside) (status : Status) (sensitive : Bool) (d : Dictionary) (lexicon : Lexicon) (f : StreamFault) → IsProc words old sensitive d → IsLexicon d sensitive lexicon
+    → Halts (analysis lexicon sensitive) old.source new.source old.sink new.sink f → f ≢ fault.Memory → status ≡ status_of_fault f → GivesFault words old new status
+gives-fault words old new status sensitive d lexicon f p i h other e = record {
+  sensitive = sensitive;
+  dictionary = d;
+  of_command = p;
+  input = h.input;
+  course = h.course;
+  taken = h.taken;
+  told = ends_in h.text f;
+  meant = halts-outputs d sensitive lexicon old.source new.source old.sink new.sink f i h other;
+  fault = f;
+  faulty = refl;
+  status_is = e;
+  put = h.put;
+}
+
+-- an input that ended so, all of it put
+completed : (words : List (List ℕ)) (old new : Outside) (sensitive : Bool) (d : Dictionary) (lexicon : Lexicon) (ending end : Ending) → IsProc words old sensitive d → IsLexicon d sensitive lexicon
+    → Completes (analysis lexicon sensitive) old.source new.source old.sink new.sink ending → ending ≡ end → (input : List ℕ) × IsIntake old.source new.source input end × GivesAll words old new input (text_ending end)
+completed words old new sensitive d lexicon ending end p i c e =
+    let c' = subst (λ (x : Ending). Completes (analysis lexicon sensitive) old.source new.source old.sink new.sink x) e c in
+    (c'.input, c'.intake, gives-all words old new sensitive d lexicon end p i c')
 
 usage-by : (words : List (List ℕ)) (old new : Outside) (status : Status) (r : Result Command UsageFault) → IsAnswerTo words old new status r → (status ≡ Usage) ↔ (r ≡ usage)
 usage-by words old new status (Err fault) a = ((λ e. refl), (λ e. a.0))
-usage-by words old new status (Ok (Proc file)) (inl r) = ((λ e. absurd (not-refused words old new status file Usage r e)), (λ e. cc))
+usage-by words old new status (Ok (Proc sensitive file)) (inl r) = ((λ e. absurd (not-refused words old new status file Usage r e)), (λ e. cc))
 usage-by words old new status (Ok (Expand file)) (inl r) = ((λ e. absurd (not-refused words old new status file Usage r e)), (λ e. cc))
 usage-by words old new status (Ok (Expand file)) (inr p) =
     ((λ e. listed-so old.sink new.sink (listing p.dictionary) status Usage _ p.listed e (λ x w. cc) (λ x w. cc) (λ x w. cc)), (λ e. cc))
-usage-by words old new status (Ok (Proc file)) (inr p) =
-    ((λ e. streamed-so p.dictionary old new status Usage _ p.stream e (λ x. cc) (λ x. cc) (λ s w x. absurd (no-usage (is-stream s.input s.ending _ Usage refl x)))), (λ e. cc))
+usage-by words old new status (Ok (Proc sensitive file)) (inr p) = (
+  (λ e. absurd (streamed-so p.dictionary file sensitive old new status Usage ⊥ p.stream e (λ x w. cc) (λ x w. cc) (λ line i x t w. cc)
+      (λ s l i ending c x. no-usage (ending-is ending Usage x)) (λ s l i f h other x. no-usage (fault-is f Usage x)))),
+  (λ e. cc),
+)
 
 pub usage-from : (words : List (List ℕ)) (old new : Outside) (status : Status) → IsAnswer words old new status → (status ≡ Usage) ↔ (command_of words ≡ usage)
 usage-from words old new status a = usage-by words old new status (command_of words) a.by_words
@@ -143,139 +244,113 @@ file-fault-from words old new status a = λ file e. by-cases words old new statu
     (λ u same. (let x : Usage ≡ FileFault file = sym u ∙ e in cc))
     (λ f k c i r. (let t = not-refused words old new status f (FileFault file) r e in
     (record { command = k; by_words = c; file_is = i ∙ sym t.0 }, subst (λ k. Rose (old.files.load_faults (name_at words k)) (new.files.load_faults (name_at words k))) (sym t.0) t.1, r.source, r.sink)))
-    (λ f d c p. streamed-so d old new status (FileFault file) _ p e (λ x. cc) (λ x. cc) (λ s w x. absurd (no-file file (is-stream s.input s.ending _ (FileFault file) refl x))))
-    (λ f d c same l. listed-so old.sink new.sink (listing d) status (FileFault file) _ l e (λ x w. cc) (λ x w. cc) (λ x w. cc))
+    (λ sensitive f c p. streamed-so p.dictionary f sensitive old new status (FileFault file) _ p.stream e (λ x w. cc) (λ x w. cc) (λ line i x t w. cc)
+    (λ s l i ending q x. absurd (no-file file (ending-is ending (FileFault file) x))) (λ s l i g h other x. absurd (no-file file (fault-is g (FileFault file) x))))
+    (λ f c p. listed-so old.sink new.sink (listing p.dictionary) status (FileFault file) _ p.listed e (λ x w. cc) (λ x w. cc) (λ x w. cc))
 
 pub write-fault-from : (words : List (List ℕ)) (old new : Outside) (status : Status) → IsAnswer words old new status → status ≡ WriteFault → Rose old.sink.faults new.sink.faults
 write-fault-from words old new status a e = by-cases words old new status _ (command_of words) a.by_words
     (λ u same. (let x : Usage ≡ WriteFault = sym u ∙ e in cc))
     (λ f k c i r. absurd (not-refused words old new status f WriteFault r e))
-    (λ f d c p. elim p [
-      | inl s ↦ elim s.written [ inl w ↦ absurd (no-write (is-stream s.input s.ending status WriteFault w.1 e)) | inr w ↦ w.0.rose ]
-      | inr m ↦ (let x : Memory ≡ WriteFault = sym m.memory ∙ e in cc)
-    ])
-    (λ f d c same l. listed-so old.sink new.sink (listing d) status WriteFault _ l e (λ x w. cc) (λ x w. w.rose) (λ x w. cc))
+    (λ sensitive f c p. streamed-so p.dictionary f sensitive old new status WriteFault _ p.stream e (λ x w. cc) (λ x w. w) (λ line i x t w. cc)
+    (λ s l i ending q x. absurd (no-write (ending-is ending WriteFault x))) (λ s l i g h other x. absurd (no-write (fault-is g WriteFault x))))
+    (λ f c p. listed-so old.sink new.sink (listing p.dictionary) status WriteFault _ p.listed e (λ x w. cc) (λ x w. w.rose) (λ x w. cc))
 
 pub no-write-fault-from : (words : List (List ℕ)) (old new : Outside) (status : Status) → IsAnswer words old new status → (status ≡ WriteFault → ⊥) → new.sink.faults ≡ old.sink.faults
 no-write-fault-from words old new status a n = by-cases words old new status _ (command_of words) a.by_words
     (λ u same. ap (λ (o : Outside). o.sink.faults) same)
     (λ f k c i r. ap (λ (s : Standing). s.faults) r.sink)
-    (λ f d c p. elim p [
-      | inl s ↦ elim s.written [ inl w ↦ w.0.calm | inr w ↦ absurd (n w.1) ]
-      | inr m ↦ ap (λ (s : Standing). s.faults) m.unwritten
-    ])
-    (λ f d c same l. listed-so old.sink new.sink (listing d) status status _ l refl (λ x w. w.calm) (λ x w. absurd (n (sym x))) (λ x w. w.calm))
+    (λ sensitive f c p. streamed-so p.dictionary f sensitive old new status status _ p.stream refl (λ x w. w) (λ x w. absurd (n (sym x))) (λ line i x t w. ap (λ (s : Standing). s.faults) w)
+    (λ s l i ending q x. q.put.calm) (λ s l i g h other x. h.put.calm))
+    (λ f c p. listed-so old.sink new.sink (listing p.dictionary) status status _ p.listed refl (λ x w. w.calm) (λ x w. absurd (n (sym x))) (λ x w. w.calm))
 
-ending-read : (ending : Ending) → status_of_ending ending ≡ ReadFault → ending ≡ Failed
-ending-read Clean e = cc
-ending-read Failed e = refl
-ending-read TooLong e = cc
-
-ending-done : (ending : Ending) → status_of_ending ending ≡ Done → ending ≡ Clean
-ending-done Clean e = refl
-ending-done Failed e = cc
-ending-done TooLong e = cc
-
-ending-long : (ending : Ending) (place : ℕ) → status_of_ending ending ≡ Limit 0 7 place → ending ≡ TooLong
-ending-long Clean place e = cc
-ending-long Failed place e = cc
-ending-long TooLong place e = refl
-
-ending-well : (ending : Ending) (stage kind place : ℕ) → status_of_ending ending ≡ Malformed stage kind place → ⊥
-ending-well Clean stage kind place e = cc
-ending-well Failed stage kind place e = cc
-ending-well TooLong stage kind place e = cc
-
--- a status other than Malformed comes with no stray byte, and is that of the ending
-choice-of : (b : Bool) (place : ℕ) (ending : Ending) (t : Status) → ((stage kind place : ℕ) → t ≡ Malformed stage kind place → ⊥) → (if b then Malformed 1 2 place else status_of_ending ending) ≡ t → (b ≡ false) × (status_of_ending ending ≡ t)
-choice-of true place ending t n e = absurd (n 1 2 place (sym e))
-choice-of false place ending t n e = (refl, e)
-
-unstrayed : (input : List ℕ) → nat_lt (stray_place input) (length input) ≡ false → stray_place input ≡ length input
-unstrayed input e = let low : length input ≤ stray_place input = ltb-false (stray_place input) (length input) e in let high : stray_place input ≤ length input = prefix_len-le-length is_readable_lem input in omega arith
-
-stream-of : (input : List ℕ) (ending : Ending) (t : Status) → ((stage kind place : ℕ) → t ≡ Malformed stage kind place → ⊥) → stream_status input ending ≡ t → (stray_place input ≡ length input) × (status_of_ending ending ≡ t)
-unfolding stream_status
-stream-of input ending t n e = let c = choice-of (nat_lt (stray_place input) (length input)) (stray_place input) ending t n e in (unstrayed input c.0, c.1)
-
-choice-stray : (b : Bool) (p : ℕ) (ending : Ending) (stage kind place : ℕ) → (if b then Malformed 1 2 p else status_of_ending ending) ≡ Malformed stage kind place → (b ≡ true) × (stage ≡ 1) × (kind ≡ 2) × (p ≡ place)
-choice-stray true p ending stage kind place e = (refl, cc, cc, cc)
-choice-stray false p ending stage kind place e = absurd (ending-well ending stage kind place e)
-
-stream-stray : (input : List ℕ) (ending : Ending) (stage kind place : ℕ) → stream_status input ending ≡ Malformed stage kind place → (stray_place input < length input) × (stage ≡ 1) × (kind ≡ 2) × (stray_place input ≡ place)
-unfolding stream_status
-stream-stray input ending stage kind place e = let c = choice-stray (nat_lt (stray_place input) (length input)) (stray_place input) ending stage kind place e in (ltb-true (stray_place input) (length input) c.0, c.1, c.2, c.3)
-
-pub stream-clean : (input : List ℕ) → stray_place input ≡ length input → stream_status input Clean ≡ Done
-unfolding stream_status
-stream-clean input e = rw (le-ltb (stray_place input) (length input) (omega arith)) refl
-
-intake-rose : (old new : Standing) (input : List ℕ) (ending : Ending) → IsIntake old new input ending → ending ≡ Failed → Rose old.faults new.faults
-intake-rose old new input Clean i e = cc
-intake-rose old new input Failed i e = i.1
-intake-rose old new input TooLong i e = cc
-
-pub read-fault-from : (words : List (List ℕ)) (old new : Outside) (status : Status) → IsAnswer words old new status → IsReadFault old new status
+pub read-fault-from : (words : List (List ℕ)) (old new : Outside) (status : Status) → IsAnswer words old new status → IsReadFault words old new status
 read-fault-from words old new status a = λ e. by-cases words old new status _ (command_of words) a.by_words
     (λ u same. (let x : Usage ≡ ReadFault = sym u ∙ e in cc))
     (λ f k c i r. absurd (not-refused words old new status f ReadFault r e))
-    (λ f d c p. streamed-so d old new status ReadFault _ p e (λ x. cc) (λ x. cc) (λ s w x.
-    (let q = stream-of s.input s.ending ReadFault (λ stage kind place y. cc) x in
-    let failed = ending-read s.ending q.1 in
-    (intake-rose old.source new.source s.input s.ending s.taken failed, w.calm, (s.input, subst (λ n. IsIntake old.source new.source s.input n) failed s.taken, q.0)))))
-    (λ f d c same l. listed-so old.sink new.sink (listing d) status ReadFault _ l e (λ x w. cc) (λ x w. cc) (λ x w. cc))
+    (λ sensitive f c p. streamed-so p.dictionary f sensitive old new status ReadFault _ p.stream e (λ x w. cc) (λ x w. cc) (λ line i x t w. cc)
+    (λ s l i ending q x. completed words old new sensitive p.dictionary l ending Failed (proc words old new status sensitive f c p s) i q (ending-read ending x))
+    (λ s l i g h other x. absurd (fault-read g x)))
+    (λ f c p. listed-so old.sink new.sink (listing p.dictionary) status ReadFault _ p.listed e (λ x w. cc) (λ x w. cc) (λ x w. cc))
 
-pub malformed-from : (words : List (List ℕ)) (old new : Outside) (status : Status) → IsAnswer words old new status → IsMalformed old new status
+pub malformed-from : (words : List (List ℕ)) (old new : Outside) (status : Status) → IsAnswer words old new status → IsMalformed words old new status
 malformed-from words old new status a = λ stage kind place e. by-cases words old new status _ (command_of words) a.by_words
     (λ u same. (let x : Usage ≡ Malformed stage kind place = sym u ∙ e in cc))
     (λ f k c i r. absurd (not-refused words old new status f (Malformed stage kind place) r e))
-    (λ f d c p. streamed-so d old new status (Malformed stage kind place) _ p e (λ x. cc) (λ x. cc) (λ s w x.
-    (let q = stream-stray s.input s.ending stage kind place x in
-    (q.1, q.2, w.calm, (s.input, s.ending, s.taken, q.3, (let l : stray_place s.input < length s.input = q.0 in let m : stray_place s.input ≡ place = q.3 in omega arith))))))
-    (λ f d c same l. listed-so old.sink new.sink (listing d) status (Malformed stage kind place) _ l e (λ x w. cc) (λ x w. cc) (λ x w. cc))
+    (λ sensitive f c p. streamed-so p.dictionary f sensitive old new status (Malformed stage kind place) _ p.stream e (λ x w. cc) (λ x w. cc) (λ line i x t w. cc)
+    (λ s l i ending q x. absurd (ending-malformed ending stage kind place x))
+    (λ s l i g h other x. (fault-malformed g stage kind place x, gives-fault words old new status sensitive p.dictionary l g (proc words old new status sensitive f c p s) i h other (e ∙ sym x))))
+    (λ f c p. listed-so old.sink new.sink (listing p.dictionary) status (Malformed stage kind place) _ p.listed e (λ x w. cc) (λ x w. cc) (λ x w. cc))
 
-pub input-too-long-from : (words : List (List ℕ)) (old new : Outside) (status : Status) → IsAnswer words old new status → IsInputTooLong old new status
+pub limit-from : (words : List (List ℕ)) (old new : Outside) (status : Status) → IsAnswer words old new status → IsLimit words old new status
+limit-from words old new status a = λ stage kind place some e. by-cases words old new status _ (command_of words) a.by_words
+    (λ u same. (let x : Usage ≡ Limit stage kind place = sym u ∙ e in cc))
+    (λ f k c i r. (let t = not-refused words old new status f (Limit stage kind place) r e in let z : stage ≡ 0 = t.0 in absurd (omega arith)))
+    (λ sensitive f c p. streamed-so p.dictionary f sensitive old new status (Limit stage kind place) _ p.stream e (λ x w. cc) (λ x w. cc) (λ line i x t w. cc)
+    (λ s l i ending q x. (let z : stage ≡ 0 = (ending-limit ending stage kind place x).1 in absurd (omega arith)))
+    (λ s l i g h other x. (fault-limit g stage kind place x, gives-fault words old new status sensitive p.dictionary l g (proc words old new status sensitive f c p s) i h other (e ∙ sym x))))
+    (λ f c p. listed-so old.sink new.sink (listing p.dictionary) status (Limit stage kind place) _ p.listed e (λ x w. cc) (λ x w. cc) (λ x w. cc))
+
+pub input-too-long-from : (words : List (List ℕ)) (old new : Outside) (status : Status) → IsAnswer words old new status → IsInputTooLong words old new status
 input-too-long-from words old new status a = λ e. by-cases words old new status _ (command_of words) a.by_words
     (λ u same. (let x : Usage ≡ Limit 0 7 input_max = sym u ∙ e in cc))
     (λ f k c i r. absurd (let t = not-refused words old new status f (Limit 0 7 input_max) r e in let k : 7 ≡ 6 = t.1 in omega arith))
-    (λ f d c p. streamed-so d old new status (Limit 0 7 input_max) _ p e (λ x. cc) (λ x. cc) (λ s w x.
-    (let q = stream-of s.input s.ending (Limit 0 7 input_max) (λ stage kind place y. cc) x in
-    let long = ending-long s.ending input_max q.1 in
-    let i = subst (λ n. IsIntake old.source new.source s.input n) long s.taken in
-    (i.3, w.calm, (s.input, i, q.0)))))
-    (λ f d c same l. listed-so old.sink new.sink (listing d) status (Limit 0 7 input_max) _ l e (λ x w. cc) (λ x w. cc) (λ x w. cc))
+    (λ sensitive f c p. streamed-so p.dictionary f sensitive old new status (Limit 0 7 input_max) _ p.stream e (λ x w. cc) (λ x w. cc) (λ line i x t w. cc)
+    (λ s l i ending q x. completed words old new sensitive p.dictionary l ending TooLong (proc words old new status sensitive f c p s) i q (ending-limit ending 0 7 input_max x).0)
+    (λ s l i g h other x. absurd (let z : 0 ≡ 1 = fault-limit g 0 7 input_max x in omega arith)))
+    (λ f c p. listed-so old.sink new.sink (listing p.dictionary) status (Limit 0 7 input_max) _ p.listed e (λ x w. cc) (λ x w. cc) (λ x w. cc))
+
+same-proc : {A : Type 0} (r : Result Command UsageFault) (file file' : ℕ) (sensitive : Bool) → r ≡ Ok (Expand file) → r ≡ Ok (Proc sensitive file') → A
+same-proc r file file' sensitive e f = let x : Ok (Expand file) ≡ Ok (Proc sensitive file') = sym e ∙ f in cc
 
 pub done-from : (words : List (List ℕ)) (old new : Outside) (status : Status) → IsAnswer words old new status → IsDone words old new status
 done-from words old new status a = λ e. by-cases words old new status _ (command_of words) a.by_words
     (λ u same. (let x : Usage ≡ Done = sym u ∙ e in cc))
     (λ f k c i r. absurd (not-refused words old new status f Done r e))
-    (λ f d c p. streamed-so d old new status Done _ p e (λ x. cc) (λ x. cc) (λ s w x.
-    (let q = stream-of s.input s.ending Done (λ stage kind place y. cc) x in
-    let clean = ending-done s.ending q.1 in
-    let i = subst (λ n. IsIntake old.source new.source s.input n) clean s.taken in
-    (w.calm, λ g h. (i.1, i.2)))))
-    (λ f d c same l. listed-so old.sink new.sink (listing d) status Done _ l e
-    (λ x w. (w.calm, λ g h. (let y : Ok (Expand f) ≡ Ok (Proc g) = sym c ∙ h in cc))) (λ x w. cc) (λ x w. cc))
+    (λ sensitive f c p. streamed-so p.dictionary f sensitive old new status Done _ p.stream e (λ x w. cc) (λ x w. cc) (λ line i x t w. cc)
+    (λ s l i ending q x. (q.put.calm, λ sensitive' g y. completed words old new sensitive p.dictionary l ending Clean (proc words old new status sensitive f c p s) i q (ending-done ending x)))
+    (λ s l i g h other x. absurd (fault-done g x)))
+    (λ f c p. listed-so old.sink new.sink (listing p.dictionary) status Done _ p.listed e
+    (λ x w. (w.calm, λ sensitive g h. same-proc (command_of words) f g sensitive c h)) (λ x w. cc) (λ x w. cc))
 
 pub nothing-from : (words : List (List ℕ)) (old new : Outside) (status : Status) → IsAnswer words old new status → TakesNothing words old new
 nothing-from words old new status a = λ file h. by-cases words old new status _ (command_of words) a.by_words
     (λ u same. ap (λ (o : Outside). o.source) same)
     (λ f k c i r. r.source)
-    (λ f d c p. (let y : Ok (Proc f) ≡ Ok (Expand file) = sym c ∙ h in cc))
-    (λ f d c same l. same)
+    (λ sensitive f c p. same-proc (command_of words) file f sensitive h c)
+    (λ f c p. p.source)
+
+fault-for : (command : Command) (text : List ℕ) (number line : ℕ) → IsFaultOf text number line → IsFaultFor command text number line
+fault-for (Proc sensitive file) text number line f = inl f
+fault-for (Expand file) text number line f = f
+
+empty-bad : (name : List ℕ) (old new : Outside) (status : Status) (sensitive : Bool) (f file number l line : ℕ) → (p : Proceeds name f sensitive old new status) → IsFirstEmpty p.dictionary Lr (section_entries p.dictionary.sections) l → BadDictionary f 13 l ≡ BadDictionary file number line
+    → (f ≡ file) × HasText old.files name (λ text. IsFaultFor (Proc sensitive file) text number line)
+empty-bad name old new status sensitive f file number l line p i e =
+    let same : l ≡ line = cc in (
+      cc,
+      text-more old.files name (λ text. IsAccepted text p.dictionary) (λ text. IsFaultFor (Proc sensitive file) text number line)
+          (λ text accepted. inr (record { dictionary = p.dictionary; accepted = accepted; number_is = cc; empty = subst (λ n. IsFirstEmpty p.dictionary Lr (section_entries p.dictionary.sections) n) same i })) p.opened,
+    )
+
+refused-bad : (words : List (List ℕ)) (old : Outside) (f file number line : ℕ) (k : Command) → command_of words ≡ Ok k → file_of k ≡ f → f ≡ file → HasText old.files (name_at words f) (λ text. IsFaultFor k text number line) → HasFaultOf words old file number line
+refused-bad words old f file number line k c i e t = record { of_command = record { command = k; by_words = c; file_is = i ∙ e }; faulty = subst (λ n. HasText old.files (name_at words n) (λ text. IsFaultFor k text number line)) e t }
 
 pub bad-dictionary-from : (words : List (List ℕ)) (old new : Outside) (status : Status) → IsAnswer words old new status → IsBadDictionary words old status
 bad-dictionary-from words old new status a = λ file number line e. by-cases words old new status _ (command_of words) a.by_words
     (λ u same. (let x : Usage ≡ BadDictionary file number line = sym u ∙ e in cc))
     (λ f k c i r. (let t = not-refused words old new status f (BadDictionary file number line) r e in
-    (record { command = k; by_words = c; file_is = i ∙ sym t.0 }, subst (λ n. HasText old.files (name_at words n) (λ text. IsFaultOf text number line)) (sym t.0) t.1)))
-    (λ f d c p. streamed-so d old new status (BadDictionary file number line) _ p e (λ x. cc) (λ x. cc) (λ s w x. absurd (no-dictionary file number line (is-stream s.input s.ending _ (BadDictionary file number line) refl x))))
-    (λ f d c same l. listed-so old.sink new.sink (listing d) status (BadDictionary file number line) _ l e (λ x w. cc) (λ x w. cc) (λ x w. cc))
+    refused-bad words old f file number line k c i (sym t.0) (text-more old.files (name_at words f) (λ text. IsFaultOf text number line) (λ text. IsFaultFor k text number line) (λ text. fault-for k text number line) t.1)))
+    (λ sensitive f c p. streamed-so p.dictionary f sensitive old new status (BadDictionary file number line) _ p.stream e (λ x w. cc) (λ x w. cc)
+    (λ l i x t w. (let b = empty-bad (name_at words f) old new status sensitive f file number l line p i x in refused-bad words old f file number line (Proc sensitive file) (c ∙ ap (λ n. Ok (Proc sensitive n)) b.0) (sym b.0) b.0 b.1))
+    (λ s l i ending q x. absurd (no-dictionary file number line (ending-is ending (BadDictionary file number line) x))) (λ s l i g h other x. absurd (no-dictionary file number line (fault-is g (BadDictionary file number line) x))))
+    (λ f c p. listed-so old.sink new.sink (listing p.dictionary) status (BadDictionary file number line) _ p.listed e (λ x w. cc) (λ x w. cc) (λ x w. cc))
 
 pub file-too-long-from : (words : List (List ℕ)) (old new : Outside) (status : Status) → IsAnswer words old new status → IsFileTooLong words old status
 file-too-long-from words old new status a = λ file e. by-cases words old new status _ (command_of words) a.by_words
     (λ u same. (let x : Usage ≡ Limit 0 6 file = sym u ∙ e in cc))
     (λ f k c i r. (let t = not-refused words old new status f (Limit 0 6 file) r e in
     (record { command = k; by_words = c; file_is = i ∙ sym t.2 }, subst (λ n. HasText old.files (name_at words n) (λ text. file_max < length text)) (sym t.2) t.3)))
-    (λ f d c p. streamed-so d old new status (Limit 0 6 file) _ p e (λ x. cc) (λ x. cc) (λ s w x. absurd (no-long-file file (is-stream s.input s.ending _ (Limit 0 6 file) refl x))))
-    (λ f d c same l. listed-so old.sink new.sink (listing d) status (Limit 0 6 file) _ l e (λ x w. cc) (λ x w. cc) (λ x w. cc))
+    (λ sensitive f c p. streamed-so p.dictionary f sensitive old new status (Limit 0 6 file) _ p.stream e (λ x w. cc) (λ x w. cc) (λ line i x t w. cc)
+    (λ s l i ending q x. (let z : 6 ≡ 7 = (ending-limit ending 0 6 file x).2 in absurd (omega arith))) (λ s l i g h other x. (let z : 0 ≡ 1 = fault-limit g 0 6 file x in absurd (omega arith))))
+    (λ f c p. listed-so old.sink new.sink (listing p.dictionary) status (Limit 0 6 file) _ p.listed e (λ x w. cc) (λ x w. cc) (λ x w. cc))

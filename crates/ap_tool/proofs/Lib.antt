@@ -1,6 +1,9 @@
 pub mod Told
 pub mod Named
-pub mod Spelled
+pub mod Driven
+pub mod Rounds
+pub mod Meaning
+pub mod Entries
 pub mod Endings
 pub mod Honesty
 pub mod Listings

@@ -12,16 +12,6 @@ use Rattle.ap_tool.specs.Standing.{Standing}
 use Rattle.std.specs.Option.{option_map}
 use Rattle.ap_outside.specs.Told.{Takes, Puts, PutsFront}
 
--- what was taken is the front and more
-pub takes-front : (old new : Option (List ℕ)) (xs front : List ℕ) (n : ℕ) → Takes old new xs → front ≡ take n xs → n < length xs
-    → (more : List ℕ) × Takes old new (front ++ more) × (0 < length more) × (length front ≡ n)
-takes-front old new xs front n t e h = (
-  drop n xs,
-  subst (λ ys. Takes old new ys) (sym (ap (λ f. f ++ drop n xs) e ∙ take-append-drop n xs)) t,
-  omega (arith, length-drop n xs),
-  omega (arith, ap length e, length-take n xs),
-)
-
 puts-assoc : (a : Option (List ℕ)) (p q : List ℕ) → option_map (λ w. w ++ q) (option_map (λ w. w ++ p) a) ≡ option_map (λ w. w ++ (p ++ q)) a
 puts-assoc None p q = refl
 puts-assoc (Some w) p q = ap Some (append_assoc w p q)
@@ -83,7 +73,7 @@ joined-9 a a' b b' c c' d d' e e' f f' g g' h h' i i' p1 p2 p3 p4 p5 p6 p7 p8 p9
 pub says-as : {U E : Type 0} {old new : Standing} {result : Result U E} (p q : List ℕ) → p ≡ q → Says old new result p → Says old new result q
 says-as {old = old} {new = new} {result = result} p q e s = subst (λ t. Says old new result t) e s
 
-puts-none : (a : Option (List ℕ)) → a ≡ option_map (λ w. w ++ []) a
+pub puts-none : (a : Option (List ℕ)) → a ≡ option_map (λ w. w ++ []) a
 puts-none None = refl
 puts-none (Some w) = ap Some (sym (append-nil w))
 

@@ -1,4 +1,4 @@
-use Rattle.std.specs.Prelude.{◌≡◌, ℕ, ◌⊎◌, List, Result, Ok, Err}
+use Rattle.std.specs.Prelude.{◌≡◌, ℕ, ◌⊎◌, Bool, List, Result, Ok, Err}
 use Rattle.ap_dix.specs.declared.dictionary.Dictionary.{Dictionary}
 use Rattle.ap_tool.specs.declared.status.Status.{Status}
 use Rattle.ap_tool.specs.declared.status.Status.TheVariants.{Usage}
@@ -21,12 +21,12 @@ pub record Outside : Type 0 where
 abbrev pub outside : FilesStanding → Standing → Standing → Outside
 outside files source sink = record { files = files; source = source; sink = sink }
 
--- the dictionary was opened without a fault, and the stream went through it
-pub record Proceeds (name : List ℕ) (old new : Outside) (status : Status) : Type 0 where
+-- the dictionary was opened without a fault, and the stream went through it, unless it isn't compiled
+pub record Proceeds (name : List ℕ) (file : ℕ) (sensitive : Bool) (old new : Outside) (status : Status) : Type 0 where
   pub dictionary : Dictionary
   pub opened : Opens old.files name dictionary
   pub files : new.files ≡ old.files
-  pub stream : StreamsOrStops dictionary old.source new.source old.sink new.sink status
+  pub stream : StreamsOrStops dictionary file sensitive old.source new.source old.sink new.sink status
 
 -- the dictionary was opened without a fault, its lines were written, and nothing was taken
 pub record Expands (name : List ℕ) (old new : Outside) (status : Status) : Type 0 where
@@ -43,7 +43,7 @@ pub record Refuses (name : List ℕ) (file : ℕ) (old new : Outside) (status : 
   pub sink : new.sink ≡ old.sink
 
 abbrev pub IsCommandAnswer : List (List ℕ) → Outside → Outside → Status → Command → Type 0
-IsCommandAnswer words old new status (Proc file) = Refuses (name_at words file) file old new status ⊎ Proceeds (name_at words file) old new status
+IsCommandAnswer words old new status (Proc sensitive file) = Refuses (name_at words file) file old new status ⊎ Proceeds (name_at words file) file sensitive old new status
 IsCommandAnswer words old new status (Expand file) = Refuses (name_at words file) file old new status ⊎ Expands (name_at words file) old new status
 
 abbrev pub IsAnswerTo : List (List ℕ) → Outside → Outside → Status → Result Command UsageFault → Type 0

@@ -1,8 +1,12 @@
-use Rattle.std.specs.Prelude.{◌≡◌, ℕ, ◌+◌, ◌-◌, ◌^◌, ◌<◌, ◌≤◌, ◌⊎◌, nat_lt, List, Option, Some, Result, Ok, length, take, if◌then◌else◌}
+use Rattle.std.specs.Prelude.{◌≡◌, ℕ, ◌+◌, ◌-◌, ◌^◌, ◌<◌, ◌≤◌, ◌⊎◌, nat_lt, Bool, List, ◌++◌, Option, Some, None, Result, Ok, length, take, if◌then◌else◌}
 use Rattle.ap_outside.specs.Causes.{Rose}
-use Rattle.ap_outside.specs.Told.{Puts, IsEnd}
+use Rattle.ap_outside.specs.Told.{Takes, Puts}
 use Rattle.ap_dix.specs.declared.dictionary.Dictionary.{Dictionary}
+use Rattle.ap_dix.specs.declared.dictionary.Direction.TheVariants.{Lr}
 use Rattle.ap_dix.specs.Spelling.{Spells}
+use Rattle.ap_compile.specs.Empties.{IsFirstEmpty, section_entries}
+use Rattle.ap_stream.specs.Told.{Told, Ending as TextEnding, Clean as Whole, Cut}
+use Rattle.ap_stream.specs.declared.fault.StreamFault.{StreamFault}
 use Rattle.ap_tool.specs.declared.status.Status.{Status}
 use Rattle.ap_tool.specs.declared.status.Status.TheVariants.{Done, FileFault, ReadFault, BadDictionary, Malformed, Limit, Memory}
 use Rattle.ap_tool.specs.declared.words.Command.{Command}
@@ -13,11 +17,12 @@ use Rattle.ap_tool.specs.declared.intake.Ending.TheVariants.{Clean, Failed, TooL
 use Rattle.ap_tool.specs.Words.{command_of, file_of}
 use Rattle.ap_tool.specs.Listing.{listing}
 use Rattle.ap_tool.specs.Messages.{name_at}
-use Rattle.ap_tool.specs.Standing.{Standing}
-use Rattle.ap_tool.specs.Opening.{FilesStanding, HasText, IsAccepted, IsFaultOf, file_max}
+use Rattle.ap_tool.specs.Standing.{Standing, PutsAll}
+use Rattle.ap_tool.specs.Opening.{FilesStanding, HasText, Opens, IsAccepted, IsFaultOf, file_max}
 use Rattle.ap_tool.specs.Intake.{IsIntake, input_max}
-use Rattle.ap_tool.specs.Output.{stray_place, IsOutput}
-use Rattle.ap_tool.specs.Stream.{stream_status}
+use Rattle.ap_tool.specs.Driving.{Course, Onward, Ended, IsTaken, text_ending}
+use Rattle.ap_tool.specs.Output.{IsOutput}
+use Rattle.ap_tool.specs.Stream.{stream_status, status_of_fault, HasLeftSides}
 use Rattle.ap_tool.specs.Answer.{Outside}
 
 -- no call failed: the count stands where it stood, below its end
@@ -37,11 +42,12 @@ pub record IsFileOf (words : List (List ℕ)) (file : ℕ) : Type 0 where
   pub file_is : file_of command ≡ file
 
 -- Everything that the command reads is told and accepted, and no call on an object failed.
-pub record IsHonest (words : List (List ℕ)) (file : ℕ) (old new : Outside) (d : Dictionary) (input : List ℕ) : Type 0 where
-  pub command : command_of words ≡ Ok (Proc file)
+pub record IsHonest (words : List (List ℕ)) (sensitive : Bool) (file : ℕ) (old new : Outside) (d : Dictionary) (input : List ℕ) : Type 0 where
+  pub command : command_of words ≡ Ok (Proc sensitive file)
   pub text : List ℕ
   pub there : Holds old.files (name_at words file) text
   pub accepted : IsAccepted text d
+  pub sides : HasLeftSides d
   pub input_told : old.source.bytes ≡ Some input
   pub loads : IsCalm (old.files.load_faults (name_at words file)) (new.files.load_faults (name_at words file))
   pub takes : IsCalm old.source.faults new.source.faults
@@ -57,12 +63,13 @@ ending_of input = if nat_lt input_max (length input) then TooLong else Clean
 
 -- Then the status and the bytes are those of the meaning, unless memory ran out.
 abbrev pub IsExact : List (List ℕ) → Outside → Outside → Status → Type 0
-IsExact words old new status = (file : ℕ) (d : Dictionary) (input text : List ℕ) → IsHonest words file old new d input → IsOutput d (cut_input input) text
-    → (status ≡ Memory) ⊎ ((status ≡ stream_status (cut_input input) (ending_of input)) × Puts old.sink.bytes new.sink.bytes text)
+IsExact words old new status = (sensitive : Bool) (file : ℕ) (d : Dictionary) (input : List ℕ) (told : Told) → IsHonest words sensitive file old new d input → IsOutput d sensitive (cut_input input) (text_ending (ending_of input)) told
+    → (status ≡ Memory) ⊎ ((status ≡ stream_status told (ending_of input)) × Puts old.sink.bytes new.sink.bytes told.text)
 
--- And where the input is within its limit and has no stray byte, the answer is Done, unless memory ran out.
+-- And where the input is within its limit and gives no fault, the answer is Done, unless memory ran out.
 abbrev pub IsComplete : List (List ℕ) → Outside → Outside → Status → Type 0
-IsComplete words old new status = (file : ℕ) (d : Dictionary) (input : List ℕ) → IsHonest words file old new d input → length input ≤ input_max → stray_place input ≡ length input → (status ≡ Done) ⊎ (status ≡ Memory)
+IsComplete words old new status = (sensitive : Bool) (file : ℕ) (d : Dictionary) (input : List ℕ) (told : Told) → IsHonest words sensitive file old new d input → length input ≤ input_max → IsOutput d sensitive input Whole told → told.fault ≡ None
+    → (status ≡ Done) ⊎ (status ≡ Memory)
 
 -- `lt-expand` of a dictionary that is told and accepted, and no call on an object failed.
 pub record IsHonestListing (words : List (List ℕ)) (file : ℕ) (old new : Outside) (d : Dictionary) : Type 0 where
@@ -91,9 +98,22 @@ pub record Reads (words : List (List ℕ)) (file : ℕ) (old : Outside) (text : 
   pub of_command : IsFileOf words file
   pub there : Holds old.files (name_at words file) text
 
+-- The text spells a dictionary, and a kept entry of a section has an empty left side: fault 13, on the line of the first.
+pub record IsEmptySideOf (text : List ℕ) (number line : ℕ) : Type 0 where
+  pub dictionary : Dictionary
+  pub accepted : IsAccepted text dictionary
+  pub number_is : number ≡ 13
+  pub empty : IsFirstEmpty dictionary Lr (section_entries dictionary.sections) line
+
+-- The first fault of the command's file has this number and line. Empty sides are faults, after all others, where the
+-- dictionary is compiled.
+abbrev pub IsFaultFor : Command → List ℕ → ℕ → ℕ → Type 0
+IsFaultFor (Proc sensitive file) text number line = IsFaultOf text number line ⊎ IsEmptySideOf text number line
+IsFaultFor (Expand file) text number line = IsFaultOf text number line
+
 -- A file within the limit whose first fault has this number and line is answered so, and nothing is taken or written.
 abbrev pub RefusesFaulty : List (List ℕ) → Outside → Outside → Status → Type 0
-RefusesFaulty words old new status = (file number line : ℕ) (text : List ℕ) → Reads words file old text → IsFaultOf text number line
+RefusesFaulty words old new status = (file number line : ℕ) (text : List ℕ) → (reads : Reads words file old text) → IsFaultFor reads.of_command.command text number line
     → ((status ≡ BadDictionary file number line) × (new.source ≡ old.source) × (new.sink ≡ old.sink)) ⊎ GivesUp words file old new status
 
 -- A file over the limit is answered so, and nothing is taken or written.
@@ -102,8 +122,12 @@ RefusesLong words old new status = (file : ℕ) (text : List ℕ) → Reads word
     → ((status ≡ Limit 0 6 file) × (new.source ≡ old.source) × (new.sink ≡ old.sink)) ⊎ GivesUp words file old new status
 
 -- A fault of a dictionary is the first of the command's own file, which is within the limit, where its text is told.
+pub record HasFaultOf (words : List (List ℕ)) (old : Outside) (file number line : ℕ) : Type 0 where
+  pub of_command : IsFileOf words file
+  pub faulty : HasText old.files (name_at words file) (λ text. IsFaultFor of_command.command text number line)
+
 abbrev pub IsBadDictionary : List (List ℕ) → Outside → Status → Type 0
-IsBadDictionary words old status = (file number line : ℕ) → status ≡ BadDictionary file number line → IsFileOf words file × HasText old.files (name_at words file) (λ text. IsFaultOf text number line)
+IsBadDictionary words old status = (file number line : ℕ) → status ≡ BadDictionary file number line → HasFaultOf words old file number line
 
 -- A file is too long only where the command's own file has more bytes than the limit, where its text is told.
 abbrev pub IsFileTooLong : List (List ℕ) → Outside → Status → Type 0
@@ -115,23 +139,60 @@ abbrev pub IsFileFault : List (List ℕ) → Outside → Outside → Status → 
 IsFileFault words old new status = (file : ℕ) → status ≡ FileFault file
     → IsFileOf words file × Rose (old.files.load_faults (name_at words file)) (new.files.load_faults (name_at words file)) × (new.source ≡ old.source) × (new.sink ≡ old.sink)
 
--- The source failed only where a take failed, what was taken has no stray byte, and no put failed.
-abbrev pub IsReadFault : Outside → Outside → Status → Type 0
-IsReadFault old new status = status ≡ ReadFault
-    → Rose old.source.faults new.source.faults × (new.sink.faults ≡ old.sink.faults) × ((input : List ℕ) × IsIntake old.source new.source input Failed × (stray_place input ≡ length input))
+-- The command is `lt-proc`, and its dictionary is accepted, where the file is told.
+pub record IsProc (words : List (List ℕ)) (old : Outside) (sensitive : Bool) (d : Dictionary) : Type 0 where
+  pub file : ℕ
+  pub command : command_of words ≡ Ok (Proc sensitive file)
+  pub opened : Opens old.files (name_at words file) d
+  pub sides : HasLeftSides d
 
--- Malformed is the first stray byte of what was taken, and no put failed.
-abbrev pub IsMalformed : Outside → Outside → Status → Type 0
-IsMalformed old new status = (stage kind place : ℕ) → status ≡ Malformed stage kind place
-    → (stage ≡ 1) × (kind ≡ 2) × (new.sink.faults ≡ old.sink.faults) × ((input : List ℕ) × (ending : Ending) × IsIntake old.source new.source input ending × (stray_place input ≡ place) × (place < length input))
+-- What was taken gives no fault, its text was put, and no put failed.
+pub record GivesAll (words : List (List ℕ)) (old new : Outside) (input : List ℕ) (ending : TextEnding) : Type 0 where
+  pub sensitive : Bool
+  pub dictionary : Dictionary
+  pub of_command : IsProc words old sensitive dictionary
+  pub told : Told
+  pub meant : IsOutput dictionary sensitive input ending told
+  pub faultless : told.fault ≡ None
+  pub put : PutsAll old.sink new.sink told.text
 
--- The input was too long only where it has more bytes than the limit, the first of them are without a stray byte, and no
--- take and no put failed.
-abbrev pub IsInputTooLong : Outside → Outside → Status → Type 0
-IsInputTooLong old new status = status ≡ Limit 0 7 input_max
-    → (new.source.faults ≡ old.source.faults) × (new.sink.faults ≡ old.sink.faults) × ((input : List ℕ) × IsIntake old.source new.source input TooLong × (stray_place input ≡ length input))
+-- what was taken gives this, however it goes on, or as it ended
+abbrev pub AreOutputs : Dictionary → Bool → List ℕ → Course → Told → Type 0
+AreOutputs d sensitive input Onward told = (x : List ℕ) (e : TextEnding) → IsOutput d sensitive (input ++ x) e told
+AreOutputs d sensitive input (Ended ending) told = IsOutput d sensitive input (text_ending ending) told
+
+-- What was taken gives the fault of this status, the text before it was put, and no put failed.
+pub record GivesFault (words : List (List ℕ)) (old new : Outside) (status : Status) : Type 0 where
+  pub sensitive : Bool
+  pub dictionary : Dictionary
+  pub of_command : IsProc words old sensitive dictionary
+  pub input : List ℕ
+  pub course : Course
+  pub taken : IsTaken old.source new.source input course
+  pub told : Told
+  pub meant : AreOutputs dictionary sensitive input course told
+  pub fault : StreamFault
+  pub faulty : told.fault ≡ Some fault
+  pub status_is : status ≡ status_of_fault fault
+  pub put : PutsAll old.sink new.sink told.text
+
+-- The source failed only where a take failed; what was taken is cut there, and gives no fault.
+abbrev pub IsReadFault : List (List ℕ) → Outside → Outside → Status → Type 0
+IsReadFault words old new status = status ≡ ReadFault → (input : List ℕ) × IsIntake old.source new.source input Failed × GivesAll words old new input Cut
+
+-- Malformed is the fault that the input gives.
+abbrev pub IsMalformed : List (List ℕ) → Outside → Outside → Status → Type 0
+IsMalformed words old new status = (stage kind place : ℕ) → status ≡ Malformed stage kind place → (stage ≡ 1) × GivesFault words old new status
+
+-- A limit of a stage is the fault that the input gives.
+abbrev pub IsLimit : List (List ℕ) → Outside → Outside → Status → Type 0
+IsLimit words old new status = (stage kind place : ℕ) → 0 < stage → status ≡ Limit stage kind place → (stage ≡ 1) × GivesFault words old new status
+
+-- The input was too long only where it has more bytes than the limit; the first of them are cut there, and give no fault.
+abbrev pub IsInputTooLong : List (List ℕ) → Outside → Outside → Status → Type 0
+IsInputTooLong words old new status = status ≡ Limit 0 7 input_max → (input : List ℕ) × IsIntake old.source new.source input TooLong × GivesAll words old new input Cut
 
 -- With Done no put failed; and of a command with a stream the source was read to its end, and no take failed.
 abbrev pub IsDone : List (List ℕ) → Outside → Outside → Status → Type 0
 IsDone words old new status = status ≡ Done
-    → (new.sink.faults ≡ old.sink.faults) × ((file : ℕ) → command_of words ≡ Ok (Proc file) → IsEnd new.source.bytes × (new.source.faults ≡ old.source.faults))
+    → (new.sink.faults ≡ old.sink.faults) × ((sensitive : Bool) (file : ℕ) → command_of words ≡ Ok (Proc sensitive file) → (input : List ℕ) × IsIntake old.source new.source input Clean × GivesAll words old new input Whole)

@@ -3,7 +3,7 @@ pub mod Standing
 pub mod Statuses
 pub mod Messages
 pub mod Intake
-pub mod Pairs
+pub mod Driving
 pub mod Output
 pub mod Stream
 pub mod Listing

@@ -34,13 +34,15 @@ malformed_name_lem kind =
     (if kind == 3 then codes "Unfinished" else
     (if kind == 4 then codes "BadTag" else codes "EmptyWord")))
 
--- the name of a limit of a stage
+-- the name of a limit
 abbrev pub limit_name_lem : ℕ → List ℕ
 limit_name_lem kind =
     if kind == 1 then codes "ItemTooLong" else
     (if kind == 2 then codes "SpanTooLong" else
     (if kind == 3 then codes "UnitTooLong" else
-    (if kind == 4 then codes "ValueTooLong" else codes "OutputTooLong")))
+    (if kind == 4 then codes "ValueTooLong" else
+    (if kind == 5 then codes "OutputTooLong" else
+    (if kind == 6 then codes "FileTooLong" else codes "InputTooLong")))))
 
 -- pieces of a text, one after another
 unfoldable pub joined : List (List ℕ) → List ℕ
@@ -83,7 +85,7 @@ message_of Memory words = codes "apertium: out of memory\n"
 
 -- the limit is that of a file among so many words, that of the input, or one of a stage
 abbrev pub IsLimitTold : ℕ → ℕ → ℕ → ℕ → Type 0
-IsLimitTold stage kind place words = ((stage ≡ 0) × (kind ≡ 6) × (place < words)) ⊎ (((stage ≡ 0) × (kind ≡ 7)) ⊎ ((0 < stage) × (1 ≤ kind) × (kind ≤ 5)))
+IsLimitTold stage kind place words = ((stage ≡ 0) × (kind ≡ 6) × (place < words)) ⊎ (((stage ≡ 0) × (kind ≡ 7)) ⊎ ((0 < stage) × (1 ≤ kind) × (kind ≤ 7)))
 
 -- A status that has a message: a file that it names is one of so many words, and its numbers are those of faults,
 -- kinds and limits. Rule files and compiled files are not read yet.

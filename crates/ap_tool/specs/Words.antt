@@ -1,4 +1,4 @@
-use Rattle.std.specs.Prelude.{◌≡◌, ℕ, Bool, true, false, ◌&&◌, not, ◌==◌, List, [], ◌∷◌, map, codes, String, Result, Ok, Err, if◌then◌else◌}
+use Rattle.std.specs.Prelude.{◌≡◌, ℕ, Bool, true, false, ◌&&◌, ◌||◌, not, ◌==◌, List, [], ◌∷◌, map, codes, String, Result, Ok, Err, if◌then◌else◌}
 use Rattle.std.specs.Str.{bytes_eq}
 use Rattle.std.specs.String.{string_bytes}
 use Rattle.std.specs.declared.alloc.Global.{Global}
@@ -18,15 +18,29 @@ is_file_name_lem (b ∷ bs) = not (b == 45)
 abbrev pub usage : Result Command UsageFault
 usage = Err (record {})
 
+-- `lt-expand DIX`
+abbrev pub expand_of : List (List ℕ) → Result Command UsageFault
+expand_of (file ∷ []) = if is_file_name_lem file then Ok (Expand 1) else usage
+expand_of _ = usage
+
+-- `-a` may stand among the options, and `-c`, which makes case count: each at most once, in any order
+abbrev pub proc_of : List (List ℕ) → Result Command UsageFault
+proc_of (file ∷ []) = if is_file_name_lem file then Ok (Proc false 1) else usage
+proc_of (option ∷ file ∷ []) =
+    if is_file_name_lem file && bytes_eq option (codes "-a") then Ok (Proc false 2)
+    else (if is_file_name_lem file && bytes_eq option (codes "-c") then Ok (Proc true 2) else usage)
+proc_of (first ∷ second ∷ file ∷ []) =
+    if is_file_name_lem file && ((bytes_eq first (codes "-a") && bytes_eq second (codes "-c")) || (bytes_eq first (codes "-c") && bytes_eq second (codes "-a"))) then Ok (Proc true 3) else usage
+proc_of _ = usage
+
 -- the command that the words are
 abbrev pub command_of : List (List ℕ) → Result Command UsageFault
-command_of (tool ∷ file ∷ []) =
-    if bytes_eq tool (codes "lt-expand") && is_file_name_lem file then Ok (Expand 1) else usage
-command_of (tool ∷ option ∷ file ∷ []) =
-    if bytes_eq tool (codes "lt-proc") && bytes_eq option (codes "-a") && is_file_name_lem file then Ok (Proc 2) else usage
-command_of _ = usage
+command_of [] = usage
+command_of (tool ∷ words) =
+    if bytes_eq tool (codes "lt-expand") then expand_of words
+    else (if bytes_eq tool (codes "lt-proc") then proc_of words else usage)
 
 -- the place of its file among the words
 abbrev pub file_of : Command → ℕ
-file_of (Proc file) = file
+file_of (Proc sensitive file) = file
 file_of (Expand file) = file

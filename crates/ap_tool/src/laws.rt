@@ -1,37 +1,32 @@
-ghost use Rattle.std.specs.Prelude.{◌≡◌, ℕ, List};
+ghost use Rattle.std.specs.Prelude.{◌≡◌, ℕ, Bool, List};
+ghost use Rattle.ap_symbol.specs.Alphabet.{has_letter};
 ghost use Rattle.ap_dix.specs.declared.dictionary.Dictionary.{Dictionary};
-ghost use Rattle.ap_dix.specs.declared.dictionary.Direction.{Direction};
 ghost use Rattle.ap_dix.specs.declared.dictionary.Direction.TheVariants.{Lr};
-ghost use Rattle.ap_dix.specs.declared.dictionary.Kind.{Kind};
-ghost use Rattle.ap_dix.specs.declared.dictionary.Kind.TheVariants.{Standard};
-ghost use Rattle.ap_dix.specs.Derivation.{Relates};
-ghost use Rattle.ap_dix.specs.Soundness.{IsSound};
-ghost use Rattle.ap_analysis.specs.Lexicon.{lexicon_of};
-ghost use Rattle.ap_analysis.specs.Relation.{IsLexiconOf, AreRightWordsProper};
-ghost use Rattle.ap_tool.specs.Pairs.{pairs_of};
-ghost use Rattle.ap_tool.specs.Output.{IsOutput};
+ghost use Rattle.ap_fst.specs.Sections.{Parts};
+ghost use Rattle.ap_compile.specs.Compiling.{IsCompiledFrom};
+ghost use Rattle.ap_stream.specs.Told.{Told, Ending as TextEnding};
+ghost use Rattle.ap_analysis.specs.Lexicon.{lexicon_of, IsLexiconOf};
+ghost use Rattle.ap_analysis.specs.Laws.{AreSidesProper, relation_of};
+ghost use Rattle.ap_tool.specs.Output.{IsLexicon, IsOutput};
 
-use ap_analysis::{one_lexicon, pairs_have_a_lexicon};
+use ap_analysis::compiled_have_lexicons;
 
-/// The listed pairs of a sound dictionary are the lexicon of what its kept entries relate, where
-/// their right words are proper (every word of the program is).
+/// A lexicon of what the sections of a compiled dictionary accept is one of what the entries of the
+/// dictionary relate from which they were compiled.
 pub fn dictionary_has_its_lexicon()
-    ensures { (d : Dictionary) (direction : Direction) (kind : Kind) → IsSound d → AreRightWordsProper (pairs_of d direction kind) → IsLexiconOf (lexicon_of (pairs_of d direction kind)) (Relates d direction kind) }
-{
-    pairs_have_a_lexicon();
-}
+    ensures { (d : Dictionary) (p : Parts) (sensitive : Bool) → IsCompiledFrom d Lr p → IsLexiconOf (lexicon_of p sensitive) sensitive (has_letter p.alphabet) (relation_of p) → IsLexicon d sensitive (lexicon_of p sensitive) }
+{}
 
-/// What is written for an input of a sound dictionary exists, where the right words of its pairs
-/// are proper.
+/// What is given for an input of a dictionary exists, where it is compiled and the right sides are
+/// proper (all of the program's are).
 pub fn some_output()
-    ensures { (d : Dictionary) (input : List ℕ) → IsSound d → AreRightWordsProper (pairs_of d Lr Standard) → (text : List ℕ) × IsOutput d input text }
+    ensures { (d : Dictionary) (p : Parts) (sensitive : Bool) (input : List ℕ) (ending : TextEnding) → IsCompiledFrom d Lr p → AreSidesProper p → (told : Told) × IsOutput d sensitive input ending told }
 {
     dictionary_has_its_lexicon();
+    compiled_have_lexicons();
 }
 
-/// What is written for an input of a sound dictionary is one text.
+/// What is given for an input of a dictionary is one text, and one fault or none.
 pub fn one_output()
-    ensures { (d : Dictionary) (input a b : List ℕ) → IsSound d → IsOutput d input a → IsOutput d input b → a ≡ b }
-{
-    one_lexicon();
-}
+    ensures { (d : Dictionary) (sensitive : Bool) (input : List ℕ) (ending : TextEnding) (a b : Told) → IsOutput d sensitive input ending a → IsOutput d sensitive input ending b → a ≡ b }
+{}

@@ -1,12 +1,12 @@
 //! The commands: their words, files and messages, and the one public call that runs them.
 #![tactic(auto)]
 
+mod driving;
 mod intake;
 mod laws;
 mod listing;
 mod messages;
 mod opening;
-mod pairs;
 mod status;
 mod stream;
 #[cfg(test)]
@@ -14,7 +14,8 @@ mod tests;
 mod top;
 mod words;
 
-pub use intake::INPUT_MAX;
+pub use driving::Stop;
+pub use intake::{Ending, INPUT_MAX};
 pub use laws::{dictionary_has_its_lexicon, one_output, some_output};
 pub use messages::message;
 pub use opening::FILE_MAX;

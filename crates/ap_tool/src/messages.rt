@@ -43,7 +43,7 @@ fn malformed_name(kind: u8) -> &'static str
     }
 }
 
-/// The name of a limit of a stage.
+/// The name of a limit.
 fn limit_name(kind: u8) -> &'static str
     ensures { result.now ≡ limit_name_lem kind }
 {
@@ -52,7 +52,9 @@ fn limit_name(kind: u8) -> &'static str
         2 => "SpanTooLong",
         3 => "UnitTooLong",
         4 => "ValueTooLong",
-        _ => "OutputTooLong",
+        5 => "OutputTooLong",
+        6 => "FileTooLong",
+        _ => "InputTooLong",
     }
 }
 

@@ -1,51 +1,71 @@
-ghost use Rattle.std.specs.Prelude.{◌≡◌, ◌≤◌, length, IfOk, ℕ};
+ghost use Rattle.std.specs.Prelude.{◌≡◌, ◌<◌, ℕ, false, None};
 ghost use Rattle.ap_dix.specs.Soundness.{IsSound};
+ghost use Rattle.ap_analysis.specs.Lexicon.{lexicon_of};
+ghost use Rattle.ap_analysis.specs.Whole.{analysis};
 ghost use Rattle.ap_tool.specs.Standing.{standing};
 ghost use Rattle.ap_tool.specs.Messages.{IsTold};
-ghost use Rattle.ap_tool.specs.Output.{stray_place, is_readable_lem, IsOutput};
-ghost use Rattle.ap_tool.specs.Stream.{stream_status, StreamsOrStops};
+ghost use Rattle.ap_tool.specs.Stream.{malformed_number, limit_number, status_of_fault, status_of_ending, status_of_driving, Runs, RunsOrStops, StreamsOrStops};
 
-use crate::intake::{Ending, INPUT_MAX, take_all};
+use crate::driving::{Stop, drive};
+use crate::intake::{Ending, INPUT_MAX};
 use crate::laws::dictionary_has_its_lexicon;
-use crate::pairs::pairs;
 use crate::status::Status;
-use ap_analysis::{analyse, right_words_are_proper};
-use ap_dix::{Dictionary, Direction, Kind};
+use ap_analysis::{Analysis, compiled_has_a_lexicon};
+use ap_compile::{CompileRefusal, compile};
+use ap_dix::{Dictionary, Direction};
+use ap_fst::Compiled;
 use ap_outside::{Sink, Source};
-use ap_symbol::{Bytes, Memory};
+use ap_stream::{LimitKind, MalformedKind, Stage, StreamFault};
 use std::alloc::Global;
 
-fn is_readable(b: u8) -> bool
-    ensures { result ≡ is_readable_lem b }
+fn number_of_malformed(kind: MalformedKind) -> u8
+    ensures { result ≡ malformed_number kind }
 {
-    (b'a' <= b && b <= b'z') || b == b' ' || b == b'\n'
-}
-
-/// Where the first stray byte stands; the length of the text where there is none.
-fn stray(text: &[u8]) -> usize
-    ensures exact { result ≡ stray_place text.now }
-    ensures within { result ≤ length text.now }
-{
-    for i in 0..text.len() {
-        if !is_readable(text[i]) {
-            return i;
-        }
+    match kind {
+        MalformedKind::NotUtf8 => 1,
+        MalformedKind::Stray => 2,
+        MalformedKind::Unfinished => 3,
+        MalformedKind::BadTag => 4,
+        MalformedKind::EmptyWord => 5,
     }
-    text.len()
 }
 
-#[tactic(auto, unfolding(crate::specs::Stream::stream_status))]
-fn status_of(place: usize, input: &[u8], ending: Ending) -> Status
-    requires { place ≡ stray_place input.now }
-    ensures { result ≡ stream_status input.now ending }
+fn number_of_limit(kind: LimitKind) -> u8
+    ensures { result ≡ limit_number kind }
 {
-    if place < input.len() {
-        return Status::Malformed {
+    match kind {
+        LimitKind::ItemTooLong => 1,
+        LimitKind::SpanTooLong => 2,
+        LimitKind::UnitTooLong => 3,
+        LimitKind::ValueTooLong => 4,
+        LimitKind::OutputTooLong => 5,
+        LimitKind::FileTooLong => 6,
+        LimitKind::InputTooLong => 7,
+    }
+}
+
+/// The status of a fault of the one stage.
+fn faulty(fault: StreamFault) -> Status
+    ensures { result ≡ status_of_fault fault }
+{
+    match fault {
+        StreamFault::Malformed { kind, place } => Status::Malformed {
             stage: 1,
-            kind: 2,
-            place: place as u64,
-        };
+            kind: number_of_malformed(kind),
+            place,
+        },
+        StreamFault::Limit { kind, place } => Status::Limit {
+            stage: 1,
+            kind: number_of_limit(kind),
+            place,
+        },
+        StreamFault::Memory => Status::Memory,
     }
+}
+
+fn ended(ending: Ending) -> Status
+    ensures { result ≡ status_of_ending ending }
+{
     match ending {
         Ending::Clean => Status::Done,
         Ending::Failed => Status::ReadFault,
@@ -57,53 +77,72 @@ fn status_of(place: usize, input: &[u8], ending: Ending) -> Status
     }
 }
 
-/// What is written for the input.
-fn output(
-    alloc: Global,
-    dictionary: &Dictionary,
-    input: &[u8],
-    place: usize,
-) -> Result<Bytes, Memory>
-    requires place { place ≡ stray_place input.now }
-    requires within { place ≤ length input.now }
-    requires sound { IsSound dictionary.now }
-    ensures { IfOk result (λ out. IsOutput dictionary.now input.now out) }
+fn status_of(driving: Result<Ending, Stop>) -> Status
+    ensures { result ≡ status_of_driving driving }
 {
-    dictionary_has_its_lexicon();
-    let pairs = pairs(alloc, dictionary, Direction::Lr, Kind::Standard)?;
-    right_words_are_proper(pairs.as_slice());
-    let (front, _) = input.split_at(place);
-    analyse(
-        alloc,
-        pairs.as_slice(),
-        dictionary.alphabet.as_slice(),
-        front,
-    )
+    match driving {
+        Ok(ending) => ended(ending),
+        Err(Stop::Write) => Status::WriteFault,
+        Err(Stop::Fault(fault)) => faulty(fault),
+    }
 }
 
-/// Takes the input, and writes what the dictionary gives for it.
+/// Drives a stage from the source to the sink.
+fn run<T: Stage, S: Source, K: Sink>(
+    alloc: Global,
+    stage: &mut T,
+    source: &mut S,
+    sink: &mut K,
+) -> Status
+    requires reading { T.ended stage.old ≡ false }
+    requires going { T.fault stage.old ≡ None }
+    ensures { Runs (T.rest stage.old) (standing (S.left source.old) (S.faults source.old)) (standing (S.left source.new) (S.faults source.new)) (standing (K.written sink.old) (K.faults sink.old)) (standing (K.written sink.new) (K.faults sink.new)) result }
+{
+    let driving = drive(alloc, stage, source, sink);
+    status_of(driving)
+}
+
+/// Analyses the stream by a compiled dictionary.
+fn analyse<S: Source, K: Sink>(
+    alloc: Global,
+    compiled: Compiled,
+    sensitive: bool,
+    source: &mut S,
+    sink: &mut K,
+) -> Status
+    ensures { RunsOrStops (analysis (lexicon_of compiled sensitive) sensitive) (standing (S.left source.old) (S.faults source.old)) (standing (S.left source.new) (S.faults source.new)) (standing (K.written sink.old) (K.faults sink.old)) (standing (K.written sink.new) (K.faults sink.new)) result }
+{
+    match Analysis::new(alloc, compiled, sensitive) {
+        Err(_) => Status::Memory,
+        Ok(mut stage) => run(alloc, &mut stage, source, sink),
+    }
+}
+
+/// Compiles the dictionary, and analyses the stream by it.
 #[tactic(auto, using(crate::proofs::Named::naming))]
 pub(crate) fn proceed<S: Source, K: Sink>(
     alloc: Global,
     dictionary: &Dictionary,
+    file: usize,
+    sensitive: bool,
     source: &mut S,
     sink: &mut K,
 ) -> Status
     requires { IsSound dictionary.now }
-    ensures told { (words : ℕ) → IsTold result words }
-    ensures streams { StreamsOrStops dictionary.now (standing (S.left source.old) (S.faults source.old)) (standing (S.left source.new) (S.faults source.new)) (standing (K.written sink.old) (K.faults sink.old)) (standing (K.written sink.new) (K.faults sink.new)) result }
+    ensures streams { StreamsOrStops dictionary.now file sensitive (standing (S.left source.old) (S.faults source.old)) (standing (S.left source.new) (S.faults source.new)) (standing (K.written sink.old) (K.faults sink.old)) (standing (K.written sink.new) (K.faults sink.new)) result }
+    ensures told { (words : ℕ) → file < words → IsTold result words }
 {
-    match take_all(alloc, source) {
-        Err(_) => Status::Memory,
-        Ok((input, ending)) => {
-            let place = stray(input.as_slice());
-            match output(alloc, dictionary, input.as_slice(), place) {
-                Err(_) => Status::Memory,
-                Ok(out) => match sink.put(out.as_slice()) {
-                    Err(_) => Status::WriteFault,
-                    Ok(()) => status_of(place, input.as_slice(), ending),
-                },
-            }
+    dictionary_has_its_lexicon();
+    match compile(alloc, dictionary, Direction::Lr) {
+        Err(CompileRefusal::EmptySide { line }) => Status::BadDictionary {
+            file,
+            fault: 13,
+            line,
+        },
+        Err(CompileRefusal::Memory) => Status::Memory,
+        Ok(compiled) => {
+            compiled_has_a_lexicon(&compiled);
+            analyse(alloc, compiled, sensitive, source, sink)
         }
     }
 }

@@ -17,7 +17,26 @@ const M: &str =
 const X: &str =
     "<dictionary><pardefs><pardef n=\"p\"><e r=\"LR\"><i>c</i></e><e><i>d</i></e></pardef></pardefs><section type=\"standard\"><e r=\"LR\"><i>a</i></e><e r=\"RL\"><i>b</i><par n=\"p\"/></e></section></dictionary>";
 
-/// Faulty ones: a tag that is not declared, a wrong end tag, a weight, an expression.
+/// A section of type postblank.
+const Q: &str =
+    "<dictionary>\n<alphabet>abcdefghijklmnopqrstuvwxyz</alphabet>\n<sdefs><sdef n=\"det\"/></sdefs>\n<section id=\"main\" type=\"postblank\">\n<e><p><l>l'</l><r>el<s n=\"det\"/></r></p></e>\n</section>\n</dictionary>\n";
+
+/// An entry with an empty left side.
+const E: &str =
+    "<dictionary>\n<section id=\"m\" type=\"standard\">\n<e><i>a</i></e>\n<e><p><l></l><r>x</r></p></e>\n</section>\n</dictionary>\n";
+
+/// Sections of type postblank and preblank.
+const N: &str =
+    "<dictionary>\n<alphabet>abcdefghijklmnopqrstuvwxyz</alphabet>\n<sdefs><sdef n=\"det\"/></sdefs>\n<section id=\"main\" type=\"postblank\"><e><p><l>l'</l><r>el<s n=\"det\"/></r></p></e></section>\n<section id=\"other\" type=\"preblank\"><e><p><l>'s</l><r>'s<s n=\"det\"/></r></p></e></section>\n</dictionary>\n";
+
+/// Numbers, by an expression.
+const R: &str =
+    "<dictionary>\n<sdefs><sdef n=\"num\"/></sdefs>\n<section id=\"main\" type=\"standard\">\n<e><re>[0-9]+([.,][0-9]+)?</re><p><l></l><r><s n=\"num\"/></r></p></e>\n</section>\n</dictionary>\n";
+
+/// Faulty ones: no expression, a tag that is not declared, a wrong end tag, a weight.
+const B: &str =
+    "<dictionary>\n<section id=\"m\" type=\"standard\">\n<e><re>[^a]</re></e>\n<e><p><l></l><r>x</r></p></e>\n</section>\n</dictionary>\n";
+
 const F1: &str =
     "<dictionary>\n<sdefs><sdef n=\"n\"/></sdefs>\n<section id=\"m\" type=\"standard\">\n<e><p><l>a</l><r>a<s n=\"x\"/></r></p></e>\n<e w=\"1\"><i>b</i></e>\n</section>\n</dictionary>\n";
 
@@ -26,9 +45,6 @@ const F2: &str =
 
 const F3: &str =
     "<dictionary>\n<section id=\"m\" type=\"standard\">\n<e w=\"1\"><i>b</i></e>\n</section>\n</dictionary>\n";
-
-const F4: &str =
-    "<dictionary>\n<section id=\"m\" type=\"standard\">\n<e><re>[0-9]</re></e>\n</section>\n</dictionary>\n";
 
 /// A row: the words with a space between, the input, which load, which take and which put fails
 /// (numbered from 1, 0 for none), and the status, the output and the message that it must give.
@@ -62,20 +78,24 @@ fn call_of(alloc: Global, number: u64) -> Result<Vec<u64>, Fail> {
     Ok(calls)
 }
 
-/// The input comes in pieces of four bytes; a put that fails keeps nothing.
-fn check(rt: &impl Abort, alloc: Global, row: &Row) -> Result<(), Fail> {
+/// The input comes in pieces of so many bytes; a put that fails keeps nothing.
+fn check(rt: &impl Abort, alloc: Global, row: &Row, cut: usize) -> Result<(), Fail> {
     let words = words_of(alloc, row.words)?;
     let [load, take, put] = row.failing;
     let mut files = MemFiles::new(alloc, call_of(alloc, load)?);
     files.add("P", P.as_bytes())?;
     files.add("M", M.as_bytes())?;
     files.add("X", X.as_bytes())?;
+    files.add("Q", Q.as_bytes())?;
+    files.add("E", E.as_bytes())?;
     files.add("F1", F1.as_bytes())?;
     files.add("F2", F2.as_bytes())?;
     files.add("F3", F3.as_bytes())?;
-    files.add("F4", F4.as_bytes())?;
+    files.add("N", N.as_bytes())?;
+    files.add("R", R.as_bytes())?;
+    files.add("B", B.as_bytes())?;
     let input = Vec::from_slice(alloc, row.input.as_bytes())?;
-    let mut source = MemSource::new(input, 4, call_of(alloc, take)?);
+    let mut source = MemSource::new(input, cut, call_of(alloc, take)?);
     let mut sink = MemSink::new(alloc, 1000, call_of(alloc, put)?, 0)?;
     let mut err = MemSink::new(alloc, 1000, Vec::new(alloc), 0)?;
     let status = apertium(
@@ -112,23 +132,22 @@ fn case<'a>(
 
 #[test]
 fn analysis_gives_its_rows(rt: HostRuntime) -> Result<(), Fail> {
-    let usage = "apertium: usage\n";
-    let saw = "^saw/saw<n><sg>/see<vblex><past>$ ";
-    let all = "^saw/saw<n><sg>/see<vblex><past>$ ^in/in<pr>$ ^saws/*saws$";
     for row in [
-        case("lt-proc -a P", "saw in saws", NONE, Status::Done, all, ""),
-        case("lt-proc -a P", "", NONE, Status::Done, "", ""),
+        case(
+            "lt-proc -a P",
+            "saw in saws",
+            NONE,
+            Status::Done,
+            "^saw/saw<n><sg>/see<vblex><past>$ ^in/in<pr>$ ^saws/*saws$",
+            "",
+        ),
         case(
             "lt-proc -a P",
             "saw 3",
             NONE,
-            Status::Malformed {
-                stage: 1,
-                kind: 2,
-                place: 4,
-            },
-            saw,
-            "apertium: stage 1: byte 4: malformed 2 Stray\n",
+            Status::Done,
+            "^saw/saw<n><sg>/see<vblex><past>$ 3",
+            "",
         ),
         case(
             "lt-proc -a M",
@@ -136,6 +155,23 @@ fn analysis_gives_its_rows(rt: HostRuntime) -> Result<(), Fail> {
             NONE,
             Status::Done,
             "^houses/house<n><pl>$",
+            "",
+        ),
+        case("lt-proc M", "", NONE, Status::Done, "", ""),
+        case(
+            "lt-proc M",
+            "houses",
+            NONE,
+            Status::Done,
+            "^houses/house<n><pl>$",
+            "",
+        ),
+        case(
+            "lt-proc -a M",
+            "Houses HOUSES",
+            NONE,
+            Status::Done,
+            "^Houses/House<n><pl>$ ^HOUSES/HOUSE<n><pl>$",
             "",
         ),
         case(
@@ -146,14 +182,235 @@ fn analysis_gives_its_rows(rt: HostRuntime) -> Result<(), Fail> {
             "^housex/*housex$",
             "",
         ),
+        case(
+            "lt-proc -a M",
+            "saw.",
+            NONE,
+            Status::Done,
+            "^saw/saw<n><sg>/see<vblex><past>$^./.<sent>$",
+            "",
+        ),
+        case(
+            "lt-proc -a M",
+            "in [<i>]front",
+            NONE,
+            Status::Done,
+            "^in front/in front<adv>$[<i>]",
+            "",
+        ),
+        case(
+            "lt-proc -a M",
+            "house[<b>]s",
+            NONE,
+            Status::Done,
+            "^house/house<n><sg>$[<b>]^s/*s$",
+            "",
+        ),
+        case(
+            "lt-proc -a M",
+            "house ^x",
+            NONE,
+            Status::Malformed {
+                stage: 1,
+                kind: 2,
+                place: 6,
+            },
+            "^house/house<n><sg>$ ",
+            "apertium: stage 1: byte 6: malformed 2 Stray\n",
+        ),
+        case(
+            "lt-proc -a M",
+            "house [<b",
+            NONE,
+            Status::Malformed {
+                stage: 1,
+                kind: 3,
+                place: 5,
+            },
+            "^house/house<n><sg>$",
+            "apertium: stage 1: byte 5: malformed 3 Unfinished\n",
+        ),
+        case(
+            "lt-proc -a Q",
+            "l'amic",
+            NONE,
+            Status::Done,
+            "^l'/el<det>$ ^amic/*amic$",
+            "",
+        ),
+        case(
+            "lt-proc -a -c M",
+            "Houses houses",
+            NONE,
+            Status::Done,
+            "^Houses/*Houses$ ^houses/house<n><pl>$",
+            "",
+        ),
+        case(
+            "lt-proc -c -a M",
+            "Houses houses",
+            NONE,
+            Status::Done,
+            "^Houses/*Houses$ ^houses/house<n><pl>$",
+            "",
+        ),
+        case(
+            "lt-proc -c M",
+            "Houses houses",
+            NONE,
+            Status::Done,
+            "^Houses/*Houses$ ^houses/house<n><pl>$",
+            "",
+        ),
+        case(
+            "lt-proc -a M",
+            "a\\*b",
+            NONE,
+            Status::Done,
+            "^a/*a$\\*^b/*b$",
+            "",
+        ),
         case("lt-proc -a X", "a bd", NONE, Status::Done, "^a/a$ bd", ""),
-        case("", "saw", NONE, Status::Usage, "", usage),
-        case("lt-proc -a", "saw", NONE, Status::Usage, "", usage),
-        case("lt-proc P -a", "saw", NONE, Status::Usage, "", usage),
-        case("lt-proc -a -c P", "saw", NONE, Status::Usage, "", usage),
-        case("lt-proc -a --help", "saw", NONE, Status::Usage, "", usage),
-        case("lt-expand", "saw", NONE, Status::Usage, "", usage),
-        case("lt-expand P Q", "saw", NONE, Status::Usage, "", usage),
+        case(
+            "lt-proc M",
+            "in  []front [x]in",
+            NONE,
+            Status::Done,
+            "^in front/in front<adv>$[] [x]^in/*in$",
+            "",
+        ),
+        case(
+            "lt-proc M",
+            "sa\\w saw\\ .",
+            NONE,
+            Status::Done,
+            "^saw/saw<n><sg>/see<vblex><past>$ ^saw/saw<n><sg>/see<vblex><past>$\\ ^./.<sent>$",
+            "",
+        ),
+        case(
+            "lt-proc -a N",
+            "l'amic's",
+            NONE,
+            Status::Done,
+            "^l'/el<det>$ ^amic/*amic$ ^'s/'s<det>$",
+            "",
+        ),
+        case(
+            "lt-proc -a R",
+            "12.5 3.",
+            NONE,
+            Status::Done,
+            "^12.5/12.5<num>$ ^3/3<num>$.",
+            "",
+        ),
+    ] {
+        for cut in [1, 7, 65_536] {
+            check(&rt, rt.alloc(), &row, cut)?;
+        }
+    }
+    Ok(())
+}
+
+#[test]
+fn words_and_files_are_refused(rt: HostRuntime) -> Result<(), Fail> {
+    for row in [
+        case("", "saw", NONE, Status::Usage, "", "apertium: usage\n"),
+        case(
+            "lt-proc",
+            "saw",
+            NONE,
+            Status::Usage,
+            "",
+            "apertium: usage\n",
+        ),
+        case(
+            "lt-proc -a",
+            "saw",
+            NONE,
+            Status::Usage,
+            "",
+            "apertium: usage\n",
+        ),
+        case(
+            "lt-proc -c",
+            "saw",
+            NONE,
+            Status::Usage,
+            "",
+            "apertium: usage\n",
+        ),
+        case(
+            "lt-proc P -a",
+            "saw",
+            NONE,
+            Status::Usage,
+            "",
+            "apertium: usage\n",
+        ),
+        case(
+            "lt-proc -a -a P",
+            "saw",
+            NONE,
+            Status::Usage,
+            "",
+            "apertium: usage\n",
+        ),
+        case(
+            "lt-proc -c -c P",
+            "saw",
+            NONE,
+            Status::Usage,
+            "",
+            "apertium: usage\n",
+        ),
+        case(
+            "lt-proc -a -g M",
+            "saw",
+            NONE,
+            Status::Usage,
+            "",
+            "apertium: usage\n",
+        ),
+        case(
+            "lt-proc -a -c -a P",
+            "saw",
+            NONE,
+            Status::Usage,
+            "",
+            "apertium: usage\n",
+        ),
+        case(
+            "lt-proc -a --help",
+            "saw",
+            NONE,
+            Status::Usage,
+            "",
+            "apertium: usage\n",
+        ),
+        case(
+            "work 0",
+            "saw",
+            NONE,
+            Status::Usage,
+            "",
+            "apertium: usage\n",
+        ),
+        case(
+            "lt-expand",
+            "saw",
+            NONE,
+            Status::Usage,
+            "",
+            "apertium: usage\n",
+        ),
+        case(
+            "lt-expand P Q",
+            "saw",
+            NONE,
+            Status::Usage,
+            "",
+            "apertium: usage\n",
+        ),
         case(
             "lt-proc -a NOPE",
             "saw",
@@ -162,8 +419,88 @@ fn analysis_gives_its_rows(rt: HostRuntime) -> Result<(), Fail> {
             "",
             "apertium: NOPE: file fault\n",
         ),
+        case(
+            "lt-proc -c NOPE",
+            "saw",
+            NONE,
+            Status::FileFault { file: 2 },
+            "",
+            "apertium: NOPE: file fault\n",
+        ),
+        case(
+            "lt-proc -a E",
+            "a",
+            NONE,
+            Status::BadDictionary {
+                file: 2,
+                fault: 13,
+                line: 4,
+            },
+            "",
+            "apertium: E: line 4: dictionary fault 13 EmptySide\n",
+        ),
+        case(
+            "lt-proc E",
+            "a",
+            NONE,
+            Status::BadDictionary {
+                file: 1,
+                fault: 13,
+                line: 4,
+            },
+            "",
+            "apertium: E: line 4: dictionary fault 13 EmptySide\n",
+        ),
+        case(
+            "lt-proc -a B",
+            "a",
+            NONE,
+            Status::BadDictionary {
+                file: 2,
+                fault: 10,
+                line: 3,
+            },
+            "",
+            "apertium: B: line 3: dictionary fault 10 BadRegex\n",
+        ),
+        case(
+            "lt-proc -a F1",
+            "a",
+            NONE,
+            Status::BadDictionary {
+                file: 2,
+                fault: 8,
+                line: 4,
+            },
+            "",
+            "apertium: F1: line 4: dictionary fault 8 UndeclaredSymbol\n",
+        ),
+        case(
+            "lt-proc -a F2",
+            "a",
+            NONE,
+            Status::BadDictionary {
+                file: 2,
+                fault: 2,
+                line: 3,
+            },
+            "",
+            "apertium: F2: line 3: dictionary fault 2 Syntax\n",
+        ),
+        case(
+            "lt-proc -a F3",
+            "a",
+            NONE,
+            Status::BadDictionary {
+                file: 2,
+                fault: 11,
+                line: 3,
+            },
+            "",
+            "apertium: F3: line 3: dictionary fault 11 Weighted\n",
+        ),
     ] {
-        check(&rt, rt.alloc(), &row)?;
+        check(&rt, rt.alloc(), &row, 4)?;
     }
     Ok(())
 }
@@ -225,15 +562,67 @@ fn expansion_gives_its_rows(rt: HostRuntime) -> Result<(), Fail> {
             "apertium: F3: line 3: dictionary fault 11 Weighted\n",
         ),
         case(
-            "lt-expand F4",
+            "lt-expand B",
             "",
             NONE,
-            fault(12, 3),
+            fault(10, 3),
             "",
-            "apertium: F4: line 3: dictionary fault 12 Unsupported\n",
+            "apertium: B: line 3: dictionary fault 10 BadRegex\n",
+        ),
+        case(
+            "lt-expand R",
+            "",
+            NONE,
+            Status::Done,
+            "__REGEXP__[0-9]+([.,][0-9]+)?:__REGEXP__[0-9]+([.,][0-9]+)?<num>\n",
+            "",
         ),
     ] {
-        check(&rt, rt.alloc(), &row)?;
+        check(&rt, rt.alloc(), &row, 4)?;
+    }
+    Ok(())
+}
+
+/// A dictionary with one letter within so many parentheses.
+fn nested(alloc: Global, count: usize) -> Result<String, Fail> {
+    let mut text = String::new(alloc);
+    text.push_str("<dictionary>\n<section id=\"m\" type=\"standard\">\n<e><re>")?;
+    for _ in 0..count {
+        text.push_str("(")?;
+    }
+    text.push_str("a")?;
+    for _ in 0..count {
+        text.push_str(")")?;
+    }
+    text.push_str("</re></e>\n</section>\n</dictionary>\n")?;
+    Ok(text)
+}
+
+#[test]
+fn parentheses_nest_to_their_limit(rt: HostRuntime) -> Result<(), Fail> {
+    let alloc = rt.alloc();
+    let words = words_of(alloc, "lt-proc -a Y")?;
+    let refused = Status::BadDictionary {
+        file: 2,
+        fault: 10,
+        line: 3,
+    };
+    for (count, wanted, out) in [(200, Status::Done, "^a/a$"), (201, refused, "")] {
+        let mut files = MemFiles::new(alloc, Vec::new(alloc));
+        files.add("Y", nested(alloc, count)?.as_bytes())?;
+        let mut source = MemSource::new(Vec::from_slice(alloc, b"a")?, 1, Vec::new(alloc));
+        let mut sink = MemSink::new(alloc, 1000, Vec::new(alloc), 0)?;
+        let mut err = MemSink::new(alloc, 1000, Vec::new(alloc), 0)?;
+        let status = apertium(
+            alloc,
+            words.as_slice(),
+            &mut files,
+            &mut source,
+            &mut sink,
+            &mut err,
+        );
+        assert_eq!(rt; status, wanted);
+        assert_eq!(rt; sink.written(), out.as_bytes());
     }
     Ok(())
 }
@@ -312,7 +701,7 @@ fn a_failing_call_ends_the_run(rt: HostRuntime) -> Result<(), Fail> {
         ),
         case(
             "lt-proc -a P",
-            "saw 3",
+            "saw ^x",
             [0, 3, 0],
             Status::Malformed {
                 stage: 1,
@@ -322,23 +711,40 @@ fn a_failing_call_ends_the_run(rt: HostRuntime) -> Result<(), Fail> {
             saw,
             "apertium: stage 1: byte 4: malformed 2 Stray\n",
         ),
+        case(
+            "lt-proc -a P",
+            "saw [in",
+            [0, 3, 0],
+            Status::ReadFault,
+            "^saw/saw<n><sg>/see<vblex><past>$",
+            read,
+        ),
+        case(
+            "lt-proc -a M",
+            "houses",
+            [0, 0, 1],
+            Status::WriteFault,
+            "",
+            write,
+        ),
     ] {
-        check(&rt, rt.alloc(), &row)?;
+        check(&rt, rt.alloc(), &row, 4)?;
     }
     Ok(())
 }
 
-fn spaces(alloc: Global, count: usize) -> Result<Vec<u8>, Fail> {
-    Ok(vec![in alloc; b' '; count]?)
+fn letters(alloc: Global, letter: u8, count: usize) -> Result<Vec<u8>, Fail> {
+    Ok(vec![in alloc; letter; count]?)
 }
 
 #[test]
-fn limits_of_the_whole_file_and_input(rt: HostRuntime) -> Result<(), Fail> {
+fn limits_have_their_places(rt: HostRuntime) -> Result<(), Fail> {
     let alloc = rt.alloc();
-    let words = words_of(alloc, "lt-proc -a P")?;
-    for (file, input, status, written, message) in [
+    let words = words_of(alloc, "lt-proc -a M")?;
+    for (file, letter, input, status, written, message) in [
         (
             67_108_865,
+            b' ',
             1,
             Status::Limit {
                 stage: 0,
@@ -346,29 +752,43 @@ fn limits_of_the_whole_file_and_input(rt: HostRuntime) -> Result<(), Fail> {
                 place: 2,
             },
             0,
-            "apertium: P: limit 6 FileTooLong\n",
+            "apertium: M: limit 6 FileTooLong\n",
         ),
+        (0, b' ', 1_048_576, Status::Done, 1_048_576, ""),
         (
             0,
-            65_537,
+            b' ',
+            1_048_577,
             Status::Limit {
-                stage: 0,
-                kind: 7,
-                place: 65_536,
+                stage: 1,
+                kind: 1,
+                place: 0,
             },
-            65_536,
-            "apertium: limit 7 InputTooLong\n",
+            0,
+            "apertium: stage 1: byte 0: limit 1 ItemTooLong\n",
         ),
-        (0, 65_536, Status::Done, 65_536, ""),
+        (0, b'a', 524_286, Status::Done, 1_048_576, ""),
+        (
+            0,
+            b'a',
+            524_287,
+            Status::Limit {
+                stage: 1,
+                kind: 3,
+                place: 0,
+            },
+            0,
+            "apertium: stage 1: byte 0: limit 3 UnitTooLong\n",
+        ),
     ] {
         let mut files = MemFiles::new(alloc, Vec::new(alloc));
         if file == 0 {
-            files.add("P", P.as_bytes())?;
+            files.add("M", M.as_bytes())?;
         } else {
-            files.add("P", spaces(alloc, file)?.as_slice())?;
+            files.add("M", letters(alloc, b' ', file)?.as_slice())?;
         }
-        let mut source = MemSource::new(spaces(alloc, input)?, 5000, Vec::new(alloc));
-        let mut sink = MemSink::new(alloc, 70_000, Vec::new(alloc), 0)?;
+        let mut source = MemSource::new(letters(alloc, letter, input)?, 5000, Vec::new(alloc));
+        let mut sink = MemSink::new(alloc, 1_048_600, Vec::new(alloc), 0)?;
         let mut err = MemSink::new(alloc, 1000, Vec::new(alloc), 0)?;
         let got = apertium(
             alloc,

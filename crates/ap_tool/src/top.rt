@@ -5,7 +5,7 @@ ghost use Rattle.ap_tool.specs.Words.{texts, command_of, usage};
 ghost use Rattle.ap_tool.specs.Standing.{standing};
 ghost use Rattle.ap_tool.specs.Opening.{files_standing};
 ghost use Rattle.ap_tool.specs.Answer.{IsAnswer, outside, Tells};
-ghost use Rattle.ap_tool.specs.Clauses.{IsExact, IsComplete, RefusesFaulty, RefusesLong, IsFileFault, IsReadFault, IsMalformed, IsInputTooLong, IsDone, IsListedExactly, TakesNothing, IsBadDictionary, IsFileTooLong};
+ghost use Rattle.ap_tool.specs.Clauses.{IsExact, IsComplete, RefusesFaulty, RefusesLong, IsFileFault, IsReadFault, IsMalformed, IsLimit, IsInputTooLong, IsDone, IsListedExactly, TakesNothing, IsBadDictionary, IsFileTooLong};
 
 use crate::laws::one_output;
 use crate::listing::put_lines;
@@ -14,7 +14,7 @@ use crate::opening::open;
 use crate::status::Status;
 use crate::stream::proceed;
 use crate::words::{Command, read_words};
-use ap_dix::{has_one_fault, spells_is_sound, spells_one, spells_without_fault};
+use ap_dix::{has_one_fault, spells_one, spells_without_fault};
 use ap_outside::{Files, Sink, Source};
 use std::alloc::Global;
 
@@ -35,10 +35,12 @@ fn run<F: Files, S: Source, K: Sink>(
 {
     match read_words(words) {
         Err(_) => Status::Usage,
-        Ok(Command::Proc { file }) => match open(alloc, files, name(words, file), file) {
-            Err(status) => status,
-            Ok(dictionary) => proceed(alloc, &dictionary, source, sink),
-        },
+        Ok(Command::Proc { sensitive, file }) => {
+            match open(alloc, files, name(words, file), file) {
+                Err(status) => status,
+                Ok(dictionary) => proceed(alloc, &dictionary, file, sensitive, source, sink),
+            }
+        }
         Ok(Command::Expand { dix }) => match open(alloc, files, name(words, dix), dix) {
             Err(status) => status,
             Ok(dictionary) => put_lines(alloc, &dictionary, sink),
@@ -48,12 +50,12 @@ fn run<F: Files, S: Source, K: Sink>(
 
 /// Runs the command that the words are (the program's own name left out) on the files, the source
 /// and the sink that it is handed, writes the message of its status to `err`, and answers the
-/// status. For now the one command is `lt-proc -a FILE`, over dictionaries of the first form and
-/// streams of letters from a to z, spaces and line feeds.
+/// status. The commands so far are `lt-proc`, with `-a` and `-c`, and `lt-expand`, over dictionaries
+/// in the element notation.
 ///
 /// The clauses, in the order in which they stand: what a run may answer and how it leaves what it
 /// was handed; the exact bytes and status where nothing failed; Done or Memory where moreover the
-/// stream has no stray byte; the first fault of a dictionary, and a file over the limit, where
+/// stream gives no fault; the first fault of a dictionary, and a file over the limit, where
 /// nothing is taken or written; when each other answer comes; that files stay; the message.
 /// Memory may come at any growth.
 pub fn apertium<F: Files, S: Source, K: Sink, E: Sink>(
@@ -102,15 +104,19 @@ pub fn apertium<F: Files, S: Source, K: Sink, E: Sink>(
         (outside (files_standing (F.contents files.old) (F.load_faults files.old) (F.store_faults files.old)) (standing (S.left source.old) (S.faults source.old)) (standing (K.written sink.old) (K.faults sink.old)))
         (outside (files_standing (F.contents files.new) (F.load_faults files.new) (F.store_faults files.new)) (standing (S.left source.new) (S.faults source.new)) (standing (K.written sink.new) (K.faults sink.new)))
         result }
-    ensures read_fault { IsReadFault
+    ensures read_fault { IsReadFault (texts words.now)
         (outside (files_standing (F.contents files.old) (F.load_faults files.old) (F.store_faults files.old)) (standing (S.left source.old) (S.faults source.old)) (standing (K.written sink.old) (K.faults sink.old)))
         (outside (files_standing (F.contents files.new) (F.load_faults files.new) (F.store_faults files.new)) (standing (S.left source.new) (S.faults source.new)) (standing (K.written sink.new) (K.faults sink.new)))
         result }
-    ensures malformed { IsMalformed
+    ensures malformed { IsMalformed (texts words.now)
         (outside (files_standing (F.contents files.old) (F.load_faults files.old) (F.store_faults files.old)) (standing (S.left source.old) (S.faults source.old)) (standing (K.written sink.old) (K.faults sink.old)))
         (outside (files_standing (F.contents files.new) (F.load_faults files.new) (F.store_faults files.new)) (standing (S.left source.new) (S.faults source.new)) (standing (K.written sink.new) (K.faults sink.new)))
         result }
-    ensures input_too_long { IsInputTooLong
+    ensures limit { IsLimit (texts words.now)
+        (outside (files_standing (F.contents files.old) (F.load_faults files.old) (F.store_faults files.old)) (standing (S.left source.old) (S.faults source.old)) (standing (K.written sink.old) (K.faults sink.old)))
+        (outside (files_standing (F.contents files.new) (F.load_faults files.new) (F.store_faults files.new)) (standing (S.left source.new) (S.faults source.new)) (standing (K.written sink.new) (K.faults sink.new)))
+        result }
+    ensures input_too_long { IsInputTooLong (texts words.now)
         (outside (files_standing (F.contents files.old) (F.load_faults files.old) (F.store_faults files.old)) (standing (S.left source.old) (S.faults source.old)) (standing (K.written sink.old) (K.faults sink.old)))
         (outside (files_standing (F.contents files.new) (F.load_faults files.new) (F.store_faults files.new)) (standing (S.left source.new) (S.faults source.new)) (standing (K.written sink.new) (K.faults sink.new)))
         result }
@@ -126,7 +132,6 @@ pub fn apertium<F: Files, S: Source, K: Sink, E: Sink>(
     spells_one();
     has_one_fault();
     spells_without_fault();
-    spells_is_sound();
     one_output();
     let status = run(alloc, words, files, source, sink);
     let _ = message(&status, words, err);

@@ -1,0 +1,103 @@
+-- The lexicon of the entries of a dictionary.
+use Rattle.std.proofs.Common.{◌≡◌, ℕ, Bool, List, [], ◌∷◌, ◌++◌, map, ap, sym, ◌∙◌, subst, refl, inl, inr}
+use Rattle.std.specs.Option.{option_to_list}
+use Rattle.ap_symbol.specs.Alphabet.{has_letter, is_in_closure}
+use Rattle.ap_symbol.specs.Lists.{IsIn}
+use Rattle.ap_symbol.specs.declared.symbol.Symbol.{Symbol}
+use Rattle.ap_dix.specs.declared.dictionary.Dictionary.{Dictionary}
+use Rattle.ap_dix.specs.declared.dictionary.Direction.{Direction}
+use Rattle.ap_dix.specs.declared.dictionary.Direction.TheVariants.{Lr}
+use Rattle.ap_dix.specs.declared.dictionary.Entry.{Entry}
+use Rattle.ap_dix.specs.Derivation.{Label as EntryLabel, Relates, Strings, left_word as entry_left, right_word as entry_right}
+use Rattle.ap_fst.specs.Sections.{Parts, section_of}
+use Rattle.ap_fst.specs.Sides.{left_word, right_word}
+use Rattle.ap_fst.specs.declared.compiled.Kind2.{Kind2}
+use Rattle.ap_fst.specs.declared.compiled.Kind2.TheVariants.{Standard, Inconditional, Postblank, Preblank}
+use Rattle.ap_fst.specs.declared.label.Label.{Label}
+use Rattle.ap_compile.specs.Compiling.{AcceptsStrings, IsCompiledFrom}
+use Rattle.ap_compile.specs.Empties.{HasEmptyEntry, IsEmptyEntry, IsFirstEmpty}
+use Rattle.ap_compile.specs.Labels.{derived_label, derived_labels}
+use Rattle.ap_stream.specs.Told.{Told, Ending}
+use Rattle.ap_analysis.specs.Lexicon.{Lexicon, IsLexiconOf, Spelled, lexicon_of}
+use Rattle.ap_analysis.specs.Laws.{relation_of}
+use Rattle.ap_analysis.specs.Whole.{analysis}
+use Rattle.ap_analysis.proofs.Lexicons.{one_lexicon, lexicon_same}
+use Rattle.ap_tool.specs.Output.{kind_of, relation, IsLexicon, IsOutput}
+
+left-same : (w : List Label) → entry_left (derived_labels w) ≡ left_word w
+left-same [] = refl
+left-same (l ∷ w) = ap (λ x. option_to_list l.left ++ x) (left-same w)
+
+right-same : (w : List Label) → entry_right (derived_labels w) ≡ right_word w
+right-same [] = refl
+right-same (l ∷ w) = ap (λ x. option_to_list l.right ++ x) (right-same w)
+
+abbrev given : EntryLabel → Label
+given l = record { left = l.left; right = l.right }
+
+derived-given : (labels : List EntryLabel) → derived_labels (map given labels) ≡ labels
+derived-given [] = refl
+derived-given (l ∷ labels) = ap (λ x. l ∷ x) (derived-given labels)
+
+accepts : (d : Dictionary) (p : Parts) → IsCompiledFrom d Lr p → (kind : Kind2) → AcceptsStrings d Lr (kind_of kind) (section_of p kind)
+accepts d p c Standard = c.standard
+accepts d p c Inconditional = c.inconditional
+accepts d p c Postblank = c.postblank
+accepts d p c Preblank = c.preblank
+
+spelled-related : (d : Dictionary) (p : Parts) → IsCompiledFrom d Lr p → (kind : Kind2) (left right : List Symbol) → Spelled (section_of p kind) left right → Relates d Lr (kind_of kind) left right
+spelled-related d p c kind left right s = record {
+  labels = derived_labels s.labels;
+  string = (accepts d p c kind s.labels).0 s.accepted;
+  left_is = left-same s.labels ∙ s.left_is;
+  right_is = right-same s.labels ∙ s.right_is;
+}
+
+related-spelled : (d : Dictionary) (p : Parts) → IsCompiledFrom d Lr p → (kind : Kind2) (left right : List Symbol) → Relates d Lr (kind_of kind) left right → Spelled (section_of p kind) left right
+related-spelled d p c kind left right r = record {
+  labels = map given r.labels;
+  accepted = (accepts d p c kind (map given r.labels)).1 (subst (λ labels. Strings d Lr (kind_of kind) labels) (sym (derived-given r.labels)) r.string);
+  left_is = sym (left-same (map given r.labels)) ∙ ap entry_left (derived-given r.labels) ∙ r.left_is;
+  right_is = sym (right-same (map given r.labels)) ∙ ap entry_right (derived-given r.labels) ∙ r.right_is;
+}
+
+-- what the sections accept is what the entries relate, so that they have the same lexicon
+pub dictionary-lexicon : (d : Dictionary) (p : Parts) (sensitive : Bool) → IsCompiledFrom d Lr p → IsLexiconOf (lexicon_of p sensitive) sensitive (has_letter p.alphabet) (relation_of p) → IsLexicon d sensitive (lexicon_of p sensitive)
+dictionary-lexicon d p sensitive c i =
+    lexicon_same (lexicon_of p sensitive) sensitive (has_letter p.alphabet) (is_in_closure d.alphabet) (relation_of p) (relation d) (λ kind left right. (spelled-related d p c kind left right, related-spelled d p c kind left right)) c.alphabet i
+
+pub one-output : (d : Dictionary) (sensitive : Bool) (input : List ℕ) (ending : Ending) (a b : Told) → IsOutput d sensitive input ending a → IsOutput d sensitive input ending b → a ≡ b
+one-output d sensitive input ending a b p q =
+    p.told_is
+    ∙ ap (λ (l : Lexicon). analysis l sensitive input ending) (one_lexicon sensitive (is_in_closure d.alphabet) (relation d) p.lexicon q.lexicon p.of_entries q.of_entries)
+    ∙ sym q.told_is
+
+listed : (before after : List Entry) (entry : Entry) → IsIn entry (before ++ entry ∷ after)
+listed [] after entry = inl refl
+listed (x ∷ before) after entry = inr (listed before after entry)
+
+-- a first empty entry is one
+pub first-has : (d : Dictionary) (direction : Direction) (entries : List Entry) (line : ℕ) → IsFirstEmpty d direction entries line → HasEmptyEntry d direction entries
+first-has d direction entries line f = record { entry = f.entry; listed = subst (λ (xs : List Entry). IsIn f.entry xs) (sym f.whole) (listed f.before f.after f.entry); empty = f.empty }
+
+here : (d : Dictionary) (direction : Direction) (x : Entry) (xs : List Entry) → IsEmptyEntry d direction x → HasEmptyEntry d direction (x ∷ xs)
+here d direction x xs e = record { entry = x; listed = inl refl; empty = e }
+
+later : (d : Dictionary) (direction : Direction) (x : Entry) (xs : List Entry) → HasEmptyEntry d direction xs → HasEmptyEntry d direction (x ∷ xs)
+later d direction x xs h = record { entry = h.entry; listed = inr h.listed; empty = h.empty }
+
+same-first : (d : Dictionary) (direction : Direction) (before before' after after' : List Entry) (entry entry' : Entry) → IsEmptyEntry d direction entry → IsEmptyEntry d direction entry' →
+    (HasEmptyEntry d direction before → ⊥) → (HasEmptyEntry d direction before' → ⊥) → before ++ entry ∷ after ≡ before' ++ entry' ∷ after' → entry ≡ entry'
+same-first d direction [] [] after after' entry entry' e e' n n' same = cc
+same-first d direction [] (x ∷ before') after after' entry entry' e e' n n' same =
+    let head : entry ≡ x = cc in absurd (n' (here d direction x before' (subst (λ (y : Entry). IsEmptyEntry d direction y) head e)))
+same-first d direction (x ∷ before) [] after after' entry entry' e e' n n' same =
+    let head : entry' ≡ x = cc in absurd (n (here d direction x before (subst (λ (y : Entry). IsEmptyEntry d direction y) head e')))
+same-first d direction (x ∷ before) (y ∷ before') after after' entry entry' e e' n n' same =
+    let rest : before ++ entry ∷ after ≡ before' ++ entry' ∷ after' = cc in
+    same-first d direction before before' after after' entry entry' e e' (λ h. n (later d direction x before h)) (λ h. n' (later d direction y before' h)) rest
+
+-- the first empty entry has one line
+pub one-first : (d : Dictionary) (direction : Direction) (entries : List Entry) (line line' : ℕ) → IsFirstEmpty d direction entries line → IsFirstEmpty d direction entries line' → line ≡ line'
+one-first d direction entries line line' f g =
+    f.line_is ∙ ap (λ (e : Entry). e.line) (same-first d direction f.before g.before f.after g.after f.entry g.entry f.empty g.empty f.first g.first (sym f.whole ∙ g.whole)) ∙ sym g.line_is
