@@ -19,7 +19,7 @@ fn compiled(alloc: Global, text: &str) -> Result<Compiled, Fail> {
 fn drain(stage: &mut Analysis, pipe: &mut Pipe, out: &mut Bytes) -> Result<(), Memory>
     ensures { stage.new.ended ≡ stage.old.ended }
 {
-    for _turn in 0..1_000_000 {
+    for turn in 0..1_000_000 {
         if stage.pending() == 0 {
             break;
         }
@@ -41,7 +41,7 @@ fn feed(
     ensures { stage.new.ended ≡ false }
 {
     let mut used = 0;
-    for _turn in 0..1_000_000 {
+    for turn in 0..1_000_000 {
         if used >= piece.len() {
             break;
         }
@@ -58,7 +58,7 @@ fn feed(
 }
 
 fn finish(stage: &mut Analysis, pipe: &mut Pipe, out: &mut Bytes) -> Result<(), StageFault> {
-    for _turn in 0..1_000_000 {
+    for turn in 0..1_000_000 {
         let answer = stage.end();
         drain(stage, pipe, out)?;
         match answer {
@@ -80,7 +80,7 @@ fn drive(
     requires { stage.old.ended ≡ false }
 {
     let mut rest = text;
-    for _turn in 0..1_000_000 {
+    for turn in 0..1_000_000 {
         if rest.len() == 0 {
             break;
         }
@@ -92,7 +92,7 @@ fn drive(
 }
 
 /// What analysis by the dictionary of this text makes of a text that comes in pieces of so many bytes, and how it ends.
-pub(crate) fn analysed(
+pub fn analysed(
     alloc: Global,
     dictionary: &str,
     sensitive: bool,

@@ -1,7 +1,6 @@
 //! Tests of stages with compiled dictionaries: from the text of a dictionary to what a stage makes of a text.
 #![tactic(auto)]
 
-#[cfg(test)]
-mod driving;
+pub mod driving;
 #[cfg(test)]
 mod rows;
