@@ -80,13 +80,15 @@ split_drafted P Q a b made ha hb hm =
       (λ c. record {
         string = c.first.string ++ c.second.string;
         held = record { front = c.first.string; back = c.second.string; whole = refl; first = c.first.held; second = c.second.held };
-        is = c.whole ∙ ap (λ z. z ++ c.back) c.first.is ∙ ap (λ z. paired c.first.string c.first.string ++ z) c.second.is ∙ sym (paired_append c.first.string c.second.string) }),
+        is = c.whole ∙ ap (λ z. z ++ c.back) c.first.is ∙ ap (λ z. paired c.first.string c.first.string ++ z) c.second.is ∙ sym (paired_append c.first.string c.second.string);
+      }),
       (λ o. record {
         front = paired o.held.front o.held.front;
         back = paired o.held.back o.held.back;
         whole = o.is ∙ ap (λ z. paired z z) o.held.whole ∙ paired_append o.held.front o.held.back;
         first = record { string = o.held.front; held = o.held.first; is = refl };
-        second = record { string = o.held.back; held = o.held.second; is = refl } }),
+        second = record { string = o.held.back; held = o.held.second; is = refl };
+      }),
     ))
 
 pub either_drafted : (P Q : List Symbol → Type 0) (a made : Sketch) → IsDraftOf (OfStrings P) a → IsMoreBy (OfStrings Q) a made → IsDraftOf (OfStrings (λ s. P s ⊎ Q s)) made
@@ -114,7 +116,8 @@ repeats_strings P a w h (more front back whole first rest) =
     record {
       string = o.string ++ r.string;
       held = more_of o.string r.string refl o.held r.held;
-      is = ap derived_labels whole ∙ map-append derived_label front back ∙ ap (λ z. z ++ derived_labels back) o.is ∙ ap (λ z. paired o.string o.string ++ z) r.is ∙ sym (paired_append o.string r.string) }
+      is = ap derived_labels whole ∙ map-append derived_label front back ∙ ap (λ z. z ++ derived_labels back) o.is ∙ ap (λ z. paired o.string o.string ++ z) r.is ∙ sym (paired_append o.string r.string);
+    }
 
 -- the labels of a string in the words of transducers
 abbrev built : List Symbol → List Label
@@ -154,7 +157,8 @@ plus_drafted P a made h hm = record {
         record {
           string = o.string ++ r.string;
           held = record { front = o.string; back = r.string; whole = refl; first = o.held; second = r.held };
-          is = ap derived_labels m.whole ∙ map-append derived_label m.front m.back ∙ ap (λ z. z ++ derived_labels m.back) o.is ∙ ap (λ z. paired o.string o.string ++ z) r.is ∙ sym (paired_append o.string r.string) }),
+          is = ap derived_labels m.whole ∙ map-append derived_label m.front m.back ∙ ap (λ z. z ++ derived_labels m.back) o.is ∙ ap (λ z. paired o.string o.string ++ z) r.is ∙ sym (paired_append o.string r.string);
+        }),
     (λ (o : OfStrings (IsSplit P (RepeatsOf P)) (derived_labels w)). (hm w).1 (from_built (IsMoreThanNone a) w o.string o.is (more_built P a o.string h o.held))),
   );
   plain = λ w x. let m : IsMoreThanNone a w = (hm w).0 x in plain_both m.front m.back w m.whole (h.plain m.front m.first) (repeats_plain P a m.back h m.repeats);
@@ -185,16 +189,20 @@ all_more [] e s = (
 all_more (f ∷ es) e s = (
   (λ h. let k : IsSplit (LangAll (forms_of es)) (Lang e) h.back = (all_more es e h.back).0 h.second in
       record {
-        front = h.front ++ k.front; back = k.back;
+        front = h.front ++ k.front;
+        back = k.back;
         whole = h.whole ∙ ap (λ z. h.front ++ z) k.whole ∙ sym (append_assoc h.front k.front k.back);
         first = record { front = h.front; back = k.front; whole = refl; first = h.first; second = k.first };
-        second = k.second }),
+        second = k.second;
+      }),
   (λ h. let back : LangAll (forms_of (es ++ e ∷ [])) (h.first.back ++ h.back) = (all_more es e (h.first.back ++ h.back)).1 (record { front = h.first.back; back = h.back; whole = refl; first = h.first.second; second = h.second }) in
       record {
-        front = h.first.front; back = h.first.back ++ h.back;
+        front = h.first.front;
+        back = h.first.back ++ h.back;
         whole = h.whole ∙ ap (λ z. z ++ h.back) h.first.whole ∙ append_assoc h.first.front h.first.back h.back;
         first = h.first.first;
-        second = back }),
+        second = back;
+      }),
 )
 
 some_more : (es : List Form) (e : Form) (s : List Symbol) → LangSome (forms_of (es ++ e ∷ [])) s ↔ (LangSome (forms_of es) s ⊎ Lang e s)
@@ -212,16 +220,16 @@ pub sequence_more : (es : List Expr) (e d : Expr) (i : ℕ) (a b made : Sketch) 
 sequence_more es e d i a b made lt is ha hb hm =
     subst (λ (fs : List Form). IsDraftOf (OfStrings (LangAll (forms_of fs))) made) (sym (forms_more es e d i lt is))
     (strings_draft (IsSplit (LangAll (forms_of (map plain (take i es)))) (Lang (plain e))) (LangAll (forms_of (map plain (take i es) ++ plain e ∷ []))) made
-      (split_drafted (LangAll (forms_of (map plain (take i es)))) (Lang (plain e)) a b made ha hb hm)
-      (λ s. let k = all_more (map plain (take i es)) (plain e) s in (k.1, k.0)))
+    (split_drafted (LangAll (forms_of (map plain (take i es)))) (Lang (plain e)) a b made ha hb hm)
+    (λ s. let k = all_more (map plain (take i es)) (plain e) s in (k.1, k.0)))
 
 pub choice_more : (es : List Expr) (e d : Expr) (i : ℕ) (a b made : Sketch) → i < length es → e ≡ get_or es i d → IsDraftOf (OfStrings (LangSome (forms_of (map plain (take i es))))) a → IsDraftOf (OfStrings (Lang (plain e))) b
     → ((w : List Label) → Accepts made w ↔ IsEither a b w) → IsDraftOf (OfStrings (LangSome (forms_of (map plain (take (i + 1) es))))) made
 choice_more es e d i a b made lt is ha hb hm =
     subst (λ (fs : List Form). IsDraftOf (OfStrings (LangSome (forms_of fs))) made) (sym (forms_more es e d i lt is))
     (strings_draft (λ s. LangSome (forms_of (map plain (take i es))) s ⊎ Lang (plain e) s) (LangSome (forms_of (map plain (take i es) ++ plain e ∷ []))) made
-      (either_drafted (LangSome (forms_of (map plain (take i es)))) (Lang (plain e)) a made ha (more_draft (OfStrings (Lang (plain e))) a b made hb hm))
-      (λ s. let k = some_more (map plain (take i es)) (plain e) s in (k.1, k.0)))
+    (either_drafted (LangSome (forms_of (map plain (take i es)))) (Lang (plain e)) a made ha (more_draft (OfStrings (Lang (plain e))) a b made hb hm))
+    (λ s. let k = some_more (map plain (take i es)) (plain e) s in (k.1, k.0)))
 
 pub all_forms : (A : List Form → Type 0) (es : List Expr) (i : ℕ) → length es ≤ i → A (map plain (take i es)) → A (map plain es)
 all_forms A es i le h = subst (λ (z : List Expr). A (map plain z)) (take_all i es le) h

@@ -85,7 +85,7 @@ runs_bounded d direction kind m sound h =
           let two : length (derived_labels middle) ≡ length middle = length-map middle derived_label in
           let three : length (derived_labels middle) ≡ quiet (derived_labels middle) = silent_quiet (derived_labels middle) (left_same middle ∙ r.silent) in
           let four : quiet (derived_labels middle) ≤ quiet (derived_labels w) = quiet_within (derived_labels r.front) (derived_labels middle) (derived_labels r.back) (derived_labels w)
-            (ap derived_labels r.whole ∙ map-append derived_label r.front (middle ++ r.back) ∙ ap (λ z. derived_labels r.front ++ z) (map-append derived_label middle r.back)) in
+          (ap derived_labels r.whole ∙ map-append derived_label r.front (middle ++ r.back) ∙ ap (λ z. derived_labels r.front ++ z) (map-append derived_label middle r.back)) in
           omega (arith, one, two, three, four);
     }
 

@@ -141,18 +141,18 @@ class_step ranges i next first sorted lt covered is s =
             of_code (take i ranges ++ at ranges i ∷ []) s h.code h.is_code (snoc_any (spans h.code) (take i ranges) (at ranges i) (inr (spans_from h.code (at ranges i) (omega arith) (omega arith))))
       ])),
       (λ y. let h : IsOfClass (take i ranges ++ at ranges i ∷ []) s = subst (λ (z : List Range). IsOfClass z s) e y in
-        let c : IsCode h.code s = held_code (take i ranges ++ at ranges i ∷ []) s h in
-        elim (any_snoc (spans h.code) (take i ranges) (at ranges i) h.held.spanned) [
-          | inl a ↦ inl (of_code (take i ranges) s h.code c a)
-          | inr b ↦
-              let parts = and_parts (nat_le (at ranges i).first h.code) (nat_le h.code (at ranges i).last) b in
-              let low : (at ranges i).first ≤ h.code = leb-true (at ranges i).first h.code parts.0 in
-              let high : h.code ≤ (at ranges i).last = leb-true h.code (at ranges i).last parts.1 in
-              elim (cases_lt h.code next) [
-                | inl below ↦ inl (of_code (take i ranges) s h.code c (passed ranges i next h.code sorted lt covered low below))
-                | inr above ↦ inr (record { code = h.code; low = omega arith; high = omega arith; is_code = c })
-              ]
-        ]),
+          let c : IsCode h.code s = held_code (take i ranges ++ at ranges i ∷ []) s h in
+          elim (any_snoc (spans h.code) (take i ranges) (at ranges i) h.held.spanned) [
+            | inl a ↦ inl (of_code (take i ranges) s h.code c a)
+            | inr b ↦
+                let parts = and_parts (nat_le (at ranges i).first h.code) (nat_le h.code (at ranges i).last) b in
+                let low : (at ranges i).first ≤ h.code = leb-true (at ranges i).first h.code parts.0 in
+                let high : h.code ≤ (at ranges i).last = leb-true h.code (at ranges i).last parts.1 in
+                elim (cases_lt h.code next) [
+                  | inl below ↦ inl (of_code (take i ranges) s h.code c (passed ranges i next h.code sorted lt covered low below))
+                  | inr above ↦ inr (record { code = h.code; low = omega arith; high = omega arith; is_code = c })
+                ]
+          ]),
     )
 
 pub class_more : (ranges : List Range) (i next first : ℕ) (a made : Sketch) → IsNonDecreasingBy range_first ranges → i < length ranges → IsCovered ranges i next → first ≡ max next (at ranges i).first → IsDraftOf (OfStrings (IsOfClass (take i ranges))) a

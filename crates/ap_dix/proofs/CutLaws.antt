@@ -38,26 +38,30 @@ cut_goes : (seen : List ℕ) (made : List Piece) (c : ℕ) (t : Cut) → IsPiece
     → (if c == 92 then Some (cut made true) else (if is_skipped c then Some (cut made false) else Some (cut (made ++ piece c false ∷ []) false))) ≡ Some t → IsSeen (seen ++ c ∷ []) t
 cut_goes seen made c t h e =
     elim (one_of_two (c == 92) (Some (cut made true)) (if is_skipped c then Some (cut made false) else Some (cut (made ++ piece c false ∷ []) false)) t e) [
-      inl p ↦
-        let is : c ≡ 92 = eqb-true c 92 p.0 in
-        subst (IsSeen (seen ++ c ∷ [])) (same_cut (cut made true) t p.1) (record { front = seen; whole = ap (λ z. seen ++ z ∷ []) is; cut = h })
-    | inr p ↦ elim (one_of_two (is_skipped c) (Some (cut made false)) (Some (cut (made ++ piece c false ∷ []) false)) t p.1) [
-        inl q ↦ subst (IsSeen (seen ++ c ∷ [])) (same_cut (cut made false) t q.1) (skipped c h q.0 refl)
-      | inr q ↦ subst (IsSeen (seen ++ c ∷ [])) (same_cut (cut (made ++ piece c false ∷ []) false) t q.1) (itself c h (ap not q.0) (ap not p.0) refl refl) ] ]
+      | inl p ↦
+          let is : c ≡ 92 = eqb-true c 92 p.0 in
+          subst (IsSeen (seen ++ c ∷ [])) (same_cut (cut made true) t p.1) (record { front = seen; whole = ap (λ z. seen ++ z ∷ []) is; cut = h })
+      | inr p ↦ elim (one_of_two (is_skipped c) (Some (cut made false)) (Some (cut (made ++ piece c false ∷ []) false)) t p.1) [
+        | inl q ↦ subst (IsSeen (seen ++ c ∷ [])) (same_cut (cut made false) t q.1) (skipped c h q.0 refl)
+        | inr q ↦ subst (IsSeen (seen ++ c ∷ [])) (same_cut (cut (made ++ piece c false ∷ []) false) t q.1) (itself c h (ap not q.0) (ap not p.0) refl refl)
+      ]
+    ]
 
 cut_keeps : (seen : List ℕ) (s : Cut) (c : ℕ) (t : Cut) → IsSeen seen s → cut_step s c ≡ Some t → IsSeen (seen ++ c ∷ []) t
 cut_keeps seen s c t h e =
     let P : Bool → Type 0 = λ b. IsSeenAs seen s.made b → cut_step (cut s.made b) c ≡ Some t → IsSeen (seen ++ c ∷ []) t in
     let each : (b : Bool) → P b = λ b. elim b as (λ v. IsSeenAs seen s.made v → cut_step (cut s.made v) c ≡ Some t → IsSeen (seen ++ c ∷ []) t) [
-        true ↦ cut_waits seen s.made c t
-      | false ↦ cut_goes seen s.made c t ] in
+      | true ↦ cut_waits seen s.made c t
+      | false ↦ cut_goes seen s.made c t
+    ] in
     each s.escaping h e
 
 settled : (seen : List ℕ) (s : Cut) (made : List Piece) → IsSeen seen s → cut_end s ≡ Some made → IsPieces seen made
 settled seen s made h e =
     let each : (b : Bool) → IsSeenAs seen s.made b → cut_end (cut s.made b) ≡ Some made → IsPieces seen made = λ b. elim b as (λ v. IsSeenAs seen s.made v → cut_end (cut s.made v) ≡ Some made → IsPieces seen made) [
-        true ↦ λ w q. let no : ⊥ = cc in absurd no
-      | false ↦ λ w q. let same : s.made ≡ made = cc in subst (IsPieces seen) same w ] in
+      | true ↦ λ w q. let no : ⊥ = cc in absurd no
+      | false ↦ λ w q. let same : s.made ≡ made = cc in subst (IsPieces seen) same w
+    ] in
     each s.escaping h e
 
 -- the pieces that are read are those of the grammar
@@ -70,8 +74,9 @@ pieces-sound text pieces e =
 skipped_step : (made : List Piece) (c : ℕ) → IsTrue (is_skipped c) → cut_step (cut made false) c ≡ Some (cut made false)
 skipped_step made c h =
     elim (cases_eq c 92) [
-      inl e ↦ let no : is_skipped 92 ≡ true = subst (λ z. is_skipped z ≡ true) e h in absurd (false≢true no)
-    | inr n ↦ left_out (c == 92) (Some (cut made true)) _ (ne_eqb c 92 n) ∙ taken (is_skipped c) (Some (cut made false)) _ h ]
+      | inl e ↦ let no : is_skipped 92 ≡ true = subst (λ z. is_skipped z ≡ true) e h in absurd (false≢true no)
+      | inr n ↦ left_out (c == 92) (Some (cut made true)) _ (ne_eqb c 92 n) ∙ taken (is_skipped c) (Some (cut made false)) _ h
+    ]
 
 itself_step : (made : List Piece) (c : ℕ) → IsTrue (not (is_skipped c)) → IsTrue (not (c == 92)) → cut_step (cut made false) c ≡ Some (cut (made ++ piece c false ∷ []) false)
 itself_step made c h k =

@@ -29,11 +29,14 @@ spells text e h =
     let g = came_from (on_some (pieces_of text) tokens_of) choices_of f.value f.was in
     let k = came_from (pieces_of text) tokens_of g.value g.was in
     record {
-      pieces = k.value; tokens = g.value; choices = f.value;
+      pieces = k.value;
+      tokens = g.value;
+      choices = f.value;
       cut = pieces-sound text k.value k.was;
       told = tokens-sound k.value g.value k.gave;
       built = choices-sound g.value f.value g.gave;
-      is = sym (some_same (either (forms_of f.value)) e f.gave) }
+      is = sym (some_same (either (forms_of f.value)) e f.gave);
+    }
 
 pub expression_exact : (text : List ℕ) (e : Form) → (expression text ≡ Some e) ↔ SpellsExpr text e
 expression_exact text e = (spells text e, reads text e)

@@ -118,7 +118,7 @@ mutual
   choice_sound depth tokens es (with_sequence {front = front} {back = back} {before = before} {factors = factors} k s w a) h =
       ap (λ z. are_sound_forms (forms_of z)) a
       ∙ forms_behind before (sequence (forms_of factors)) (choice_sound depth front before k (all_front is_light_token front (Bar ∷ back) tokens w h))
-        (sequence_sound depth back factors s (all_back is_light_token (Bar ∷ []) back (Bar ∷ back) refl (all_back is_light_token front (Bar ∷ back) tokens w h)))
+      (sequence_sound depth back factors s (all_back is_light_token (Bar ∷ []) back (Bar ∷ back) refl (all_back is_light_token front (Bar ∷ back) tokens w h)))
 
 -- what a text spells is sound
 pub expression_sound : (text : List ℕ) (e : Form) → expression text ≡ Some e → is_sound_form e ≡ true

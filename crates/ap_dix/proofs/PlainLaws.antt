@@ -36,7 +36,7 @@ nil_mapped f (x ∷ xs) h = refl
 pub closed_by : (s : Stage) (factors : Vec Expr Global) (choices pushed : List Expr) → map plain factors.items ≡ flushed s → (factors.items ≡ [] → ⊥) → pushed ≡ choices ++ Sequence factors ∷ [] → map plain choices ≡ s.choices → Some (map plain pushed) ≡ closed s
 closed_by s factors choices pushed f n w k =
     let whole : map plain pushed ≡ s.choices ++ sequence (forms_of (flushed s)) ∷ [] =
-      ap (map plain) w ∙ map-append plain choices (Sequence factors ∷ []) ∙ ap (λ z. z ++ plain (Sequence factors) ∷ []) k ∙ ap (λ z. s.choices ++ z ∷ []) (plain-Sequence factors ∙ ap (λ z. sequence (forms_of z)) f) in
+    ap (map plain) w ∙ map-append plain choices (Sequence factors ∷ []) ∙ ap (λ z. z ++ plain (Sequence factors) ∷ []) k ∙ ap (λ z. s.choices ++ z ∷ []) (plain-Sequence factors ∙ ap (λ z. sequence (forms_of z)) f) in
     ap Some whole ∙ sym (left_out (is_nil (flushed s)) None (Some (s.choices ++ sequence (forms_of (flushed s)) ∷ [])) (ap is_nil (sym f) ∙ nil_mapped plain factors.items n))
 
 pub from_below : {X Y : Type 0} (f : X → Y) (xs : List X) (x : X) (all : List X) → all ≡ xs ++ x ∷ [] → reverse (map f all) ≡ f x ∷ reverse (map f xs)

@@ -55,21 +55,27 @@ flushed_factors depth middle back factors (Some atom) f l = inr (factors_then de
 
 with_atom_stage : (depth : ℕ) (seen more all : List Token) (s : Stage) (atom : Form) → IsStage depth seen s → IsAtom depth more atom → all ≡ seen ++ more → IsStage depth all (with_atom s atom)
 with_atom_stage depth seen more all s atom h a w = record {
-    front = h.front; middle = h.middle ++ h.back; back = more;
-    whole = w ∙ ap (λ z. z ++ more) h.whole ∙ append_assoc h.front (h.middle ++ h.back) more;
-    chosen = h.chosen;
-    factors = flushed_factors depth h.middle h.back s.factors s.last h.factors h.last;
-    last = a }
+  front = h.front;
+  middle = h.middle ++ h.back;
+  back = more;
+  whole = w ∙ ap (λ z. z ++ more) h.whole ∙ append_assoc h.front (h.middle ++ h.back) more;
+  chosen = h.chosen;
+  factors = flushed_factors depth h.middle h.back s.factors s.last h.factors h.last;
+  last = a;
+}
 
 repeated_stage : (depth : ℕ) (seen : List Token) (s : Stage) (sign : Repetition) (atom : Form) → IsStage depth seen s → s.last ≡ Some atom → IsStage depth (seen ++ Repeat sign ∷ []) (stage s.choices (s.factors ++ repeated sign atom ∷ []) None)
 repeated_stage depth seen s sign atom h e =
     let last : IsAtom depth h.back atom = subst (IsLast depth h.back) e h.last in
     record {
-      front = h.front; middle = h.middle ++ (h.back ++ Repeat sign ∷ []); back = [];
+      front = h.front;
+      middle = h.middle ++ (h.back ++ Repeat sign ∷ []);
+      back = [];
       whole = ap (λ z. z ++ Repeat sign ∷ []) h.whole ∙ append_assoc h.front (h.middle ++ h.back) (Repeat sign ∷ []) ∙ ap (λ z. h.front ++ z) (append_assoc h.middle h.back (Repeat sign ∷ []) ∙ sym (append-nil (h.middle ++ (h.back ++ Repeat sign ∷ []))));
       chosen = h.chosen;
       factors = inr (factors_then depth h.middle (h.back ++ Repeat sign ∷ []) (h.middle ++ (h.back ++ Repeat sign ∷ [])) s.factors (s.factors ++ repeated sign atom ∷ []) (repeated sign atom) h.factors (more_often sign last refl refl) refl refl);
-      last = refl }
+      last = refl;
+    }
 
 not_nil : {X : Type 0} (xs : List X) → is_nil xs ≡ false → xs ≡ [] → ⊥
 not_nil xs h e = false≢true (sym h ∙ ap is_nil e)
@@ -102,11 +108,14 @@ with_atom_stacked seen all more top below atom h a w = replaced seen all more to
 
 barred : (depth : ℕ) (seen : List Token) (s : Stage) (choices : List Form) → closed s ≡ Some choices → IsStage depth seen s → IsStage depth (seen ++ Bar ∷ []) (stage choices [] None)
 barred depth seen s choices e h = record {
-    front = seen ++ Bar ∷ []; middle = []; back = [];
-    whole = sym (append-nil (seen ++ Bar ∷ []));
-    chosen = inr (seen, refl, closed_stage depth seen s choices h e);
-    factors = inl (refl, refl);
-    last = refl }
+  front = seen ++ Bar ∷ [];
+  middle = [];
+  back = [];
+  whole = sym (append-nil (seen ++ Bar ∷ []));
+  chosen = inr (seen, refl, closed_stage depth seen s choices h e);
+  factors = inl (refl, refl);
+  last = refl;
+}
 
 grouped : (seen : List Token) (top : Stage) (below : List Stage) (choices : List Form) (t : Stack) → IsStacked seen top below → closed top ≡ Some choices → close_step below (Some choices) ≡ Some t → IsSeen (seen ++ Close ∷ []) t
 grouped seen top [] choices t h c e = let no : ⊥ = cc in absurd no
@@ -204,10 +213,11 @@ mutual
   reads_factor : (top : Stage) (below : List Stage) (tokens : List Token) (factor : Form) (depth : ℕ) → IsFactor depth tokens factor → depth ≡ length below → IsReadOn top below tokens (flushed top ++ factor ∷ [])
   reads_factor top below tokens factor depth (once a) d = record { after = with_atom top factor; reads = reads_atom top below tokens factor depth a d; choices = refl; flushes = refl }
   reads_factor top below tokens factor depth (more_often {atom = front} {a = atom} sign a w e) d = record {
-      after = stage top.choices (flushed top ++ repeated sign atom ∷ []) None;
-      reads = run_then stack_step (Some (stack top below)) (Some (stack (with_atom top atom) below)) (Some (stack (stage top.choices (flushed top ++ repeated sign atom ∷ []) None) below)) front (Repeat sign ∷ []) tokens (reads_atom top below front atom depth a d) refl w;
-      choices = refl;
-      flushes = append-nil (flushed top ++ repeated sign atom ∷ []) ∙ ap (λ z. flushed top ++ z ∷ []) (sym e) }
+    after = stage top.choices (flushed top ++ repeated sign atom ∷ []) None;
+    reads = run_then stack_step (Some (stack top below)) (Some (stack (with_atom top atom) below)) (Some (stack (stage top.choices (flushed top ++ repeated sign atom ∷ []) None) below)) front (Repeat sign ∷ []) tokens (reads_atom top below front atom depth a d) refl w;
+    choices = refl;
+    flushes = append-nil (flushed top ++ repeated sign atom ∷ []) ∙ ap (λ z. flushed top ++ z ∷ []) (sym e);
+  }
 
   reads_sequence : (top : Stage) (below : List Stage) (tokens : List Token) (factors : List Form) (depth : ℕ) → IsSequence depth tokens factors → depth ≡ length below → flushed top ≡ [] → IsReadOn top below tokens factors
   reads_sequence top below tokens factors depth (only {e = e} f a) d n =
@@ -220,7 +230,8 @@ mutual
         after = q.after;
         reads = run_then stack_step (Some (stack top below)) (Some (stack r.after below)) (Some (stack q.after below)) front back tokens r.reads q.reads w;
         choices = q.choices ∙ r.choices;
-        flushes = q.flushes ∙ ap (λ z. z ++ e ∷ []) r.flushes ∙ sym a }
+        flushes = q.flushes ∙ ap (λ z. z ++ e ∷ []) r.flushes ∙ sym a;
+      }
 
   reads_choice : (top : Stage) (below : List Stage) (tokens : List Token) (choices : List Form) (depth : ℕ) → IsChoice depth tokens choices → depth ≡ length below → top.choices ≡ [] → flushed top ≡ [] → IsReadAs top below tokens choices
   reads_choice top below tokens choices depth (lone {factors = factors} h a) d n k =
@@ -233,7 +244,8 @@ mutual
       record {
         after = q.after;
         reads = run_then stack_step (Some (stack top below)) (Some (stack r.after below)) (Some (stack q.after below)) front (Bar ∷ back) tokens r.reads (ap (λ z. run stack_step z back) bar ∙ q.reads) w;
-        closes = closed_as q.after before factors q.choices q.flushes (some_factors depth back factors h) ∙ ap Some (sym a) }
+        closes = closed_as q.after before factors q.choices q.flushes (some_factors depth back factors h) ∙ ap Some (sym a);
+      }
 
 -- and the choices of the grammar are read
 pub choices-complete : (tokens : List Token) (choices : List Form) → IsChoice 0 tokens choices → choices_of tokens ≡ Some choices

@@ -69,25 +69,33 @@ nil_or_not xs h e = let no : true ≡ false = sym (ap is_nil e) ∙ h in false�
 closes : (seen : List Piece) (made : List Token) (ranges : List Range) (p : Piece) → IsInside seen made ranges → IsTrue (is_sign 93 p) → is_nil ranges ≡ false → AreTokens (seen ++ p ∷ []) (made ++ Class ranges ∷ [])
 closes seen made ranges p h s n =
     elim h.members [
-      inl nil ↦ absurd (nil_or_not ranges n nil.1)
-    | inr members ↦
-        another h.tokens (classed h.begin p h.sign members s refl refl)
-          (ap (λ z. z ++ p ∷ []) h.whole ∙ append_assoc h.front (h.begin ∷ h.held) (p ∷ [])) refl ]
+      | inl nil ↦ absurd (nil_or_not ranges n nil.1)
+      | inr members ↦
+          another h.tokens (classed h.begin p h.sign members s refl refl)
+          (ap (λ z. z ++ p ∷ []) h.whole ∙ append_assoc h.front (h.begin ∷ h.held) (p ∷ [])) refl
+    ]
 
 begins : (seen : List Piece) (made : List Token) (ranges : List Range) (p : Piece) → IsInside seen made ranges → IsTrue (is_member p) → IsOpen (seen ++ p ∷ []) made ranges (Begun p.code)
 begins seen made ranges p h m = record {
-    front = h.front; begin = h.begin; held = h.held; rest = p ∷ [];
-    whole = ap (λ z. z ++ p ∷ []) h.whole ∙ append_assoc h.front (h.begin ∷ h.held) (p ∷ []);
-    tokens = h.tokens; sign = h.sign; members = h.members;
-    begun = (p, refl, m, refl) }
+  front = h.front;
+  begin = h.begin;
+  held = h.held;
+  rest = p ∷ [];
+  whole = ap (λ z. z ++ p ∷ []) h.whole ∙ append_assoc h.front (h.begin ∷ h.held) (p ∷ []);
+  tokens = h.tokens;
+  sign = h.sign;
+  members = h.members;
+  begun = (p, refl, m, refl);
+}
 
 member_keeps : (seen : List Piece) (made : List Token) (ranges : List Range) (p : Piece) (t : Telling) → IsInside seen made ranges → member_step made ranges p ≡ Some t → IsToldAs (seen ++ p ∷ []) t
 member_keeps seen made ranges p t h e =
     elim (one_of_two (is_sign 93 p) (if is_nil ranges then None else Some (outside (made ++ Class ranges ∷ []))) (if is_member p then Some (inside made ranges (Begun p.code)) else None) t e) [
-      inl q ↦ let n = none_else (is_nil ranges) (Some (outside (made ++ Class ranges ∷ []))) t q.1 in
-        subst (IsToldAs (seen ++ p ∷ [])) (same_telling (outside (made ++ Class ranges ∷ [])) t n.1) (closes seen made ranges p h q.0 n.0)
-    | inr q ↦ let m = else_none (is_member p) (Some (inside made ranges (Begun p.code))) t q.1 in
-        subst (IsToldAs (seen ++ p ∷ [])) (same_telling (inside made ranges (Begun p.code)) t m.1) (begins seen made ranges p h m.0) ]
+      | inl q ↦ let n = none_else (is_nil ranges) (Some (outside (made ++ Class ranges ∷ []))) t q.1 in
+          subst (IsToldAs (seen ++ p ∷ [])) (same_telling (outside (made ++ Class ranges ∷ [])) t n.1) (closes seen made ranges p h q.0 n.0)
+      | inr q ↦ let m = else_none (is_member p) (Some (inside made ranges (Begun p.code))) t q.1 in
+          subst (IsToldAs (seen ++ p ∷ [])) (same_telling (inside made ranges (Begun p.code)) t m.1) (begins seen made ranges p h m.0)
+    ]
 
 at_fresh : (seen : List Piece) (made : List Token) (ranges : List Range) → IsOpen seen made ranges Fresh → IsInside seen made ranges
 at_fresh seen made ranges h = record { front = h.front; begin = h.begin; held = h.held; whole = h.whole ∙ ap (λ z. h.front ++ h.begin ∷ (h.held ++ z)) h.begun ∙ ap (λ z. h.front ++ h.begin ∷ z) (append-nil h.held); tokens = h.tokens; sign = h.sign; members = h.members }
@@ -97,15 +105,28 @@ at_begun : (seen : List Piece) (made : List Token) (ranges : List Range) (c : �
 at_begun seen made ranges c h =
     let p : Piece = h.begun.0 in
     let m : IsMember h.rest (range c c) = single p h.begun.2 h.begun.1 (ap (λ z. range z z) (sym h.begun.3)) in
-    record { front = h.front; begin = h.begin; held = h.held ++ h.rest; whole = h.whole; tokens = h.tokens; sign = h.sign;
-      members = inr (some_then h.held h.rest (h.held ++ h.rest) ranges (ranges ++ range c c ∷ []) (range c c) h.members m refl refl) }
+    record {
+      front = h.front;
+      begin = h.begin;
+      held = h.held ++ h.rest;
+      whole = h.whole;
+      tokens = h.tokens;
+      sign = h.sign;
+      members = inr (some_then h.held h.rest (h.held ++ h.rest) ranges (ranges ++ range c c ∷ []) (range c c) h.members m refl refl);
+    }
 
 dashes : (seen : List Piece) (made : List Token) (ranges : List Range) (c : ℕ) (p : Piece) → IsOpen seen made ranges (Begun c) → IsTrue (is_sign 45 p) → IsOpen (seen ++ p ∷ []) made ranges (Dashed c)
 dashes seen made ranges c p h s = record {
-    front = h.front; begin = h.begin; held = h.held; rest = h.rest ++ p ∷ [];
-    whole = further_on seen h.front h.held h.rest h.begin p h.whole;
-    tokens = h.tokens; sign = h.sign; members = h.members;
-    begun = (h.begun.0, p, ap (λ z. z ++ p ∷ []) h.begun.1, h.begun.2, h.begun.3, s) }
+  front = h.front;
+  begin = h.begin;
+  held = h.held;
+  rest = h.rest ++ p ∷ [];
+  whole = further_on seen h.front h.held h.rest h.begin p h.whole;
+  tokens = h.tokens;
+  sign = h.sign;
+  members = h.members;
+  begun = (h.begun.0, p, ap (λ z. z ++ p ∷ []) h.begun.1, h.begun.2, h.begun.3, s);
+}
 
 ends : (seen : List Piece) (made : List Token) (ranges : List Range) (c : ℕ) (p : Piece) → IsOpen seen made ranges (Dashed c) → IsTrue (is_member p) → c ≤ p.code → IsOpen (seen ++ p ∷ []) made (ranges ++ range c p.code ∷ []) Fresh
 ends seen made ranges c p h m le =
@@ -114,18 +135,24 @@ ends seen made ranges c p h m le =
     let rest : h.rest ++ p ∷ [] ≡ f ∷ dash ∷ p ∷ [] = ap (λ z. z ++ p ∷ []) h.begun.2 in
     let member : IsMember (h.rest ++ p ∷ []) (range c p.code) = ranged f dash p h.begun.3 h.begun.5 m (subst (λ z. z ≤ p.code) (sym h.begun.4) le) rest (ap (λ z. range z p.code) (sym h.begun.4)) in
     record {
-      front = h.front; begin = h.begin; held = h.held ++ (h.rest ++ p ∷ []); rest = [];
+      front = h.front;
+      begin = h.begin;
+      held = h.held ++ (h.rest ++ p ∷ []);
+      rest = [];
       whole = further_on seen h.front h.held h.rest h.begin p h.whole ∙ ap (λ z. h.front ++ h.begin ∷ z) (sym (append-nil (h.held ++ (h.rest ++ p ∷ []))));
-      tokens = h.tokens; sign = h.sign;
+      tokens = h.tokens;
+      sign = h.sign;
       members = inr (some_then h.held (h.rest ++ p ∷ []) (h.held ++ (h.rest ++ p ∷ [])) ranges (ranges ++ range c p.code ∷ []) (range c p.code) h.members member refl refl);
-      begun = refl }
+      begun = refl;
+    }
 
 class_keeps : (seen : List Piece) (made : List Token) (ranges : List Range) (member : Member) (p : Piece) (t : Telling) → IsOpen seen made ranges member → class_step made ranges member p ≡ Some t → IsToldAs (seen ++ p ∷ []) t
 class_keeps seen made ranges Fresh p t h e = member_keeps seen made ranges p t (at_fresh seen made ranges h) e
 class_keeps seen made ranges (Begun c) p t h e =
     elim (one_of_two (is_sign 45 p) (Some (inside made ranges (Dashed c))) (member_step made (ranges ++ range c c ∷ []) p) t e) [
-      inl q ↦ subst (IsToldAs (seen ++ p ∷ [])) (same_telling (inside made ranges (Dashed c)) t q.1) (dashes seen made ranges c p h q.0)
-    | inr q ↦ member_keeps seen made (ranges ++ range c c ∷ []) p t (at_begun seen made ranges c h) q.1 ]
+      | inl q ↦ subst (IsToldAs (seen ++ p ∷ [])) (same_telling (inside made ranges (Dashed c)) t q.1) (dashes seen made ranges c p h q.0)
+      | inr q ↦ member_keeps seen made (ranges ++ range c c ∷ []) p t (at_begun seen made ranges c h) q.1
+    ]
 class_keeps seen made ranges (Dashed c) p t h e =
     let q = else_none (is_member p && nat_le c p.code) (Some (inside made (ranges ++ range c p.code ∷ []) Fresh)) t e in
     let parts = and_parts (is_member p) (nat_le c p.code) q.0 in
@@ -138,9 +165,10 @@ token_keeps seen made p (Some token) t h f e = subst (IsToldAs (seen ++ p ∷ []
 outside_keeps : (seen : List Piece) (made : List Token) (p : Piece) (t : Telling) → AreTokens seen made → outside_step made p ≡ Some t → IsToldAs (seen ++ p ∷ []) t
 outside_keeps seen made p t h e =
     elim (one_of_two (is_sign 91 p) (Some (inside made [] Fresh)) (with_token made (token_of p)) t e) [
-      inl q ↦ subst (IsToldAs (seen ++ p ∷ [])) (same_telling (inside made [] Fresh) t q.1)
-        (record { front = seen; begin = p; held = []; rest = []; whole = refl; tokens = h; sign = q.0; members = inl (refl, refl); begun = refl })
-    | inr q ↦ token_keeps seen made p (token_of p) t h refl q.1 ]
+      | inl q ↦ subst (IsToldAs (seen ++ p ∷ [])) (same_telling (inside made [] Fresh) t q.1)
+          (record { front = seen; begin = p; held = []; rest = []; whole = refl; tokens = h; sign = q.0; members = inl (refl, refl); begun = refl })
+      | inr q ↦ token_keeps seen made p (token_of p) t h refl q.1
+    ]
 
 choose_keeps : (seen : List Piece) (made : List Token) (class : Option (List Range)) (member : Member) (p : Piece) (t : Telling) → IsTold seen made class member → choose_step made class member p ≡ Some t → IsToldAs (seen ++ p ∷ []) t
 choose_keeps seen made None member p t h e = outside_keeps seen made p t h e
@@ -175,13 +203,15 @@ no_sign_of : (c code : ℕ) (escaped : Bool) → (is_reserved c ≡ true) ⊎ (c
 no_sign_of c code true r m = refl
 no_sign_of c code false r m =
     elim (cases_eq code c) [
-      inr n ↦ ne_eqb code c n
-    | inl e ↦
-        let a = and_parts (not (is_reserved code) && not (code == 45)) (not (code == 32)) m in
-        let b = and_parts (not (is_reserved code)) (not (code == 45)) a.0 in
-        elim r [
-          inl k ↦ absurd (false≢true (sym (not-true (is_reserved code) b.0) ∙ ap is_reserved e ∙ k))
-        | inr k ↦ let five : code ≡ 45 = e ∙ k in absurd (false≢true (sym (not-true (code == 45) b.1) ∙ eq-eqb code 45 five)) ] ]
+      | inr n ↦ ne_eqb code c n
+      | inl e ↦
+          let a = and_parts (not (is_reserved code) && not (code == 45)) (not (code == 32)) m in
+          let b = and_parts (not (is_reserved code)) (not (code == 45)) a.0 in
+          elim r [
+            | inl k ↦ absurd (false≢true (sym (not-true (is_reserved code) b.0) ∙ ap is_reserved e ∙ k))
+            | inr k ↦ let five : code ≡ 45 = e ∙ k in absurd (false≢true (sym (not-true (code == 45) b.1) ∙ eq-eqb code 45 five))
+          ]
+    ]
 
 no_sign : (c : ℕ) (p : Piece) → (is_reserved c ≡ true) ⊎ (c ≡ 45) → IsTrue (is_member p) → is_sign c p ≡ false
 no_sign c p r m = no_sign_of c p.code p.escaped r m
@@ -198,9 +228,10 @@ one_more made ranges s p (pending before c e w) m =
 
 reads_member : (made : List Token) (ranges all : List Range) (s : Telling) (pieces : List Piece) (r : Range) → IsSettled made ranges s → IsMember pieces r → all ≡ ranges ++ r ∷ [] → IsReadOn made all s pieces
 reads_member made ranges all s pieces r h (single p m w a) f = record {
-    after = inside made ranges (Begun p.code);
-    reads = ap (run telling_step (Some s)) w ∙ one_more made ranges s p h m;
-    settled = pending ranges p.code refl (f ∙ ap (λ z. ranges ++ z ∷ []) a) }
+  after = inside made ranges (Begun p.code);
+  reads = ap (run telling_step (Some s)) w ∙ one_more made ranges s p h m;
+  settled = pending ranges p.code refl (f ∙ ap (λ z. ranges ++ z ∷ []) a);
+}
 reads_member made ranges all s pieces r h (ranged p dash q m d n le w a) f =
     let step1 : telling_step s p ≡ Some (inside made ranges (Begun p.code)) = one_more made ranges s p h m in
     let step2 : telling_step (inside made ranges (Begun p.code)) dash ≡ Some (inside made ranges (Dashed p.code)) = taken (is_sign 45 dash) (Some (inside made ranges (Dashed p.code))) (member_step made (ranges ++ range p.code p.code ∷ []) dash) d in
@@ -208,7 +239,8 @@ reads_member made ranges all s pieces r h (ranged p dash q m d n le w a) f =
     record {
       after = inside made (ranges ++ range p.code q.code ∷ []) Fresh;
       reads = ap (run telling_step (Some s)) w ∙ ap (λ z. run telling_step z (dash ∷ q ∷ [])) step1 ∙ ap (λ z. run telling_step z (q ∷ [])) step2 ∙ step3;
-      settled = over (ap (λ z. inside made z Fresh) (sym (f ∙ ap (λ z. ranges ++ z ∷ []) a))) }
+      settled = over (ap (λ z. inside made z Fresh) (sym (f ∙ ap (λ z. ranges ++ z ∷ []) a)));
+    }
 
 reads_members : (made : List Token) (pieces : List Piece) (ranges : List Range) → AreMembers pieces ranges → IsReadOn made ranges (inside made [] Fresh) pieces
 reads_members made pieces ranges (first {r = r} m e) = reads_member made [] ranges (inside made [] Fresh) pieces r (over refl) m e
@@ -245,8 +277,9 @@ not_begin_of : (code : ℕ) (escaped : Bool) (t : Token) → token_of (record { 
 not_begin_of code true t e = refl
 not_begin_of code false t e =
     elim (cases_eq code 91) [
-      inr n ↦ ne_eqb code 91 n
-    | inl f ↦ let none : None ≡ Some t = subst (λ z. token_of (record { code = z; escaped = false }) ≡ Some t) f e in let no : ⊥ = cc in absurd no ]
+      | inr n ↦ ne_eqb code 91 n
+      | inl f ↦ let none : None ≡ Some t = subst (λ z. token_of (record { code = z; escaped = false }) ≡ Some t) f e in let no : ⊥ = cc in absurd no
+    ]
 
 -- a token isn't the beginning of a class
 not_begin : (p : Piece) (t : Token) → token_of p ≡ Some t → is_sign 91 p ≡ false
@@ -259,7 +292,7 @@ reads_token made pieces t (classed {members = members} {ranges = ranges} begin f
     let open_it : telling_step (outside made) begin ≡ Some (inside made [] Fresh) = taken (is_sign 91 begin) (Some (inside made [] Fresh)) (with_token made (token_of begin)) b in
     let a : IsReadOn made ranges (inside made [] Fresh) members = reads_members made members ranges h in
     let all : run telling_step (Some (inside made [] Fresh)) (members ++ finish ∷ []) ≡ Some (outside (made ++ Class ranges ∷ [])) =
-      run_then telling_step (Some (inside made [] Fresh)) (Some a.after) (Some (outside (made ++ Class ranges ∷ []))) members (finish ∷ []) (members ++ finish ∷ []) a.reads (finish_class made ranges a.after finish a.settled f (some_ranges members ranges h)) refl in
+    run_then telling_step (Some (inside made [] Fresh)) (Some a.after) (Some (outside (made ++ Class ranges ∷ []))) members (finish ∷ []) (members ++ finish ∷ []) a.reads (finish_class made ranges a.after finish a.settled f (some_ranges members ranges h)) refl in
     ap (run telling_step (Some (outside made))) w ∙ ap (λ z. run telling_step z (members ++ finish ∷ [])) open_it ∙ all ∙ ap (λ z. Some (outside (made ++ z ∷ []))) (sym e)
 
 reads_tokens : (pieces : List Piece) (tokens : List Token) → AreTokens pieces tokens → run telling_step (Some (outside [])) pieces ≡ Some (outside tokens)

@@ -13,7 +13,6 @@ pub struct Expression {
 impl Model for Expression {
     ghost use Rattle.ap_dix.specs.Forms.{Form};
     ghost use Rattle.ap_dix.specs.Plain.{plain};
-
     ghost use Rattle.ap_dix.specs.Codes.{form_code};
 
     ghost Value = { Form };

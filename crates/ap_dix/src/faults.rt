@@ -42,8 +42,7 @@ fn has_unsupported(given: &[Attribute]) -> bool
 fn is_unsupported(node: &Node) -> bool
     ensures { result ≡ is_unsupported (tag_of node.now) }
 {
-    is_named("ig", node)
-        || (is_named("e", node) && has_unsupported(node.attributes.as_slice()))
+    is_named("ig", node) || (is_named("e", node) && has_unsupported(node.attributes.as_slice()))
 }
 
 /// Whether it is `re` and its text is no expression.

@@ -25,7 +25,10 @@ fn is_skipped(c: char) -> bool
 pub fn is_reserved(c: char) -> bool
     ensures { result ≡ is_reserved c }
 {
-    matches!(c, '(' | ')' | '[' | ']' | '*' | '+' | '?' | '|' | '\\' | '^')
+    matches!(
+        c,
+        '(' | ')' | '[' | ']' | '*' | '+' | '?' | '|' | '\\' | '^'
+    )
 }
 
 impl Piece {

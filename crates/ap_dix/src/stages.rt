@@ -32,7 +32,11 @@ struct Stack {
 fn symbol_of(c: char) -> Symbol
     ensures { result ≡ symbol_of c }
 {
-    if c == ' ' { Symbol::Blank } else { Symbol::Letter(c) }
+    if c == ' ' {
+        Symbol::Blank
+    } else {
+        Symbol::Letter(c)
+    }
 }
 
 fn repeated(sign: Repetition, atom: Box<Expr>) -> Expr
@@ -128,11 +132,7 @@ fn close_step(below: Vec<Stage>, choices: Option<Exprs>) -> Result<Option<Stack>
     }
 }
 
-fn bar_step(
-    alloc: Global,
-    below: Vec<Stage>,
-    choices: Option<Exprs>,
-) -> Option<Stack>
+fn bar_step(alloc: Global, below: Vec<Stage>, choices: Option<Exprs>) -> Option<Stack>
     ensures { option_map stack_of result ≡ bar_step (reverse (map stage_of below.items)) (option_map (λ made. map plain made.items) choices) }
 {
     match choices {
@@ -201,7 +201,11 @@ fn stack_end(stack: Stack) -> Result<Option<Exprs>, Memory>
     ensures { IfOk result (λ all. option_map (λ made. map plain made.items) all ≡ stack_end (stack_of stack)) }
 {
     let Stack { top, below } = stack;
-    if below.is_empty() { closed(top) } else { Ok(None) }
+    if below.is_empty() {
+        closed(top)
+    } else {
+        Ok(None)
+    }
 }
 
 /// The choices that the tokens are, in a loop over a stack of what is open; None where they are no

@@ -299,16 +299,32 @@ fn two_hundred_parentheses_are_open_at_most(rt: HostRuntime) -> Result<(), Fail>
 
 #[test]
 fn expressions_are_read_or_refused(rt: HostRuntime) -> Result<(), Fail> {
-    for text in ["a", " ", "a|b c*", "(a)+", "[a-a]", "[\\^]", "\\(", "a-b", "(((a)?)*)+"] {
+    for text in [
+        "a",
+        " ",
+        "a|b c*",
+        "(a)+",
+        "[a-a]",
+        "[\\^]",
+        "\\(",
+        "a-b",
+        "(((a)?)*)+",
+    ] {
         let characters: Vec<char> = text.chars().collect(rt.alloc())?;
-        assert!(rt; read_expression(rt.alloc(), characters.as_slice())?.is_some(), "at {text}");
+        assert!(rt;
+            read_expression(rt.alloc(), characters.as_slice())?.is_some(),
+            "at {text}"
+        );
     }
     for text in [
         "", "|", "a|", "()", "(a", "a)", "*", "a**", "a+?", "[]", "[a", "[b-a]", "[a-b-c]", "[-a]",
         "[a-]", "[ ]", "[a(]", "]", "^", "\\", "\\ ", "(|a)",
     ] {
         let characters: Vec<char> = text.chars().collect(rt.alloc())?;
-        assert!(rt; read_expression(rt.alloc(), characters.as_slice())?.is_none(), "at {text}");
+        assert!(rt;
+            read_expression(rt.alloc(), characters.as_slice())?.is_none(),
+            "at {text}"
+        );
     }
     Ok(())
 }

@@ -58,7 +58,13 @@ fn token_of(piece: Piece) -> Option<Token>
         '*' => Some(Token::Repeat(Repetition::AnyNumber)),
         '+' => Some(Token::Repeat(Repetition::AtLeastOnce)),
         '?' => Some(Token::Repeat(Repetition::AtMostOnce)),
-        _ => { if is_reserved(code) { None } else { Some(Token::Character(code)) } }
+        _ => {
+            if is_reserved(code) {
+                None
+            } else {
+                Some(Token::Character(code))
+            }
+        }
     }
 }
 
@@ -140,11 +146,7 @@ fn class_step(
     }
 }
 
-fn outside_step(
-    alloc: Global,
-    made: Vec<Token>,
-    piece: Piece,
-) -> Result<Option<Telling>, Memory>
+fn outside_step(alloc: Global, made: Vec<Token>, piece: Piece) -> Result<Option<Telling>, Memory>
     ensures { IfOk result (λ next. option_map telling_of next ≡ outside_step made.items piece) }
 {
     if piece.is_sign('[') {
@@ -168,11 +170,7 @@ fn outside_step(
     }
 }
 
-fn telling_step(
-    alloc: Global,
-    telling: Telling,
-    piece: Piece,
-) -> Result<Option<Telling>, Memory>
+fn telling_step(alloc: Global, telling: Telling, piece: Piece) -> Result<Option<Telling>, Memory>
     ensures { IfOk result (λ next. option_map telling_of next ≡ telling_step (telling_of telling) piece) }
 {
     let Telling {

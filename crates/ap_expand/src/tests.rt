@@ -4,7 +4,8 @@ ghost use Rattle.ap_dix.specs.Soundness.{IsSound, is_entry_symbol, is_sound_part
 
 use crate::expansion::Expansion;
 use ap_dix::{
-    Dictionary, Entries, Entry, EntryPart, EntryParts, Expr, Expression, Kind, Pardef, Section, Side,
+    Dictionary, Entries, Entry, EntryPart, EntryParts, Expr, Expression, Kind, Pardef, Section,
+    Side,
 };
 use ap_symbol::{Bytes, Sequence, Symbol, TagName, Word};
 use std::alloc::Global;
@@ -205,12 +206,13 @@ fn directions_are_marked(rt: HostRuntime) -> Result<(), Fail> {
 #[test]
 fn expressions_stand_as_their_text(rt: HostRuntime) -> Result<(), Fail> {
     let alloc = rt.alloc();
-    let rows: [Row; 1] = [
-        kept(
-            Side::Both,
-            &[Piece::Regex("[0-9]+([.,][0-9]+)?"), Piece::Two("", "", "num")],
-        ),
-    ];
+    let rows: [Row; 1] = [kept(
+        Side::Both,
+        &[
+            Piece::Regex("[0-9]+([.,][0-9]+)?"),
+            Piece::Two("", "", "num"),
+        ],
+    )];
     let dictionary = dictionary_of(alloc, &[], &[], &rows)?;
     let text = lines_of(alloc, &dictionary)?;
     let want = "__REGEXP__[0-9]+([.,][0-9]+)?:__REGEXP__[0-9]+([.,][0-9]+)?<num>\n";

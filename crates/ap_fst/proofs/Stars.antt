@@ -49,8 +49,9 @@ at_end : (a : Sketch) (s t : ℕ) (w : List Label) → IsSketch a → s ≡ a.st
 at_end a s t w ok z (here e) = refl
 at_end a s t w ok z (on m listed q whole rest) =
     elim (in_either m a.moves (star_moves a) listed) [
-      inl k ↦ let h : m.from < a.states = (ok.each m k).from_in in absurd (omega arith)
-    | inr k ↦ absurd (not_from a m s ok z q (which a m k)) ]
+      | inl k ↦ let h : m.from < a.states = (ok.each m k).from_in in absurd (omega arith)
+      | inr k ↦ absurd (not_from a m s ok z q (which a m k))
+    ]
 
 -- to the draft's end, and then any number of its strings
 record IsRound (a : Sketch) (s : ℕ) (w : List Label) : Type 0 where
@@ -64,48 +65,54 @@ round : (a : Sketch) (s t : ℕ) (w : List Label) → IsSketch a → t ≡ a.sta
 round a s t w ok z lt (here e) = absurd (omega arith)
 round a s t w ok z lt (on {labels = labels} m listed q whole rest) =
     elim (in_either m a.moves (star_moves a) listed) [
-      inl k ↦
-        let r : IsRound a m.to labels = round a m.to t labels ok z (ok.each m k).to_in rest in
-        record {
-          front = option_to_list m.label ++ r.front;
-          back = r.back;
-          whole = whole ∙ ap (λ x. option_to_list m.label ++ x) r.whole ∙ sym (append_assoc (option_to_list m.label) r.front r.back);
-          first = on m k q refl r.first;
-          repeats = r.repeats }
-    | inr k ↦ elim (which a m k) [
-        enters e ↦ let f : m.from ≡ a.states = ap (λ (x : Move). x.from) e in absurd (omega arith)
-      | past e ↦ let f : m.from ≡ a.states = ap (λ (x : Move). x.from) e in absurd (omega arith)
-      | again e ↦
-          let to : m.to ≡ a.start = ap (λ (x : Move). x.to) e in
-          let lt' : m.to < a.states = subst (λ (x : ℕ). x < a.states) (sym to) ok.start_in in
-          let r : IsRound a m.to labels = round a m.to t labels ok z lt' rest in
+      | inl k ↦
+          let r : IsRound a m.to labels = round a m.to t labels ok z (ok.each m k).to_in rest in
           record {
-            front = [];
-            back = w;
-            whole = refl;
-            first = here (q ∙ ap (λ (x : Move). x.from) e);
-            repeats = more r.front r.back (none_of m a.finish a.start w labels e whole ∙ r.whole) (subst (λ (x : ℕ). Path a.moves x r.front a.finish) to r.first) r.repeats }
-      | leaves e ↦
-          let to : m.to ≡ a.states + 1 = ap (λ (x : Move). x.to) e in
-          let over : w ≡ [] = none_of m a.finish (a.states + 1) w labels e whole ∙ at_end a m.to t labels ok to rest in
-          record { front = []; back = w; whole = refl; first = here (q ∙ ap (λ (x : Move). x.from) e); repeats = subst (λ (x : List Label). Repeats a x) (sym over) done } ] ]
+            front = option_to_list m.label ++ r.front;
+            back = r.back;
+            whole = whole ∙ ap (λ x. option_to_list m.label ++ x) r.whole ∙ sym (append_assoc (option_to_list m.label) r.front r.back);
+            first = on m k q refl r.first;
+            repeats = r.repeats;
+          }
+      | inr k ↦ elim (which a m k) [
+        | enters e ↦ let f : m.from ≡ a.states = ap (λ (x : Move). x.from) e in absurd (omega arith)
+        | past e ↦ let f : m.from ≡ a.states = ap (λ (x : Move). x.from) e in absurd (omega arith)
+        | again e ↦
+            let to : m.to ≡ a.start = ap (λ (x : Move). x.to) e in
+            let lt' : m.to < a.states = subst (λ (x : ℕ). x < a.states) (sym to) ok.start_in in
+            let r : IsRound a m.to labels = round a m.to t labels ok z lt' rest in
+            record {
+              front = [];
+              back = w;
+              whole = refl;
+              first = here (q ∙ ap (λ (x : Move). x.from) e);
+              repeats = more r.front r.back (none_of m a.finish a.start w labels e whole ∙ r.whole) (subst (λ (x : ℕ). Path a.moves x r.front a.finish) to r.first) r.repeats;
+            }
+        | leaves e ↦
+            let to : m.to ≡ a.states + 1 = ap (λ (x : Move). x.to) e in
+            let over : w ≡ [] = none_of m a.finish (a.states + 1) w labels e whole ∙ at_end a m.to t labels ok to rest in
+            record { front = []; back = w; whole = refl; first = here (q ∙ ap (λ (x : Move). x.from) e); repeats = subst (λ (x : List Label). Repeats a x) (sym over) done }
+      ]
+    ]
 
 pub repeats_from_path : (a : Sketch) (s t : ℕ) (w : List Label) → IsSketch a → s ≡ a.states → t ≡ a.states + 1 → Path (all_moves a) s w t → Repeats a w
 repeats_from_path a s t w ok y z (here e) = absurd (omega arith)
 repeats_from_path a s t w ok y z (on {labels = labels} m listed q whole rest) =
     elim (in_either m a.moves (star_moves a) listed) [
-      inl k ↦ let h : m.from < a.states = (ok.each m k).from_in in absurd (omega arith)
-    | inr k ↦ elim (which a m k) [
-        enters e ↦
-          let to : m.to ≡ a.start = ap (λ (x : Move). x.to) e in
-          let r : IsRound a m.to labels = round a m.to t labels ok z (subst (λ (x : ℕ). x < a.states) (sym to) ok.start_in) rest in
-          more r.front r.back (none_of m a.states a.start w labels e whole ∙ r.whole) (subst (λ (x : ℕ). Path a.moves x r.front a.finish) to r.first) r.repeats
-      | past e ↦
-          let to : m.to ≡ a.states + 1 = ap (λ (x : Move). x.to) e in
-          let over : w ≡ [] = none_of m a.states (a.states + 1) w labels e whole ∙ at_end a m.to t labels ok to rest in
-          subst (λ (x : List Label). Repeats a x) (sym over) done
-      | again e ↦ let f : m.from ≡ a.finish = ap (λ (x : Move). x.from) e in let g : a.finish < a.states = ok.finish_in in absurd (omega arith)
-      | leaves e ↦ let f : m.from ≡ a.finish = ap (λ (x : Move). x.from) e in let g : a.finish < a.states = ok.finish_in in absurd (omega arith) ] ]
+      | inl k ↦ let h : m.from < a.states = (ok.each m k).from_in in absurd (omega arith)
+      | inr k ↦ elim (which a m k) [
+        | enters e ↦
+            let to : m.to ≡ a.start = ap (λ (x : Move). x.to) e in
+            let r : IsRound a m.to labels = round a m.to t labels ok z (subst (λ (x : ℕ). x < a.states) (sym to) ok.start_in) rest in
+            more r.front r.back (none_of m a.states a.start w labels e whole ∙ r.whole) (subst (λ (x : ℕ). Path a.moves x r.front a.finish) to r.first) r.repeats
+        | past e ↦
+            let to : m.to ≡ a.states + 1 = ap (λ (x : Move). x.to) e in
+            let over : w ≡ [] = none_of m a.states (a.states + 1) w labels e whole ∙ at_end a m.to t labels ok to rest in
+            subst (λ (x : List Label). Repeats a x) (sym over) done
+        | again e ↦ let f : m.from ≡ a.finish = ap (λ (x : Move). x.from) e in let g : a.finish < a.states = ok.finish_in in absurd (omega arith)
+        | leaves e ↦ let f : m.from ≡ a.finish = ap (λ (x : Move). x.from) e in let g : a.finish < a.states = ok.finish_in in absurd (omega arith)
+      ]
+    ]
 
 star_in : (a : Sketch) (m : Move) → IsIn m (star_moves a) → IsIn m (all_moves a)
 star_in a m h = in_back m a.moves (star_moves a) h
@@ -136,9 +143,10 @@ star_within a m ok (past e) = let f : m.from ≡ a.states = ap (λ (x : Move). x
 star_each : (a : Sketch) (m : Move) → IsSketch a → IsIn m (all_moves a) → IsWithin (a.states + 2) a.states (a.states + 1) m
 star_each a m ok i =
     elim (in_either m a.moves (star_moves a) i) [
-      inl k ↦ let w : IsWithin a.states a.start a.finish m = ok.each m k in let x : m.from < a.states = w.from_in in let y : m.to < a.states = w.to_in in
-        record { from_in = omega arith; to_in = omega arith; leaves = λ q. absurd (omega arith); enters = λ q. absurd (omega arith) }
-    | inr k ↦ star_within a m ok (which a m k) ]
+      | inl k ↦ let w : IsWithin a.states a.start a.finish m = ok.each m k in let x : m.from < a.states = w.from_in in let y : m.to < a.states = w.to_in in
+          record { from_in = omega arith; to_in = omega arith; leaves = λ q. absurd (omega arith); enters = λ q. absurd (omega arith) }
+      | inr k ↦ star_within a m ok (which a m k)
+    ]
 
 quiet_sided : (m : Move) (s t : ℕ) (l : Label) → m ≡ quiet s t → m.label ≡ Some l → IsTrue (has_side l)
 quiet_sided m s t l e b = let f : m.label ≡ None = ap (λ (x : Move). x.label) e in let none : ⊥ = cc in absurd none
@@ -152,16 +160,18 @@ star_move_sided a m l (past e) b = quiet_sided m a.states (a.states + 1) l e b
 star_sided : (a : Sketch) (m : Move) (l : Label) → IsSketch a → IsIn m (all_moves a) → m.label ≡ Some l → IsTrue (has_side l)
 star_sided a m l ok i b =
     elim (in_either m a.moves (star_moves a) i) [
-      inl k ↦ ok.sided m l k b
-    | inr k ↦ star_move_sided a m l (which a m k) b ]
+      | inl k ↦ ok.sided m l k b
+      | inr k ↦ star_move_sided a m l (which a m k) b
+    ]
 
 pub star_is_sketch : (a : Sketch) (moves : List Move) → IsSketch a → moves ≡ all_moves a → IsSketch (record { states = a.states + 2; start = a.states; finish = a.states + 1; moves = moves })
 star_is_sketch a moves ok e = record {
-    start_in = omega arith;
-    finish_in = omega arith;
-    apart = λ q. absurd (omega arith);
-    each = λ m i. star_each a m ok (subst (λ (z : List Move). IsIn m z) e i);
-    sided = λ m l i b. star_sided a m l ok (subst (λ (z : List Move). IsIn m z) e i) b }
+  start_in = omega arith;
+  finish_in = omega arith;
+  apart = λ q. absurd (omega arith);
+  each = λ m i. star_each a m ok (subst (λ (z : List Move). IsIn m z) e i);
+  sided = λ m l i b. star_sided a m l ok (subst (λ (z : List Move). IsIn m z) e i) b;
+}
 
 pub star_law : (a x : Sketch) (moves : List Move) → IsSketch a → moves ≡ all_moves a → a ≡ x → (w : List Label) → Path moves a.states w (a.states + 1) ↔ Repeats x w
 star_law a x moves ok e f w =
@@ -192,11 +202,12 @@ past_each a m ok e =
 
 pub opt_is_sketch : (a : Sketch) (moves : List Move) → IsSketch a → moves ≡ a.moves ++ past_moves a → IsSketch (record { states = a.states; start = a.start; finish = a.finish; moves = moves })
 opt_is_sketch a moves ok e = record {
-    start_in = ok.start_in;
-    finish_in = ok.finish_in;
-    apart = ok.apart;
-    each = λ m i. elim (in_either m a.moves (past_moves a) (subst (λ (z : List Move). IsIn m z) e i)) [ inl k ↦ ok.each m k | inr k ↦ past_each a m ok (only_past a m k) ];
-    sided = λ m l i b. elim (in_either m a.moves (past_moves a) (subst (λ (z : List Move). IsIn m z) e i)) [ inl k ↦ ok.sided m l k b | inr k ↦ quiet_sided m a.start a.finish l (only_past a m k) b ] }
+  start_in = ok.start_in;
+  finish_in = ok.finish_in;
+  apart = ok.apart;
+  each = λ m i. elim (in_either m a.moves (past_moves a) (subst (λ (z : List Move). IsIn m z) e i)) [ inl k ↦ ok.each m k | inr k ↦ past_each a m ok (only_past a m k) ];
+  sided = λ m l i b. elim (in_either m a.moves (past_moves a) (subst (λ (z : List Move). IsIn m z) e i)) [ inl k ↦ ok.sided m l k b | inr k ↦ quiet_sided m a.start a.finish l (only_past a m k) b ];
+}
 
 past_ends : (a : Sketch) (s : ℕ) (w : List Label) → IsSketch a → s ≡ a.finish → Path (past_moves a) s w a.finish → w ≡ []
 past_ends a s w ok z (here e) = refl
@@ -212,8 +223,9 @@ past_empty a w ok (on {labels = labels} m listed q whole rest) =
 opt_from_path : (a : Sketch) (w : List Label) → IsSketch a → Path (a.moves ++ past_moves a) a.start w a.finish → IsOptional a w
 opt_from_path a w ok p =
     elim (one_of a.states a.start a.finish a.moves (past_moves a) w ok.each (λ m i. inr (ap (λ (x : Move). x.to) (only_past a m i))) (λ m i. inr (ap (λ (x : Move). x.from) (only_past a m i))) p) [
-      inl k ↦ inr k
-    | inr k ↦ inl (past_empty a w ok k) ]
+      | inl k ↦ inr k
+      | inr k ↦ inl (past_empty a w ok k)
+    ]
 
 path_from_opt : (a : Sketch) (w : List Label) → IsOptional a w → Path (a.moves ++ past_moves a) a.start w a.finish
 path_from_opt a w (inl e) =
@@ -242,8 +254,9 @@ plus_in_star a m (inr (inr (inr h))) = elim h [ ]
 
 more_in_all : (a : Sketch) (m : Move) → IsIn m (more_moves a) → IsIn m (all_moves a)
 more_in_all a m i = elim (in_either m a.moves (plus_moves a) i) [
-      inl k ↦ in_front m a.moves (star_moves a) k
-    | inr k ↦ in_back m a.moves (star_moves a) (plus_in_star a m k) ]
+  | inl k ↦ in_front m a.moves (star_moves a) k
+  | inr k ↦ in_back m a.moves (star_moves a) (plus_in_star a m k)
+]
 
 not_past : (a : Sketch) (m : Move) → IsSketch a → IsIn m (plus_moves a) → a.states ≡ m.from → m ≡ quiet a.states a.start
 not_past a m ok (inl e) q = e
@@ -255,17 +268,19 @@ more_from_path : (a : Sketch) (s t : ℕ) (w : List Label) → IsSketch a → s 
 more_from_path a s t w ok y z (here e) = absurd (omega arith)
 more_from_path a s t w ok y z (on {labels = labels} m listed q whole rest) =
     elim (in_either m a.moves (plus_moves a) listed) [
-      inl k ↦ let h : m.from < a.states = (ok.each m k).from_in in absurd (omega arith)
-    | inr k ↦
-        let e : m ≡ quiet a.states a.start = not_past a m ok k (sym y ∙ q) in
-        let to : m.to ≡ a.start = ap (λ (x : Move). x.to) e in
-        let r : IsRound a m.to labels = round a m.to t labels ok z (subst (λ (x : ℕ). x < a.states) (sym to) ok.start_in) (path_in_more (more_moves a) (all_moves a) m.to t labels (more_in_all a) rest) in
-        record {
-          front = r.front;
-          back = r.back;
-          whole = none_of m a.states a.start w labels e whole ∙ r.whole;
-          first = subst (λ (x : ℕ). Path a.moves x r.front a.finish) to r.first;
-          repeats = r.repeats } ]
+      | inl k ↦ let h : m.from < a.states = (ok.each m k).from_in in absurd (omega arith)
+      | inr k ↦
+          let e : m ≡ quiet a.states a.start = not_past a m ok k (sym y ∙ q) in
+          let to : m.to ≡ a.start = ap (λ (x : Move). x.to) e in
+          let r : IsRound a m.to labels = round a m.to t labels ok z (subst (λ (x : ℕ). x < a.states) (sym to) ok.start_in) (path_in_more (more_moves a) (all_moves a) m.to t labels (more_in_all a) rest) in
+          record {
+            front = r.front;
+            back = r.back;
+            whole = none_of m a.states a.start w labels e whole ∙ r.whole;
+            first = subst (λ (x : ℕ). Path a.moves x r.front a.finish) to r.first;
+            repeats = r.repeats;
+          }
+    ]
 
 plus_on : (a : Sketch) (m : Move) → IsIn m (plus_moves a) → IsIn m (more_moves a)
 plus_on a m h = in_back m a.moves (plus_moves a) h
@@ -284,11 +299,12 @@ path_from_more a w h =
 
 pub plus_is_sketch : (a : Sketch) (moves : List Move) → IsSketch a → moves ≡ more_moves a → IsSketch (record { states = a.states + 2; start = a.states; finish = a.states + 1; moves = moves })
 plus_is_sketch a moves ok e = record {
-    start_in = omega arith;
-    finish_in = omega arith;
-    apart = λ q. absurd (omega arith);
-    each = λ m i. star_each a m ok (more_in_all a m (subst (λ (z : List Move). IsIn m z) e i));
-    sided = λ m l i b. star_sided a m l ok (more_in_all a m (subst (λ (z : List Move). IsIn m z) e i)) b }
+  start_in = omega arith;
+  finish_in = omega arith;
+  apart = λ q. absurd (omega arith);
+  each = λ m i. star_each a m ok (more_in_all a m (subst (λ (z : List Move). IsIn m z) e i));
+  sided = λ m l i b. star_sided a m l ok (more_in_all a m (subst (λ (z : List Move). IsIn m z) e i)) b;
+}
 
 pub plus_law : (a x : Sketch) (moves : List Move) → IsSketch a → moves ≡ more_moves a → a ≡ x → (w : List Label) → Path moves a.states w (a.states + 1) ↔ IsMoreThanNone x w
 plus_law a x moves ok e f w =

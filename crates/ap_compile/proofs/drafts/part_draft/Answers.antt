@@ -36,4 +36,4 @@ returns-in-Expression c =
     if_ok_more c.expression_draft.result _ _ (λ made h d are.
     subst (λ (p : EntryPart). IsDraftOf (Derives d c.args.direction (p ∷ [])) made) (sym c.in-Expression.is)
     (part_drafted d c.args.direction c.in-Expression.expression c.in-Expression.field-1 made
-      (form_drafted c.in-Expression.expression (plain c.tree.result.now) made (sym c.tree.ensures) (h (form_sound c.in-Expression.expression (plain c.tree.result.now) (sym c.tree.ensures) sound))))) c.expression_draft.ensures
+    (form_drafted c.in-Expression.expression (plain c.tree.result.now) made (sym c.tree.ensures) (h (form_sound c.in-Expression.expression (plain c.tree.result.now) (sym c.tree.ensures) sound))))) c.expression_draft.ensures

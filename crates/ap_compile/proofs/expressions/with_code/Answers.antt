@@ -24,4 +24,4 @@ returns c =
     let scalar : IsScalar c.in-Some.c = subst IsScalar (sym c.in-Some.ensures.value.1) c.in-Some.ensures.value.0 in
     let dark : IsTrue (not (is_white c.in-Some.c)) = ap not (sym c.is_white.ensures ∙ c.if-is_white.false) in
     if_ok_more c.either.result _ _ (λ made h. subst (λ (z : ℕ). IsMoreBy (OfStrings (IsCode z)) c.args.made made) c.in-Some.ensures.value.1
-      (more_draft (OfStrings (IsCode c.in-Some.c)) c.args.made c.in_ok-more.more made (strings_draft (λ s. s ≡ Letter c.in-Some.c ∷ []) (IsCode c.in-Some.c) c.in_ok-more.more (c.in_ok-more.ensures dark) (code_strings c.in-Some.c scalar dark)) h)) c.either.ensures
+    (more_draft (OfStrings (IsCode c.in-Some.c)) c.args.made c.in_ok-more.more made (strings_draft (λ s. s ≡ Letter c.in-Some.c ∷ []) (IsCode c.in-Some.c) c.in_ok-more.more (c.in_ok-more.ensures dark) (code_strings c.in-Some.c scalar dark)) h)) c.either.ensures
