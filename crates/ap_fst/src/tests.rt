@@ -90,3 +90,28 @@ fn a_label_may_read_nothing(rt: HostRuntime) -> Result<(), Fail> {
     assert_eq!(rt; empty_cycle(alloc, &fst)?, None);
     Ok(())
 }
+
+#[test]
+fn drafts_are_repeated(rt: HostRuntime) -> Result<(), Fail> {
+    let alloc = rt.alloc();
+    let star = trim(
+        alloc,
+        &without_empty(alloc, &letter_draft(alloc, 'a')?.star()?)?,
+    )?;
+    assert!(rt; star.is_final(0));
+    assert_eq!(rt; star.edges_from(0).len(), 1);
+    assert_eq!(rt; star.edges().len(), 2);
+    let plus = trim(
+        alloc,
+        &without_empty(alloc, &letter_draft(alloc, 'a')?.plus()?)?,
+    )?;
+    assert!(rt; !plus.is_final(0));
+    assert_eq!(rt; plus.edges().len(), 2);
+    let opt = trim(
+        alloc,
+        &without_empty(alloc, &letter_draft(alloc, 'a')?.opt()?)?,
+    )?;
+    assert!(rt; opt.is_final(0));
+    assert_eq!(rt; opt.edges().len(), 1);
+    Ok(())
+}
