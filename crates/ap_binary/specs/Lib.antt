@@ -1,0 +1,4 @@
+pub mod Text
+pub mod Refusals
+pub mod Reading
+pub mod Pieces
