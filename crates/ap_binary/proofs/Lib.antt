@@ -1,3 +1,4 @@
 pub mod Spans
 pub mod Numbers
 pub mod Puts
+pub mod Going

@@ -6,3 +6,11 @@ pub(crate) struct Head {
     pub edges: Option<u64>,
     pub finals: Option<u64>,
 }
+
+/// How many states, edges and final states a section has.
+#[derive(Clone, Copy, Debug, PartialEq, Eq)]
+pub(crate) struct Counts {
+    pub states: u64,
+    pub edges: u64,
+    pub finals: u64,
+}
