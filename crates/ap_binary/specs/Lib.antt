@@ -3,3 +3,4 @@ pub mod Refusals
 pub mod Reading
 pub mod Pieces
 pub mod Lines
+pub mod Spelling
