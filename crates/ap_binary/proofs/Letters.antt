@@ -1,6 +1,6 @@
 -- The letters of an alphabet's line.
 use Rattle.std.proofs.Common.{◌≡◌, ◌⊎◌, inl, inr, ℕ, suc, zero, ◌+◌, ◌-◌, ◌<◌, ◌≤◌, eqb, Bool, true, false, not, ◌||◌, ◌&&◌, nat_le, nat_lt, List, [], ◌∷◌, ◌++◌, length, get_or, refl, sym, ◌∙◌, ap, subst, append_assoc, append-nil, arith, Option, Some, None, cond}
-use Rattle.std.specs.Prelude.{◌↔◌, IsTrue, ◌==◌, if◌then◌else◌}
+use Rattle.std.specs.Prelude.{◌↔◌, IsTrue, ◌==◌, if◌then◌else◌, codes, IfSome}
 use Rattle.std.specs.List.{list_any, list_all}
 use Rattle.std.specs.Ordering.{nat_cmp}
 use Rattle.std.specs.declared.cmp.Ordering.TheVariants.{Less}
@@ -16,7 +16,7 @@ use Rattle.ap_binary.specs.Reading.{◌>>=◌, Fails}
 use Rattle.ap_binary.specs.Pieces.{is_character, scalar_of, unless_white, character_of, number_at, character_at, byte_at, word_at, begins_with, next_letter_at, with_letters, letters_in, alphabet_at}
 use Rattle.ap_binary.specs.declared.refusal.CutError.{CutError}
 use Rattle.ap_binary.specs.declared.refusal.CutError.TheVariants.{Bad, Memory}
-use Rattle.ap_binary.proofs.Options.{bound, IsBound, some_if, some_unless}
+use Rattle.ap_binary.proofs.Options.{bound, IsBound, some_if, some_unless, bind_some, chosen_if}
 
 -- ---- reading goes on
 
@@ -166,3 +166,22 @@ pub fails_at : {X : Type 0} (p : X → Bool) (xs : List X) (i : ℕ) (d : X) →
 fails_at p [] i d lt e = absurd (omega arith)
 fails_at p (x ∷ xs) zero d lt e = rw e refl
 fails_at p (x ∷ xs) (suc i) d lt e = and_false (p x) ∙ ap (λ z. p x && z) (fails_at p xs i d (omega arith) e)
+
+-- ---- the alphabet
+
+all_pass : {X : Type 0} (p : X → Bool) (xs : List X) → ((x : X) → IsIn x xs → p x ≡ true) → list_all p xs ≡ true
+all_pass p [] h = refl
+all_pass p (x ∷ xs) h = let a : p x ≡ true = h x (inl refl) in let b : list_all p xs ≡ true = all_pass p xs (λ y i. h y (inr i)) in rw (a, b) refl
+
+alphabet_from : (letters : List ℕ) → AreLetters 0 letters → is_closed letters ≡ true → IsAlphabet letters
+alphabet_from letters are closed = record { ascend = are.ascend; closed = closed; no_white = all_pass (λ c. not (is_white c)) letters (λ c i. ap not (are.plain c i).plain) }
+
+pub alphabet_good : (bytes : List ℕ) → IfSome (alphabet_at bytes) (λ x. IsAlphabet x.0)
+unfolding alphabet_at
+alphabet_good bytes =
+    let V : Type 0 = List ℕ × List ℕ in
+    let P : V → Type 0 = λ x. IsAlphabet x.0 in
+    bind_some {A = List ℕ} {B = V} (word_at (codes "alphabet") bytes) (λ word. ◌>>=◌ {A = V} {B = V} (letters_in (length word) 0 word) (λ letters. ◌>>=◌ {A = List ℕ} {B = V} (byte_at 10 letters.1) (λ rest. if is_closed letters.0 then Some (letters.0, rest) else None))) P
+      (λ word is. bind_some {A = V} {B = V} (letters_in (length word) 0 word) (λ letters. ◌>>=◌ {A = List ℕ} {B = V} (byte_at 10 letters.1) (λ rest. if is_closed letters.0 then Some (letters.0, rest) else None)) P
+        (λ letters is2. bind_some {A = List ℕ} {B = V} (byte_at 10 letters.1) (λ rest. if is_closed letters.0 then Some (letters.0, rest) else None) P
+          (λ rest is3. chosen_if (is_closed letters.0) (letters.0, rest) P (λ closed. alphabet_from letters.0 (letters_are (length word) 0 word letters.0 letters.1 is2) closed))))

@@ -6,3 +6,5 @@ pub mod Options
 pub mod Letters
 pub mod Labels
 pub mod Edges
+pub mod Files
+pub mod Trimmed

@@ -34,3 +34,7 @@ bind_some (Some x) f P h = h x refl
 pub some_holds : {A : Type 0} (r : Option A) (x : A) (P : A → Type 0) → IfSome r P → r ≡ Some x → P x
 some_holds (Some y) x P h e = subst P (same_Some y x e) h
 some_holds None x P h e = cc
+
+pub chosen_if : {A : Type 0} (b : Bool) (x : A) (P : A → Type 0) → (b ≡ true → P x) → IfSome (if b then Some x else None) P
+chosen_if true x P h = h refl
+chosen_if false x P h = tt
