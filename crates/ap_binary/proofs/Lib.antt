@@ -8,3 +8,10 @@ pub mod Labels
 pub mod Edges
 pub mod Files
 pub mod Trimmed
+pub mod Once
+pub mod Numerals
+pub mod Rereading
+pub mod Realphabet
+pub mod Reread
+pub mod Itself
+pub mod RoundTrip

@@ -4,3 +4,4 @@ pub mod Reading
 pub mod Pieces
 pub mod Lines
 pub mod Spelling
+pub mod Held

@@ -4,6 +4,7 @@
 mod alphabet;
 mod file;
 mod heads;
+mod laws;
 mod lines;
 mod pieces;
 mod reading;
@@ -11,6 +12,7 @@ mod refusal;
 mod sections;
 mod writing;
 
+pub use laws::{has_one_fault, spells_compiled, spells_one, spells_without_fault};
 pub use reading::read_compiled;
 pub use refusal::{BinaryFault, BinaryKind, BinaryRefusal};
 pub use writing::write_compiled;
