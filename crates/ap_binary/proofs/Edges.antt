@@ -58,9 +58,9 @@ unfolding edge_line
 next_edge states line before bytes =
     let P : Edge × List ℕ → Type 0 = λ x. IsNextEdge states before x.0 in
     bind_ok {A = Edge × List ℕ} {B = Edge × List ℕ} (on_line line (edge_at bytes)) (judged_edge states before line) P
-      (λ x is. let good : IsGoodLabel x.0.label = some_holds (edge_at bytes) x (λ y. IsGoodLabel y.0.label) (edge_good bytes) (on_line_some line (edge_at bytes) x is) in
-        or_else (follows before x.0) x (fault BadLine line) P (if not (is_within states x.0) then Err (fault OutOfRange line) else Ok x)
-          (λ b. or_else (is_within states x.0) x (fault OutOfRange line) P (Ok x) (λ w. record { behind = b; within = w; good = good })))
+    (λ x is. let good : IsGoodLabel x.0.label = some_holds (edge_at bytes) x (λ y. IsGoodLabel y.0.label) (edge_good bytes) (on_line_some line (edge_at bytes) x is) in
+    or_else (follows before x.0) x (fault BadLine line) P (if not (is_within states x.0) then Err (fault OutOfRange line) else Ok x)
+    (λ b. or_else (is_within states x.0) x (fault OutOfRange line) P (Ok x) (λ w. record { behind = b; within = w; good = good })))
 
 pub record AreEdges (count states : ℕ) (before : Option Edge) (es : List Edge) : Type 0 where
   pub counted : length es ≡ count
@@ -101,9 +101,9 @@ edges_are zero states line before bytes = record { counted = refl; ascend = tt; 
 edges_are (suc n) states line before bytes =
     let P : List Edge × List ℕ → Type 0 = λ x. AreEdges (suc n) states before x.0 in
     bind_ok {A = Edge × List ℕ} {B = List Edge × List ℕ} (edge_line states before line bytes) (λ e. with_edges (e.0 ∷ []) (edges_in n states (Some e.0) (line + 1) e.1)) P
-      (λ e is. bind_ok {A = List Edge × List ℕ} {B = List Edge × List ℕ} (edges_in n states (Some e.0) (line + 1) e.1) (λ x. Ok ((e.0 ∷ []) ++ x.0, x.1)) P
-        (λ x is2. more_edges n states before e.0 x.0 (ok_holds (edge_line states before line bytes) e (λ y. IsNextEdge states before y.0) (next_edge states line before bytes) is)
-          (ok_holds (edges_in n states (Some e.0) (line + 1) e.1) x (λ y. AreEdges n states (Some e.0) y.0) (edges_are n states (line + 1) (Some e.0) e.1) is2)))
+    (λ e is. bind_ok {A = List Edge × List ℕ} {B = List Edge × List ℕ} (edges_in n states (Some e.0) (line + 1) e.1) (λ x. Ok ((e.0 ∷ []) ++ x.0, x.1)) P
+    (λ x is2. more_edges n states before e.0 x.0 (ok_holds (edge_line states before line bytes) e (λ y. IsNextEdge states before y.0) (next_edge states line before bytes) is)
+    (ok_holds (edges_in n states (Some e.0) (line + 1) e.1) x (λ y. AreEdges n states (Some e.0) y.0) (edges_are n states (line + 1) (Some e.0) e.1) is2)))
 
 -- ---- final states
 
@@ -116,8 +116,8 @@ unfolding final_line
 next_final states least line bytes =
     let P : ℕ × List ℕ → Type 0 = λ x. IsNextFinal states least x.0 in
     bind_ok {A = ℕ × List ℕ} {B = ℕ × List ℕ} (on_line line (final_at bytes)) (judged_final states least line) P
-      (λ x is. or_else (nat_le least x.0) x (fault BadLine line) P (if not (nat_lt x.0 states) then Err (fault OutOfRange line) else Ok x)
-          (λ b. or_else (nat_lt x.0 states) x (fault OutOfRange line) P (Ok x) (λ w. record { behind = grind (arith, nat_tests, b); within = grind (arith, nat_tests, w) })))
+    (λ x is. or_else (nat_le least x.0) x (fault BadLine line) P (if not (nat_lt x.0 states) then Err (fault OutOfRange line) else Ok x)
+    (λ b. or_else (nat_lt x.0 states) x (fault OutOfRange line) P (Ok x) (λ w. record { behind = grind (arith, nat_tests, b); within = grind (arith, nat_tests, w) })))
 
 pub record AreFinals (count states least : ℕ) (fs : List ℕ) : Type 0 where
   pub counted : length fs ≡ count
@@ -139,9 +139,9 @@ finals_are zero states least line bytes = record { counted = refl; ascend = tt; 
 finals_are (suc n) states least line bytes =
     let P : List ℕ × List ℕ → Type 0 = λ x. AreFinals (suc n) states least x.0 in
     bind_ok {A = ℕ × List ℕ} {B = List ℕ × List ℕ} (final_line states least line bytes) (λ s. with_finals (s.0 ∷ []) (finals_in n states (s.0 + 1) (line + 1) s.1)) P
-      (λ s is. bind_ok {A = List ℕ × List ℕ} {B = List ℕ × List ℕ} (finals_in n states (s.0 + 1) (line + 1) s.1) (λ x. Ok ((s.0 ∷ []) ++ x.0, x.1)) P
-        (λ x is2. more_finals n states least s.0 x.0 (ok_holds (final_line states least line bytes) s (λ y. IsNextFinal states least y.0) (next_final states least line bytes) is)
-          (ok_holds (finals_in n states (s.0 + 1) (line + 1) s.1) x (λ y. AreFinals n states (s.0 + 1) y.0) (finals_are n states (s.0 + 1) (line + 1) s.1) is2)))
+    (λ s is. bind_ok {A = List ℕ × List ℕ} {B = List ℕ × List ℕ} (finals_in n states (s.0 + 1) (line + 1) s.1) (λ x. Ok ((s.0 ∷ []) ++ x.0, x.1)) P
+    (λ x is2. more_finals n states least s.0 x.0 (ok_holds (final_line states least line bytes) s (λ y. IsNextFinal states least y.0) (next_final states least line bytes) is)
+    (ok_holds (finals_in n states (s.0 + 1) (line + 1) s.1) x (λ y. AreFinals n states (s.0 + 1) y.0) (finals_are n states (s.0 + 1) (line + 1) s.1) is2)))
 
 -- ---- a section
 

@@ -38,8 +38,8 @@ head_some kind line bytes =
     let C : Type 0 = Counts × List ℕ in
     let P : C → Type 0 = λ x. 0 < x.0.states in
     bind_ok {A = H} {B = C} (on_line line (head_at kind bytes)) (λ head. ◌>>=◌ {A = Counts} {B = C} (counts_of line head.0.states head.0.edges head.0.finals) (λ counts. Ok (counts, head.1))) P
-      (λ head is. bind_ok {A = Counts} {B = C} (counts_of line head.0.states head.0.edges head.0.finals) (λ counts. Ok (counts, head.1)) P
-        (λ counts is2. ok_holds (counts_of line head.0.states head.0.edges head.0.finals) counts (λ k. 0 < k.states) (counts_some line head.0.states head.0.edges head.0.finals) is2))
+    (λ head is. bind_ok {A = Counts} {B = C} (counts_of line head.0.states head.0.edges head.0.finals) (λ counts. Ok (counts, head.1)) P
+    (λ counts is2. ok_holds (counts_of line head.0.states head.0.edges head.0.finals) counts (λ k. 0 < k.states) (counts_some line head.0.states head.0.edges head.0.finals) is2))
 
 section_raw : (kind : Kind2) (line : ℕ) (bytes : List ℕ) → IfOk (section_in kind line bytes) (λ x. IsRaw x.0.fst)
 unfolding section_in
@@ -50,12 +50,12 @@ section_raw kind line bytes =
     let W : Type 0 = Written × List ℕ in
     let P : W → Type 0 = λ x. IsRaw x.0.fst in
     bind_ok {A = C} {B = W} (head_line kind line bytes) (λ head. ◌>>=◌ {A = E} {B = W} (edges_in head.0.edges head.0.states None (line + 1) head.1) (λ edges. ◌>>=◌ {A = F} {B = W} (finals_in head.0.finals head.0.states 0 (line + 1 + head.0.edges) edges.1) (λ finals. Ok (record { fst = record { states = head.0.states; edges = edges.0; finals = finals.0 }; line = line }, finals.1)))) P
-      (λ head is. bind_ok {A = E} {B = W} (edges_in head.0.edges head.0.states None (line + 1) head.1) (λ edges. ◌>>=◌ {A = F} {B = W} (finals_in head.0.finals head.0.states 0 (line + 1 + head.0.edges) edges.1) (λ finals. Ok (record { fst = record { states = head.0.states; edges = edges.0; finals = finals.0 }; line = line }, finals.1))) P
-        (λ edges is2. bind_ok {A = F} {B = W} (finals_in head.0.finals head.0.states 0 (line + 1 + head.0.edges) edges.1) (λ finals. Ok (record { fst = record { states = head.0.states; edges = edges.0; finals = finals.0 }; line = line }, finals.1)) P
-          (λ finals is3. raw_read (record { states = head.0.states; edges = edges.0; finals = finals.0 }) head.0.edges head.0.finals
-            (ok_holds (head_line kind line bytes) head (λ x. 0 < x.0.states) (head_some kind line bytes) is)
-            (ok_holds (edges_in head.0.edges head.0.states None (line + 1) head.1) edges (λ x. AreEdges head.0.edges head.0.states None x.0) (edges_are head.0.edges head.0.states (line + 1) None head.1) is2)
-            (ok_holds (finals_in head.0.finals head.0.states 0 (line + 1 + head.0.edges) edges.1) finals (λ x. AreFinals head.0.finals head.0.states 0 x.0) (finals_are head.0.finals head.0.states 0 (line + 1 + head.0.edges) edges.1) is3))))
+    (λ head is. bind_ok {A = E} {B = W} (edges_in head.0.edges head.0.states None (line + 1) head.1) (λ edges. ◌>>=◌ {A = F} {B = W} (finals_in head.0.finals head.0.states 0 (line + 1 + head.0.edges) edges.1) (λ finals. Ok (record { fst = record { states = head.0.states; edges = edges.0; finals = finals.0 }; line = line }, finals.1))) P
+    (λ edges is2. bind_ok {A = F} {B = W} (finals_in head.0.finals head.0.states 0 (line + 1 + head.0.edges) edges.1) (λ finals. Ok (record { fst = record { states = head.0.states; edges = edges.0; finals = finals.0 }; line = line }, finals.1)) P
+    (λ finals is3. raw_read (record { states = head.0.states; edges = edges.0; finals = finals.0 }) head.0.edges head.0.finals
+    (ok_holds (head_line kind line bytes) head (λ x. 0 < x.0.states) (head_some kind line bytes) is)
+    (ok_holds (edges_in head.0.edges head.0.states None (line + 1) head.1) edges (λ x. AreEdges head.0.edges head.0.states None x.0) (edges_are head.0.edges head.0.states (line + 1) None head.1) is2)
+    (ok_holds (finals_in head.0.finals head.0.states 0 (line + 1 + head.0.edges) edges.1) finals (λ x. AreFinals head.0.finals head.0.states 0 x.0) (finals_are head.0.finals head.0.states 0 (line + 1 + head.0.edges) edges.1) is3))))
 
 pub record AreRaw (s : Sections) : Type 0 where
   pub standard : IsRaw s.standard.fst
@@ -73,10 +73,10 @@ sections_raw line bytes =
     let S : Type 0 = Sections × List ℕ in
     let P : S → Type 0 = λ x. AreRaw x.0 in
     bind_ok {A = W} {B = S} (section_in Standard line bytes) (λ a. ◌>>=◌ {A = W} {B = S} (section_in Inconditional (line_after a.0) a.1) (λ b. ◌>>=◌ {A = W} {B = S} (section_in Postblank (line_after b.0) b.1) (λ c. ◌>>=◌ {A = W} {B = S} (section_in Preblank (line_after c.0) c.1) (λ d. Ok (record { standard = a.0; inconditional = b.0; postblank = c.0; preblank = d.0 }, d.1))))) P
-      (λ a is. bind_ok {A = W} {B = S} (section_in Inconditional (line_after a.0) a.1) (λ b. ◌>>=◌ {A = W} {B = S} (section_in Postblank (line_after b.0) b.1) (λ c. ◌>>=◌ {A = W} {B = S} (section_in Preblank (line_after c.0) c.1) (λ d. Ok (record { standard = a.0; inconditional = b.0; postblank = c.0; preblank = d.0 }, d.1)))) P
-        (λ b is2. bind_ok {A = W} {B = S} (section_in Postblank (line_after b.0) b.1) (λ c. ◌>>=◌ {A = W} {B = S} (section_in Preblank (line_after c.0) c.1) (λ d. Ok (record { standard = a.0; inconditional = b.0; postblank = c.0; preblank = d.0 }, d.1))) P
-          (λ c is3. bind_ok {A = W} {B = S} (section_in Preblank (line_after c.0) c.1) (λ d. Ok (record { standard = a.0; inconditional = b.0; postblank = c.0; preblank = d.0 }, d.1)) P
-            (λ d is4. record { standard = raw_at Standard line bytes a is; inconditional = raw_at Inconditional (line_after a.0) a.1 b is2; postblank = raw_at Postblank (line_after b.0) b.1 c is3; preblank = raw_at Preblank (line_after c.0) c.1 d is4 }))))
+    (λ a is. bind_ok {A = W} {B = S} (section_in Inconditional (line_after a.0) a.1) (λ b. ◌>>=◌ {A = W} {B = S} (section_in Postblank (line_after b.0) b.1) (λ c. ◌>>=◌ {A = W} {B = S} (section_in Preblank (line_after c.0) c.1) (λ d. Ok (record { standard = a.0; inconditional = b.0; postblank = c.0; preblank = d.0 }, d.1)))) P
+    (λ b is2. bind_ok {A = W} {B = S} (section_in Postblank (line_after b.0) b.1) (λ c. ◌>>=◌ {A = W} {B = S} (section_in Preblank (line_after c.0) c.1) (λ d. Ok (record { standard = a.0; inconditional = b.0; postblank = c.0; preblank = d.0 }, d.1))) P
+    (λ c is3. bind_ok {A = W} {B = S} (section_in Preblank (line_after c.0) c.1) (λ d. Ok (record { standard = a.0; inconditional = b.0; postblank = c.0; preblank = d.0 }, d.1)) P
+    (λ d is4. record { standard = raw_at Standard line bytes a is; inconditional = raw_at Inconditional (line_after a.0) a.1 b is2; postblank = raw_at Postblank (line_after b.0) b.1 c is3; preblank = raw_at Preblank (line_after c.0) c.1 d is4 }))))
 
 pub record IsRawFile (f : File) : Type 0 where
   pub alphabet : IsAlphabet f.alphabet
@@ -88,10 +88,10 @@ file_raw text =
     let A2 : Type 0 = List ℕ × List ℕ in
     let S : Type 0 = Sections × List ℕ in
     bind_ok {A = List ℕ} {B = File} (on_header (word_at (codes "LTC1\n") text)) (λ rest. ◌>>=◌ {A = A2} {B = File} (on_line 2 (alphabet_at rest)) (λ alphabet. ◌>>=◌ {A = S} {B = File} (sections_in 3 alphabet.1) (λ sections. ◌>>=◌ {A = List ℕ} {B = File} (end_in (line_after sections.0.preblank) sections.1) (λ none. Ok (record { alphabet = alphabet.0; sections = sections.0 }))))) IsRawFile
-      (λ rest is. bind_ok {A = A2} {B = File} (on_line 2 (alphabet_at rest)) (λ alphabet. ◌>>=◌ {A = S} {B = File} (sections_in 3 alphabet.1) (λ sections. ◌>>=◌ {A = List ℕ} {B = File} (end_in (line_after sections.0.preblank) sections.1) (λ none. Ok (record { alphabet = alphabet.0; sections = sections.0 })))) IsRawFile
-        (λ alphabet is2. bind_ok {A = S} {B = File} (sections_in 3 alphabet.1) (λ sections. ◌>>=◌ {A = List ℕ} {B = File} (end_in (line_after sections.0.preblank) sections.1) (λ none. Ok (record { alphabet = alphabet.0; sections = sections.0 }))) IsRawFile
-          (λ sections is3. bind_ok {A = List ℕ} {B = File} (end_in (line_after sections.0.preblank) sections.1) (λ none. Ok (record { alphabet = alphabet.0; sections = sections.0 })) IsRawFile
-            (λ none is4. record {
-              alphabet = some_holds (alphabet_at rest) alphabet (λ x. IsAlphabet x.0) (alphabet_good rest) (on_line_some 2 (alphabet_at rest) alphabet is2);
-              sections = ok_holds (sections_in 3 alphabet.1) sections (λ x. AreRaw x.0) (sections_raw 3 alphabet.1) is3;
-            }))))
+    (λ rest is. bind_ok {A = A2} {B = File} (on_line 2 (alphabet_at rest)) (λ alphabet. ◌>>=◌ {A = S} {B = File} (sections_in 3 alphabet.1) (λ sections. ◌>>=◌ {A = List ℕ} {B = File} (end_in (line_after sections.0.preblank) sections.1) (λ none. Ok (record { alphabet = alphabet.0; sections = sections.0 })))) IsRawFile
+    (λ alphabet is2. bind_ok {A = S} {B = File} (sections_in 3 alphabet.1) (λ sections. ◌>>=◌ {A = List ℕ} {B = File} (end_in (line_after sections.0.preblank) sections.1) (λ none. Ok (record { alphabet = alphabet.0; sections = sections.0 }))) IsRawFile
+    (λ sections is3. bind_ok {A = List ℕ} {B = File} (end_in (line_after sections.0.preblank) sections.1) (λ none. Ok (record { alphabet = alphabet.0; sections = sections.0 })) IsRawFile
+    (λ none is4. record {
+      alphabet = some_holds (alphabet_at rest) alphabet (λ x. IsAlphabet x.0) (alphabet_good rest) (on_line_some 2 (alphabet_at rest) alphabet is2);
+      sections = ok_holds (sections_in 3 alphabet.1) sections (λ x. AreRaw x.0) (sections_raw 3 alphabet.1) is3;
+    }))))

@@ -34,8 +34,8 @@ edges_go found count k states line before rest next e all lt last read h =
     let count' : count - k ≡ suc m = omega arith in
     let line' : line + (k + 1) ≡ line + k + 1 = omega arith in
     rw (last_pushed found e) (rw line' (
-      sym (with_edges-append found (e ∷ []) (edges_in m states (Some e) (line + k + 1) next))
-      ∙ ap (with_edges found) (sym step ∙ ap (λ n. edges_in n states (last_of found) (line + k) rest) (sym count')) ∙ h))
+    sym (with_edges-append found (e ∷ []) (edges_in m states (Some e) (line + k + 1) next))
+    ∙ ap (with_edges found) (sym step ∙ ap (λ n. edges_in n states (last_of found) (line + k) rest) (sym count')) ∙ h))
 
 pub edges_stop : (r : BinaryRefusal) (found : List Edge) (count k states line : ℕ) (before : Option Edge) (rest : List ℕ) (all : Result (List Edge × List ℕ) BinaryFault) → k < count → before ≡ last_of found → FailsBy r (edge_line states before (line + k) rest)
     → with_edges found (edges_in (count - k) states (last_of found) (line + k) rest) ≡ all → FailsBy r all
@@ -68,8 +68,8 @@ finals_go found count k states least line rest next s all lt read h =
     let count' : count - k ≡ suc m = omega arith in
     let line' : line + (k + 1) ≡ line + k + 1 = omega arith in
     rw line' (
-      sym (with_finals-append found (s ∷ []) (finals_in m states (s + 1) (line + k + 1) next))
-      ∙ ap (with_finals found) (sym step ∙ ap (λ n. finals_in n states least (line + k) rest) (sym count')) ∙ h)
+    sym (with_finals-append found (s ∷ []) (finals_in m states (s + 1) (line + k + 1) next))
+    ∙ ap (with_finals found) (sym step ∙ ap (λ n. finals_in n states least (line + k) rest) (sym count')) ∙ h)
 
 pub finals_stop : (r : BinaryRefusal) (found : List ℕ) (count k states least line : ℕ) (rest : List ℕ) (all : Result (List ℕ × List ℕ) BinaryFault) → k < count → FailsBy r (final_line states least (line + k) rest)
     → with_finals found (finals_in (count - k) states least (line + k) rest) ≡ all → FailsBy r all

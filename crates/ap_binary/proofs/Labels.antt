@@ -64,10 +64,10 @@ unfolding label_at
 label_good bytes =
     let P : Label × List ℕ → Type 0 = λ x. IsGoodLabel x.0 in
     bind_some {A = Option Symbol × List ℕ} {B = Label × List ℕ} (side_at bytes) (λ left. ◌>>=◌ {A = List ℕ} {B = Label × List ℕ} (byte_at 32 left.1) (λ after. ◌>>=◌ {A = Option Symbol × List ℕ} {B = Label × List ℕ} (side_at after) (λ right. ◌>>=◌ {A = Label} {B = Label × List ℕ} (label_of left.0 right.0) (λ label. Some (label, right.1))))) P
-      (λ left is. bind_some {A = List ℕ} {B = Label × List ℕ} (byte_at 32 left.1) (λ after. ◌>>=◌ {A = Option Symbol × List ℕ} {B = Label × List ℕ} (side_at after) (λ right. ◌>>=◌ {A = Label} {B = Label × List ℕ} (label_of left.0 right.0) (λ label. Some (label, right.1)))) P
-        (λ after is2. bind_some {A = Option Symbol × List ℕ} {B = Label × List ℕ} (side_at after) (λ right. ◌>>=◌ {A = Label} {B = Label × List ℕ} (label_of left.0 right.0) (λ label. Some (label, right.1))) P
-          (λ right is3. bind_some {A = Label} {B = Label × List ℕ} (label_of left.0 right.0) (λ label. Some (label, right.1)) P
-            (λ label is4. good_label left.0 right.0 label (some_holds (side_at bytes) left IsPlainRead (side_plain bytes) is) (some_holds (side_at after) right IsPlainRead (side_plain after) is3) is4))))
+    (λ left is. bind_some {A = List ℕ} {B = Label × List ℕ} (byte_at 32 left.1) (λ after. ◌>>=◌ {A = Option Symbol × List ℕ} {B = Label × List ℕ} (side_at after) (λ right. ◌>>=◌ {A = Label} {B = Label × List ℕ} (label_of left.0 right.0) (λ label. Some (label, right.1)))) P
+    (λ after is2. bind_some {A = Option Symbol × List ℕ} {B = Label × List ℕ} (side_at after) (λ right. ◌>>=◌ {A = Label} {B = Label × List ℕ} (label_of left.0 right.0) (λ label. Some (label, right.1))) P
+    (λ right is3. bind_some {A = Label} {B = Label × List ℕ} (label_of left.0 right.0) (λ label. Some (label, right.1)) P
+    (λ label is4. good_label left.0 right.0 label (some_holds (side_at bytes) left IsPlainRead (side_plain bytes) is) (some_holds (side_at after) right IsPlainRead (side_plain after) is3) is4))))
 
 pub edge_good : (bytes : List ℕ) → IfSome (edge_at bytes) (λ x. IsGoodLabel x.0.label)
 unfolding edge_at
@@ -76,7 +76,7 @@ edge_good bytes =
     let N : Type 0 = Option ℕ × List ℕ in
     let E : Type 0 = Edge × List ℕ in
     bind_some {A = N} {B = E} (number_then 32 bytes) (λ from. ◌>>=◌ {A = Label × List ℕ} {B = E} (label_at from.1) (λ label. ◌>>=◌ {A = List ℕ} {B = E} (byte_at 32 label.1) (λ after. ◌>>=◌ {A = N} {B = E} (number_then 10 after) (λ to. Some (record { from = state_of from.0; label = label.0; to = state_of to.0 }, to.1))))) P
-      (λ from is. bind_some {A = Label × List ℕ} {B = E} (label_at from.1) (λ label. ◌>>=◌ {A = List ℕ} {B = E} (byte_at 32 label.1) (λ after. ◌>>=◌ {A = N} {B = E} (number_then 10 after) (λ to. Some (record { from = state_of from.0; label = label.0; to = state_of to.0 }, to.1)))) P
-        (λ label is2. bind_some {A = List ℕ} {B = E} (byte_at 32 label.1) (λ after. ◌>>=◌ {A = N} {B = E} (number_then 10 after) (λ to. Some (record { from = state_of from.0; label = label.0; to = state_of to.0 }, to.1))) P
-          (λ after is3. bind_some {A = N} {B = E} (number_then 10 after) (λ to. Some (record { from = state_of from.0; label = label.0; to = state_of to.0 }, to.1)) P
-            (λ to is4. some_holds (label_at from.1) label (λ x. IsGoodLabel x.0) (label_good from.1) is2))))
+    (λ from is. bind_some {A = Label × List ℕ} {B = E} (label_at from.1) (λ label. ◌>>=◌ {A = List ℕ} {B = E} (byte_at 32 label.1) (λ after. ◌>>=◌ {A = N} {B = E} (number_then 10 after) (λ to. Some (record { from = state_of from.0; label = label.0; to = state_of to.0 }, to.1)))) P
+    (λ label is2. bind_some {A = List ℕ} {B = E} (byte_at 32 label.1) (λ after. ◌>>=◌ {A = N} {B = E} (number_then 10 after) (λ to. Some (record { from = state_of from.0; label = label.0; to = state_of to.0 }, to.1))) P
+    (λ after is3. bind_some {A = N} {B = E} (number_then 10 after) (λ to. Some (record { from = state_of from.0; label = label.0; to = state_of to.0 }, to.1)) P
+    (λ to is4. some_holds (label_at from.1) label (λ x. IsGoodLabel x.0) (label_good from.1) is2))))

@@ -182,6 +182,6 @@ alphabet_good bytes =
     let V : Type 0 = List ℕ × List ℕ in
     let P : V → Type 0 = λ x. IsAlphabet x.0 in
     bind_some {A = List ℕ} {B = V} (word_at (codes "alphabet") bytes) (λ word. ◌>>=◌ {A = V} {B = V} (letters_in (length word) 0 word) (λ letters. ◌>>=◌ {A = List ℕ} {B = V} (byte_at 10 letters.1) (λ rest. if is_closed letters.0 then Some (letters.0, rest) else None))) P
-      (λ word is. bind_some {A = V} {B = V} (letters_in (length word) 0 word) (λ letters. ◌>>=◌ {A = List ℕ} {B = V} (byte_at 10 letters.1) (λ rest. if is_closed letters.0 then Some (letters.0, rest) else None)) P
-        (λ letters is2. bind_some {A = List ℕ} {B = V} (byte_at 10 letters.1) (λ rest. if is_closed letters.0 then Some (letters.0, rest) else None) P
-          (λ rest is3. chosen_if (is_closed letters.0) (letters.0, rest) P (λ closed. alphabet_from letters.0 (letters_are (length word) 0 word letters.0 letters.1 is2) closed))))
+    (λ word is. bind_some {A = V} {B = V} (letters_in (length word) 0 word) (λ letters. ◌>>=◌ {A = List ℕ} {B = V} (byte_at 10 letters.1) (λ rest. if is_closed letters.0 then Some (letters.0, rest) else None)) P
+    (λ letters is2. bind_some {A = List ℕ} {B = V} (byte_at 10 letters.1) (λ rest. if is_closed letters.0 then Some (letters.0, rest) else None) P
+    (λ rest is3. chosen_if (is_closed letters.0) (letters.0, rest) P (λ closed. alphabet_from letters.0 (letters_are (length word) 0 word letters.0 letters.1 is2) closed))))

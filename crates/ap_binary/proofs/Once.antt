@@ -102,10 +102,10 @@ never_both text c f s (in_sections g a p) =
     elim k [
       | inl x ↦ fine_has_none s.file.sections.standard f s.sections.standard.fine x
       | inr x ↦ elim x.1 [
-          | inl y ↦ fine_has_none s.file.sections.inconditional f s.sections.inconditional.fine y
-          | inr y ↦ elim y.1 [
-              | inl z ↦ fine_has_none s.file.sections.postblank f s.sections.postblank.fine z
-              | inr z ↦ elim z.1 [ inl u ↦ fine_has_none s.file.sections.preblank f s.sections.preblank.fine u | inr u ↦ elim u.1 [ ] ]
-            ]
+        | inl y ↦ fine_has_none s.file.sections.inconditional f s.sections.inconditional.fine y
+        | inr y ↦ elim y.1 [
+          | inl z ↦ fine_has_none s.file.sections.postblank f s.sections.postblank.fine z
+          | inr z ↦ elim z.1 [ inl u ↦ fine_has_none s.file.sections.preblank f s.sections.preblank.fine u | inr u ↦ elim u.1 [ ] ]
         ]
+      ]
     ]

@@ -142,9 +142,9 @@ section_back kind line m rest raw held =
     let k : Counts = record { states = m.states; edges = length m.edges; finals = length m.finals } in
     ap (section_in kind line) assoc
     ∙ section_parts kind line (head_text kind m ++ (edges ++ (finals ++ rest))) (edges ++ (finals ++ rest)) (finals ++ rest) rest k m.edges m.finals
-        (head_line_back kind line m.states (length m.edges) (length m.finals) (head_text kind m ++ (edges ++ (finals ++ rest))) (edges ++ (finals ++ rest)) raw.sound.some (head_back kind m (edges ++ (finals ++ rest)) held.states held.edge_count held.final_count))
-        (edges_back (length m.edges) m.states (line + 1) None m.edges (finals ++ rest) refl (written_edges m raw held))
-        (finals_back (length m.finals) m.states 0 (line + 1 + length m.edges) m.finals rest refl held.states (record { ascend = raw.sound.finals_ascend; behind = λ s i. omega arith; within = raw.sound.finals_in }))
+    (head_line_back kind line m.states (length m.edges) (length m.finals) (head_text kind m ++ (edges ++ (finals ++ rest))) (edges ++ (finals ++ rest)) raw.sound.some (head_back kind m (edges ++ (finals ++ rest)) held.states held.edge_count held.final_count))
+    (edges_back (length m.edges) m.states (line + 1) None m.edges (finals ++ rest) refl (written_edges m raw held))
+    (finals_back (length m.finals) m.states 0 (line + 1 + length m.edges) m.finals rest refl held.states (record { ascend = raw.sound.finals_ascend; behind = λ s i. omega arith; within = raw.sound.finals_in }))
 
 sections_parts : (line : ℕ) (bytes a b c rest : List ℕ) (w x y z : Written) → section_in Standard line bytes ≡ Ok (w, a) → section_in Inconditional (line_after w) a ≡ Ok (x, b) → section_in Postblank (line_after x) b ≡ Ok (y, c) → section_in Preblank (line_after y) c ≡ Ok (z, rest)
     → sections_in line bytes ≡ Ok (record { standard = w; inconditional = x; postblank = y; preblank = z }, rest)
@@ -176,10 +176,10 @@ sections_back line p rest raw held =
     let s : Sections = placed_sections line p in
     ap (sections_in line) assoc
     ∙ sections_parts line (a ++ (b ++ (c ++ (d ++ rest)))) (b ++ (c ++ (d ++ rest))) (c ++ (d ++ rest)) (d ++ rest) rest s.standard s.inconditional s.postblank s.preblank
-        (section_back Standard line p.standard (b ++ (c ++ (d ++ rest))) raw.standard held.standard)
-        (section_back Inconditional (line_after s.standard) p.inconditional (c ++ (d ++ rest)) raw.inconditional held.inconditional)
-        (section_back Postblank (line_after s.inconditional) p.postblank (d ++ rest) raw.postblank held.postblank)
-        (section_back Preblank (line_after s.postblank) p.preblank rest raw.preblank held.preblank)
+    (section_back Standard line p.standard (b ++ (c ++ (d ++ rest))) raw.standard held.sections.standard)
+    (section_back Inconditional (line_after s.standard) p.inconditional (c ++ (d ++ rest)) raw.inconditional held.sections.inconditional)
+    (section_back Postblank (line_after s.inconditional) p.postblank (d ++ rest) raw.postblank held.sections.postblank)
+    (section_back Preblank (line_after s.postblank) p.preblank rest raw.preblank held.sections.preblank)
 
 -- ---- the file
 
@@ -212,4 +212,4 @@ file_back p raw held =
     let assoc : (codes "LTC1\n" ++ alphabet_text p.alphabet) ++ b ≡ codes "LTC1\n" ++ (alphabet_text p.alphabet ++ b) = append_assoc (codes "LTC1\n") (alphabet_text p.alphabet) b in
     ap file_in assoc
     ∙ file_parts (codes "LTC1\n" ++ (alphabet_text p.alphabet ++ b)) (alphabet_text p.alphabet ++ b) b (codes "end\n") p.alphabet (placed_sections 3 p)
-        (word_back (codes "LTC1\n") (alphabet_text p.alphabet ++ b)) (alphabet_back p.alphabet b (held_letters p raw held) raw.alphabet.closed) (sections_back 3 p (codes "end\n") raw held) (end_back (line_after (placed_sections 3 p).preblank))
+    (word_back (codes "LTC1\n") (alphabet_text p.alphabet ++ b)) (alphabet_back p.alphabet b (held_letters p raw held) raw.alphabet.closed) (sections_back 3 p (codes "end\n") raw held) (end_back (line_after (placed_sections 3 p).preblank))

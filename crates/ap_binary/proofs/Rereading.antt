@@ -116,7 +116,7 @@ edge_back e rest w =
     let last : List ℕ = then_end (decimal e.to) in
     ap edge_at (four (then_space (decimal e.from)) left right last rest)
     ∙ edge_parts (then_space (decimal e.from) ++ (left ++ (right ++ (last ++ rest)))) (left ++ (right ++ (last ++ rest))) (last ++ rest) rest e
-        (field_back e.from (left ++ (right ++ (last ++ rest))) w.from) (label_back e.label (last ++ rest) w.held w.plain w.sided) (last_back e.to rest w.to)
+    (field_back e.from (left ++ (right ++ (last ++ rest))) w.from) (label_back e.label (last ++ rest) w.held w.plain w.sided) (last_back e.to rest w.to)
 
 pub final_back : (s : ℕ) (rest : List ℕ) → s < 2 ^ 64 → final_at (final_text s ++ rest) ≡ Some (s, rest)
 unfolding final_at
@@ -146,4 +146,4 @@ head_back kind m rest states edges finals =
     let e : (k ++ (a ++ (b ++ c))) ++ rest ≡ k ++ (a ++ (b ++ (c ++ rest))) = append_assoc k (a ++ (b ++ c)) rest ∙ ap (λ z. k ++ z) (append_assoc a (b ++ c) rest ∙ ap (λ z. a ++ z) (append_assoc b c rest)) in
     ap (head_at kind) e
     ∙ head_parts kind (k ++ (a ++ (b ++ (c ++ rest)))) (a ++ (b ++ (c ++ rest))) (b ++ (c ++ rest)) (c ++ rest) rest m.states (length m.edges) (length m.finals)
-        (kind_back kind (a ++ (b ++ (c ++ rest)))) (field_back m.states (b ++ (c ++ rest)) states) (field_back (length m.edges) (c ++ rest) edges) (last_back (length m.finals) rest finals)
+    (kind_back kind (a ++ (b ++ (c ++ rest)))) (field_back m.states (b ++ (c ++ rest)) states) (field_back (length m.edges) (c ++ rest) edges) (last_back (length m.finals) rest finals)

@@ -33,9 +33,12 @@ pub record IsHeldMachine (m : Machine) : Type 0 where
   pub final_count : length m.finals < 2 ^ 64
   pub edges : IsTrue (list_all is_held_edge m.edges)
 
-pub record IsHeld (p : Parts) : Type 0 where
-  pub letters : IsTrue (list_all is_character p.alphabet)
+pub record AreHeldSections (p : Parts) : Type 0 where
   pub standard : IsHeldMachine p.standard
   pub inconditional : IsHeldMachine p.inconditional
   pub postblank : IsHeldMachine p.postblank
   pub preblank : IsHeldMachine p.preblank
+
+pub record IsHeld (p : Parts) : Type 0 where
+  pub letters : IsTrue (list_all is_character p.alphabet)
+  pub sections : AreHeldSections p

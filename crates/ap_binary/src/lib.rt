@@ -10,9 +10,13 @@ mod pieces;
 mod reading;
 mod refusal;
 mod sections;
+#[cfg(test)]
+mod tests;
 mod writing;
 
-pub use laws::{has_one_fault, spells_compiled, spells_one, spells_without_fault};
+pub use laws::{
+    has_one_fault, reads_what_is_written, spells_compiled, spells_one, spells_without_fault,
+};
 pub use reading::read_compiled;
 pub use refusal::{BinaryFault, BinaryKind, BinaryRefusal};
 pub use writing::write_compiled;

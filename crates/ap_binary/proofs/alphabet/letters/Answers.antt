@@ -9,7 +9,7 @@ returns-in_err-letter-clause-gives c =
     let p = err_from_is_err_and c.from_residual.result c.from_residual.ensures.1 in
     let begins = sym c.begins_with.ensures ∙ c.letters-test.true in
     rw (p.1, p.2) (letters_stop c.in_err-letter.field-0.0 c.letters.found (length c.args.bytes.now - length c.letters.found) c.letters.least c.letters.rest.now (letters_in (length c.args.bytes.now) 0 c.args.bytes.now)
-      (omega (arith, c.letters.invariant.few, some_left c.letters.rest.now begins)) begins c.in_err-letter.ensures.gives c.letters.invariant.meaning)
+    (omega (arith, c.letters.invariant.few, some_left c.letters.rest.now begins)) begins c.in_err-letter.ensures.gives c.letters.invariant.meaning)
 
 pub letters-smaller : goal.letters-smaller
 letters-smaller c = c.in_ok-letter.ensures.shorter

@@ -11,7 +11,7 @@ returns-in_err-edge-clause-gives c =
     let p = err_from_is_err_and c.from_residual.result c.from_residual.ensures.1 in
     let last : option_copied c.last-before.result ≡ last_of c.edges.found = c.last-before.ensures.value ∙ ap (λ (z : List Edge). last_of z) c.as_slice.ensures in
     rw (p.1, p.2) (edges_stop c.in_err-edge.field-0.0 c.edges.found c.args.count c.edges.k c.args.states c.args.line (option_copied c.last-before.result) c.edges.rest.now (edges_in c.args.count c.args.states None c.args.line c.args.bytes.now)
-      c.edges-test.true last c.in_err-edge.ensures.gives c.edges.invariant.meaning)
+    c.edges-test.true last c.in_err-edge.ensures.gives c.edges.invariant.meaning)
 
 pub edges-preserved : goal.edges-preserved
 edges-preserved c =

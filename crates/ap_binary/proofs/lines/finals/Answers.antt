@@ -8,7 +8,7 @@ pub returns-in_err-state-clause-gives : goal.returns-in_err-state-clause-gives
 returns-in_err-state-clause-gives c =
     let p = err_from_is_err_and c.from_residual.result c.from_residual.ensures.1 in
     rw (p.1, p.2) (finals_stop c.in_err-state.field-0.0 c.finals.found c.args.count c.finals.k c.args.states c.finals.least c.args.line c.finals.rest.now (finals_in c.args.count c.args.states 0 c.args.line c.args.bytes.now)
-      c.finals-test.true c.in_err-state.ensures.gives c.finals.invariant.meaning)
+    c.finals-test.true c.in_err-state.ensures.gives c.finals.invariant.meaning)
 
 pub finals-preserved : goal.finals-preserved
 finals-preserved c = record {
