@@ -13,6 +13,7 @@ use Rattle.ap_fst.specs.Sections.{is_plain_label}
 use Rattle.ap_fst.specs.declared.label.Edge.{Edge}
 use Rattle.ap_fst.proofs.OrderLaws.{edge_total}
 use Rattle.ap_fst.proofs.PlaceLaws.{cmp_less}
+use Rattle.ap_binary.specs.Grammar.{IsRaw}
 use Rattle.ap_binary.specs.Pieces.{edge_at, final_at}
 use Rattle.ap_binary.specs.Lines.{◌>>=◌, fault, on_line, follows, is_within, judged_edge, edge_line, edges_in, with_edges, judged_final, final_line, finals_in, with_finals, counts_of}
 use Rattle.ap_binary.specs.declared.heads.Counts.{Counts}
@@ -31,7 +32,7 @@ abbrev unwrapped : {A : Type 0} → A → Result A BinaryFault → A
 unwrapped d (Ok x) = x
 unwrapped d (Err e) = d
 
-same_Ok : {A : Type 0} (x y : A) → (let r : Result A BinaryFault = Ok x in r) ≡ Ok y → x ≡ y
+pub same_Ok : {A : Type 0} (x y : A) → (let r : Result A BinaryFault = Ok x in r) ≡ Ok y → x ≡ y
 same_Ok {A} x y e = ap (λ (r : Result A BinaryFault). unwrapped x r) e
 
 pub ok_holds : {A : Type 0} (r : Result A BinaryFault) (x : A) (P : A → Type 0) → IfOk r P → r ≡ Ok x → P x
@@ -41,6 +42,23 @@ ok_holds (Err f) x P h e = cc
 pub on_line_some : {A : Type 0} (line : ℕ) (r : Option A) (x : A) → on_line line r ≡ Ok x → r ≡ Some x
 on_line_some {A} line (Some y) x e = ap (λ (z : A). let o : Option A = Some z in o) (same_Ok y x e)
 on_line_some line None x e = cc
+
+pub if_ok : {A : Type 0} (r : Result A BinaryFault) (P : A → Type 0) → ((x : A) → r ≡ Ok x → P x) → IfOk r P
+if_ok (Ok x) P h = h x refl
+if_ok (Err e) P h = tt
+
+record IsBoundOk {A B : Type 0} (r : Result A BinaryFault) (f : A → Result B BinaryFault) (y : B) : Type 0 where
+  x : A
+  is : r ≡ Ok x
+  gives : f x ≡ Ok y
+
+bound_ok : {A B : Type 0} (r : Result A BinaryFault) (f : A → Result B BinaryFault) (y : B) → ◌>>=◌ {A = A} {B = B} r f ≡ Ok y → IsBoundOk r f y
+bound_ok (Ok x) f y h = record { x = x; is = refl; gives = h }
+bound_ok (Err e) f y h = cc
+
+unless_err : {A : Type 0} (b : Bool) (f : BinaryFault) (r : Result A BinaryFault) (x : A) → (if not b then Err f else r) ≡ Ok x → r ≡ Ok x
+unless_err true f r x h = h
+unless_err false f r x h = cc
 
 or_else : {A : Type 0} (b : Bool) (x : A) (f : BinaryFault) (P : A → Type 0) (r : Result A BinaryFault) → (b ≡ true → IfOk r P) → IfOk (if not b then Err f else r) P
 or_else true x f P r h = h refl
@@ -53,7 +71,7 @@ pub record IsNextEdge (states : ℕ) (before : Option Edge) (e : Edge) : Type 0 
   pub within : is_within states e ≡ true
   pub good : IsGoodLabel e.label
 
-next_edge : (states line : ℕ) (before : Option Edge) (bytes : List ℕ) → IfOk (edge_line states before line bytes) (λ x. IsNextEdge states before x.0)
+pub next_edge : (states line : ℕ) (before : Option Edge) (bytes : List ℕ) → IfOk (edge_line states before line bytes) (λ x. IsNextEdge states before x.0)
 unfolding edge_line
 next_edge states line before bytes =
     let P : Edge × List ℕ → Type 0 = λ x. IsNextEdge states before x.0 in
@@ -61,6 +79,16 @@ next_edge states line before bytes =
     (λ x is. let good : IsGoodLabel x.0.label = some_holds (edge_at bytes) x (λ y. IsGoodLabel y.0.label) (edge_good bytes) (on_line_some line (edge_at bytes) x is) in
     or_else (follows before x.0) x (fault BadLine line) P (if not (is_within states x.0) then Err (fault OutOfRange line) else Ok x)
     (λ b. or_else (is_within states x.0) x (fault OutOfRange line) P (Ok x) (λ w. record { behind = b; within = w; good = good })))
+
+-- what is read is what stands on the line
+pub judged_is : (states line : ℕ) (before : Option Edge) (bytes : List ℕ) (x : Edge × List ℕ) → edge_line states before line bytes ≡ Ok x → edge_at bytes ≡ Some x
+unfolding edge_line
+judged_is states line before bytes x h =
+    let E : Type 0 = Edge × List ℕ in
+    let b : IsBoundOk (on_line line (edge_at bytes)) (judged_edge states before line) x = bound_ok {A = E} {B = E} (on_line line (edge_at bytes)) (judged_edge states before line) x h in
+    let first = unless_err (follows before b.x.0) (fault BadLine line) (if not (is_within states b.x.0) then Err (fault OutOfRange line) else Ok b.x) x b.gives in
+    let second : (let r : Result E BinaryFault = Ok b.x in r) ≡ Ok x = unless_err (is_within states b.x.0) (fault OutOfRange line) (Ok b.x) x first in
+    on_line_some line (edge_at bytes) b.x b.is ∙ ap (λ (z : E). let o : Option E = Some z in o) (same_Ok b.x x second)
 
 pub record AreEdges (count states : ℕ) (before : Option Edge) (es : List Edge) : Type 0 where
   pub counted : length es ≡ count
@@ -78,7 +106,7 @@ follows_on : (before : Option Edge) (e d : Edge) → follows before e ≡ true �
 follows_on None e d h k = refl
 follows_on (Some b) e d h k = ap is_lt (edge_total.trans b e d (lt_less (edge_cmp b e) h) k)
 
-within_is : (states : ℕ) (e : Edge) → is_within states e ≡ true → IsGoodLabel e.label → IsEdgeWithin states e
+pub within_is : (states : ℕ) (e : Edge) → is_within states e ≡ true → IsGoodLabel e.label → IsEdgeWithin states e
 within_is states e w good =
     let p : (nat_lt e.from states ≡ true) × (nat_lt e.to states ≡ true) = and_parts (nat_lt e.from states) (nat_lt e.to states) w in
     record { from_in = grind (arith, nat_tests, p.0); to_in = grind (arith, nat_tests, p.1); sided = good.sided }
@@ -111,13 +139,22 @@ pub record IsNextFinal (states least s : ℕ) : Type 0 where
   pub behind : least ≤ s
   pub within : s < states
 
-next_final : (states least line : ℕ) (bytes : List ℕ) → IfOk (final_line states least line bytes) (λ x. IsNextFinal states least x.0)
+pub next_final : (states least line : ℕ) (bytes : List ℕ) → IfOk (final_line states least line bytes) (λ x. IsNextFinal states least x.0)
 unfolding final_line
 next_final states least line bytes =
     let P : ℕ × List ℕ → Type 0 = λ x. IsNextFinal states least x.0 in
     bind_ok {A = ℕ × List ℕ} {B = ℕ × List ℕ} (on_line line (final_at bytes)) (judged_final states least line) P
     (λ x is. or_else (nat_le least x.0) x (fault BadLine line) P (if not (nat_lt x.0 states) then Err (fault OutOfRange line) else Ok x)
     (λ b. or_else (nat_lt x.0 states) x (fault OutOfRange line) P (Ok x) (λ w. record { behind = grind (arith, nat_tests, b); within = grind (arith, nat_tests, w) })))
+
+pub judged_final_is : (states least line : ℕ) (bytes : List ℕ) (x : ℕ × List ℕ) → final_line states least line bytes ≡ Ok x → final_at bytes ≡ Some x
+unfolding final_line
+judged_final_is states least line bytes x h =
+    let F : Type 0 = ℕ × List ℕ in
+    let b : IsBoundOk (on_line line (final_at bytes)) (judged_final states least line) x = bound_ok {A = F} {B = F} (on_line line (final_at bytes)) (judged_final states least line) x h in
+    let first = unless_err (nat_le least b.x.0) (fault BadLine line) (if not (nat_lt b.x.0 states) then Err (fault OutOfRange line) else Ok b.x) x b.gives in
+    let second : (let r : Result F BinaryFault = Ok b.x in r) ≡ Ok x = unless_err (nat_lt b.x.0 states) (fault OutOfRange line) (Ok b.x) x first in
+    on_line_some line (final_at bytes) b.x b.is ∙ ap (λ (z : F). let o : Option F = Some z in o) (same_Ok b.x x second)
 
 pub record AreFinals (count states least : ℕ) (fs : List ℕ) : Type 0 where
   pub counted : length fs ≡ count
@@ -144,10 +181,6 @@ finals_are (suc n) states least line bytes =
     (ok_holds (finals_in n states (s.0 + 1) (line + 1) s.1) x (λ y. AreFinals n states (s.0 + 1) y.0) (finals_are n states (s.0 + 1) (line + 1) s.1) is2)))
 
 -- ---- a section
-
-pub record IsRaw (m : Machine) : Type 0 where
-  pub sound : IsMachine m
-  pub plain : (e : Edge) → IsIn e m.edges → IsTrue (is_plain_label e.label)
 
 pub raw_read : (m : Machine) (edges finals : ℕ) → 0 < m.states → AreEdges edges m.states None m.edges → AreFinals finals m.states 0 m.finals → IsRaw m
 raw_read m edges finals some es fs = record {

@@ -8,6 +8,7 @@ use Rattle.ap_fst.specs.Sections.{IsAlphabet}
 use Rattle.ap_fst.specs.declared.compiled.Kind2.{Kind2}
 use Rattle.ap_fst.specs.declared.compiled.Kind2.TheVariants.{Standard, Inconditional, Postblank, Preblank}
 use Rattle.ap_fst.specs.declared.label.Edge.{Edge}
+use Rattle.ap_binary.specs.Grammar.{IsRaw}
 use Rattle.ap_binary.specs.Pieces.{word_at, head_at, alphabet_at}
 use Rattle.ap_binary.specs.Lines.{◌>>=◌, fault, on_line, on_header, counts_of, head_line, edges_in, finals_in, section_in, line_after, sections_in, end_in, file_in}
 use Rattle.ap_binary.specs.declared.file.File.{File}
@@ -19,7 +20,7 @@ use Rattle.ap_binary.specs.declared.sections.Sections.{Sections}
 use Rattle.ap_binary.specs.declared.sections.Written.{Written}
 use Rattle.ap_binary.proofs.Options.{some_holds}
 use Rattle.ap_binary.proofs.Letters.{alphabet_good}
-use Rattle.ap_binary.proofs.Edges.{bind_ok, ok_holds, on_line_some, AreEdges, AreFinals, edges_are, finals_are, IsRaw, raw_read}
+use Rattle.ap_binary.proofs.Edges.{bind_ok, ok_holds, on_line_some, AreEdges, AreFinals, edges_are, finals_are, raw_read}
 
 some_states : (line : ℕ) (k : Counts) (b : Bool) → (b ≡ false → 0 < k.states) → IfOk (if b then (let r : Result Counts BinaryFault = Err (fault OutOfRange line) in r) else Ok k) (λ c. 0 < c.states)
 some_states line k true h = tt

@@ -15,3 +15,5 @@ pub mod Realphabet
 pub mod Reread
 pub mod Itself
 pub mod RoundTrip
+pub mod Inverse
+pub mod Inverses

@@ -14,7 +14,7 @@ use Rattle.ap_binary.specs.Reading.{◌>>=◌}
 use Rattle.ap_binary.specs.Pieces.{byte_at, word_at, is_digit, value_after, is_numeral, limited, number_at, is_character, scalar_of, unless_white, character_of, character_at, number_then}
 use Rattle.ap_binary.proofs.Numbers.{limited_some}
 
-own : IsNumeralModel (λ ds. all_ascii_digits ds ≡ true) (value_after 0)
+pub own : IsNumeralModel (λ ds. all_ascii_digits ds ≡ true) (value_after 0)
 own = numerals_by_fold _ (search rules) value_after (search rules)
 
 prefix_step : (b : Bool) (m n k : ℕ) → cond b (1 + m) 0 ≡ suc n → (m ≡ n → k ≡ n) → cond b (1 + k) 0 ≡ suc n

@@ -18,6 +18,7 @@ use Rattle.ap_fst.specs.declared.compiled.Kind2.{Kind2}
 use Rattle.ap_fst.specs.declared.compiled.Kind2.TheVariants.{Standard, Inconditional, Postblank, Preblank}
 use Rattle.ap_fst.specs.declared.label.Edge.{Edge}
 use Rattle.ap_fst.proofs.PlaceLaws.{less_from_cmp}
+use Rattle.ap_binary.specs.Grammar.{IsRaw, AreRawParts}
 use Rattle.ap_binary.specs.Held.{is_held_edge, IsHeldMachine, IsHeld}
 use Rattle.ap_binary.specs.Pieces.{word_at, is_character, edge_at, final_at, head_at, alphabet_at}
 use Rattle.ap_binary.specs.Lines.{◌>>=◌, on_line, on_header, over, follows, is_within, judged_edge, edge_line, edges_in, with_edges, judged_final, final_line, finals_in, with_finals, counts_of, head_line, section_in, line_after, sections_in, end_in, file_in}
@@ -28,7 +29,6 @@ use Rattle.ap_binary.specs.declared.heads.Head.{Head}
 use Rattle.ap_binary.specs.declared.refusal.BinaryFault.{BinaryFault}
 use Rattle.ap_binary.specs.declared.sections.Sections.{Sections}
 use Rattle.ap_binary.specs.declared.sections.Written.{Written}
-use Rattle.ap_binary.proofs.Edges.{IsRaw}
 use Rattle.ap_binary.proofs.Letters.{AreLetters, IsPlainLetter}
 use Rattle.ap_binary.proofs.Numerals.{word_back}
 use Rattle.ap_binary.proofs.Rereading.{IsWritable, edge_back, final_back, head_back}
@@ -158,13 +158,6 @@ placed_sections line p =
     let b : Written = written_at (line_after a) p.inconditional in
     let c : Written = written_at (line_after b) p.postblank in
     record { standard = a; inconditional = b; postblank = c; preblank = written_at (line_after c) p.preblank }
-
-pub record AreRawParts (p : Parts) : Type 0 where
-  pub alphabet : IsAlphabet p.alphabet
-  pub standard : IsRaw p.standard
-  pub inconditional : IsRaw p.inconditional
-  pub postblank : IsRaw p.postblank
-  pub preblank : IsRaw p.preblank
 
 sections_back : (line : ℕ) (p : Parts) (rest : List ℕ) → AreRawParts p → IsHeld p → sections_in line (sections_text p ++ rest) ≡ Ok (placed_sections line p, rest)
 sections_back line p rest raw held =

@@ -99,7 +99,7 @@ edge_parts : (bytes after after2 rest : List ℕ) (e : Edge) → number_then 32 
 unfolding edge_at
 edge_parts bytes after after2 rest e p q r = rw (p, q, byte_back 32 after2, r) refl
 
-four : (a b c d r : List ℕ) → (a ++ ((b ++ c) ++ d)) ++ r ≡ a ++ (b ++ (c ++ (d ++ r)))
+pub four : (a b c d r : List ℕ) → (a ++ ((b ++ c) ++ d)) ++ r ≡ a ++ (b ++ (c ++ (d ++ r)))
 four a b c d r = append_assoc a ((b ++ c) ++ d) r ∙ ap (λ z. a ++ z) (append_assoc (b ++ c) d r ∙ append_assoc b c (d ++ r))
 
 pub record IsWritable (e : Edge) : Type 0 where

@@ -2,12 +2,12 @@
 use Rattle.std.proofs.Common.{◌≡◌, refl}
 use Rattle.ap_fst.specs.Machines.{Machine}
 use Rattle.ap_fst.specs.Sections.{Parts, IsSection, IsCompiled}
+use Rattle.ap_binary.specs.Grammar.{IsRaw, AreRawParts}
 use Rattle.ap_binary.specs.Held.{IsHeld}
 use Rattle.ap_binary.specs.Spelling.{IsSpelled, Spells}
 use Rattle.ap_binary.specs.Text.{compiled_text}
-use Rattle.ap_binary.proofs.Edges.{IsRaw}
 use Rattle.ap_binary.proofs.Itself.{trim_of_itself}
-use Rattle.ap_binary.proofs.Reread.{AreRawParts, written_at, placed_file, file_back}
+use Rattle.ap_binary.proofs.Reread.{written_at, placed_file, file_back}
 
 section_raw : (m : Machine) → IsSection m → IsRaw m
 section_raw m s = record { sound = s.sound; plain = s.plain }

@@ -12,6 +12,7 @@ use Rattle.ap_fst.specs.declared.label.Edge.{Edge}
 use Rattle.ap_fst.specs.declared.label.Label.{Label}
 use Rattle.ap_fst.proofs.CycleLaws.{bounded_runs, empty_cycle_runs}
 use Rattle.ap_fst.proofs.Trims.{IsMade, in_flat, IsRenumbered, renumbered, trimmed_is_machine, trimmed_is_trimmed, trim_same}
+use Rattle.ap_binary.specs.Grammar.{IsRaw}
 use Rattle.ap_binary.specs.Lines.{file_in}
 use Rattle.ap_binary.specs.Refusals.{IfFault}
 use Rattle.ap_binary.specs.Spelling.{IsFine, IsFaultOf, IsFirstIn, in_order, IsSpelled, AreSpelled, Spells, IsFirstFault, in_lines, in_sections}
@@ -21,7 +22,7 @@ use Rattle.ap_binary.specs.declared.refusal.BinaryFault.{BinaryFault}
 use Rattle.ap_binary.specs.declared.refusal.BinaryRefusal.{BinaryRefusal}
 use Rattle.ap_binary.specs.declared.refusal.BinaryRefusal.TheVariants.{Fault, Memory}
 use Rattle.ap_binary.specs.declared.sections.Written.{Written}
-use Rattle.ap_binary.proofs.Edges.{IsRaw, ok_holds}
+use Rattle.ap_binary.proofs.Edges.{ok_holds}
 use Rattle.ap_binary.proofs.Files.{IsRawFile, file_raw}
 
 bounded : (old new : Machine) → ((w : List Label) → AcceptsLabels new w ↔ AcceptsLabels old w) → HasBoundedRuns old → HasBoundedRuns new

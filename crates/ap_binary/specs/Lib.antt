@@ -5,3 +5,4 @@ pub mod Pieces
 pub mod Lines
 pub mod Spelling
 pub mod Held
+pub mod Grammar

@@ -1,5 +1,6 @@
-ghost use Rattle.std.specs.Prelude.{◌≡◌, ℕ, List};
+ghost use Rattle.std.specs.Prelude.{◌≡◌, ◌↔◌, ℕ, List};
 ghost use Rattle.ap_fst.specs.Sections.{Parts, IsCompiled};
+ghost use Rattle.ap_binary.specs.Grammar.{IsTextOf};
 ghost use Rattle.ap_binary.specs.Held.{IsHeld};
 ghost use Rattle.ap_binary.specs.Spelling.{Spells, IsFirstFault};
 ghost use Rattle.ap_binary.specs.Text.{compiled_text};
@@ -29,4 +30,11 @@ pub fn spells_compiled()
 /// What `write_compiled` writes is read again as the same value.
 pub fn reads_what_is_written()
     ensures { (c : Parts) → IsCompiled c → IsHeld c → Spells (compiled_text c) c }
+{}
+
+/// A text spells a compiled dictionary exactly where it is the text of an alphabet and of four
+/// sections, each without an empty cycle and an empty side, of which trimming leaves that
+/// dictionary.
+pub fn spells_texts()
+    ensures { (text : List ℕ) (c : Parts) → Spells text c ↔ IsTextOf text c }
 {}

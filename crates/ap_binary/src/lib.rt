@@ -15,7 +15,8 @@ mod tests;
 mod writing;
 
 pub use laws::{
-    has_one_fault, reads_what_is_written, spells_compiled, spells_one, spells_without_fault,
+    has_one_fault, reads_what_is_written, spells_compiled, spells_one, spells_texts,
+    spells_without_fault,
 };
 pub use reading::read_compiled;
 pub use refusal::{BinaryFault, BinaryKind, BinaryRefusal};
