@@ -1,13 +1,13 @@
 -- The edges and final states that are read make a transducer with plain labels.
-use Rattle.std.proofs.Common.{◌≡◌, ◌⊎◌, inl, inr, ℕ, suc, zero, ◌+◌, ◌-◌, ◌<◌, ◌≤◌, Bool, true, false, not, ◌&&◌, nat_le, nat_lt, List, [], ◌∷◌, ◌++◌, length, refl, sym, ◌∙◌, ap, subst, arith, Option, Some, None, Result, Ok, Err, IfOk, cond}
-use Rattle.std.specs.Prelude.{IsTrue, ◌==◌, if◌then◌else◌}
+use Rattle.std.proofs.Common.{◌≡◌, inl, inr, ℕ, suc, zero, ◌+◌, ◌<◌, ◌≤◌, Bool, true, false, not, nat_le, nat_lt, List, [], ◌∷◌, ◌++◌, length, refl, sym, ◌∙◌, ap, subst, arith, Option, Some, None, Result, Ok, Err, IfOk}
+use Rattle.std.specs.Prelude.{IsTrue, if◌then◌else◌}
 use Rattle.std.specs.Ordering.{nat_cmp, is_lt}
 use Rattle.std.specs.declared.cmp.Ordering.{Ordering}
 use Rattle.std.specs.declared.cmp.Ordering.TheVariants.{Less, Equal, Greater}
 use Rattle.std.proofs.lemmas.Bool.{and_parts}
 use Rattle.std.proofs.lemmas.Bool.Decides.{nat_tests}
 use Rattle.ap_fst.specs.Lists.{IsIn, Ascends}
-use Rattle.ap_fst.specs.Machines.{Machine, IsMachine, IsEdgeWithin}
+use Rattle.ap_fst.specs.Machines.{Machine, IsEdgeWithin}
 use Rattle.ap_fst.specs.Order.{edge_cmp}
 use Rattle.ap_fst.specs.Sections.{is_plain_label}
 use Rattle.ap_fst.specs.declared.label.Edge.{Edge}
@@ -15,8 +15,7 @@ use Rattle.ap_fst.proofs.OrderLaws.{edge_total}
 use Rattle.ap_fst.proofs.PlaceLaws.{cmp_less}
 use Rattle.ap_binary.specs.Grammar.{IsRaw}
 use Rattle.ap_binary.specs.Pieces.{edge_at, final_at}
-use Rattle.ap_binary.specs.Lines.{◌>>=◌, fault, on_line, follows, is_within, judged_edge, edge_line, edges_in, with_edges, judged_final, final_line, finals_in, with_finals, counts_of}
-use Rattle.ap_binary.specs.declared.heads.Counts.{Counts}
+use Rattle.ap_binary.specs.Lines.{◌>>=◌, fault, on_line, follows, is_within, judged_edge, edge_line, edges_in, with_edges, judged_final, final_line, finals_in, with_finals}
 use Rattle.ap_binary.specs.declared.refusal.BinaryFault.{BinaryFault}
 use Rattle.ap_binary.specs.declared.refusal.BinaryKind.TheVariants.{BadLine, OutOfRange}
 use Rattle.ap_binary.proofs.Options.{some_holds}

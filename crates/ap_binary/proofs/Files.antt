@@ -1,9 +1,7 @@
 -- What the lines of a file say makes transducers and an alphabet.
-use Rattle.std.proofs.Common.{◌≡◌, ℕ, ◌+◌, ◌<◌, Bool, true, false, not, List, [], ◌∷◌, length, refl, sym, ap, subst, arith, Option, Some, None, Result, Ok, Err, IfOk, cond}
+use Rattle.std.proofs.Common.{◌≡◌, ℕ, ◌+◌, ◌<◌, Bool, true, false, List, refl, arith, Option, Some, None, Result, Ok, Err, IfOk}
 use Rattle.std.specs.Prelude.{◌==◌, if◌then◌else◌, codes}
-use Rattle.std.proofs.lemmas.Bool.{cases_Bool, cond-true, cond-false}
 use Rattle.std.proofs.lemmas.Bool.Decides.{nat_tests}
-use Rattle.ap_fst.specs.Machines.{Machine}
 use Rattle.ap_fst.specs.Sections.{IsAlphabet}
 use Rattle.ap_fst.specs.declared.compiled.Kind2.{Kind2}
 use Rattle.ap_fst.specs.declared.compiled.Kind2.TheVariants.{Standard, Inconditional, Postblank, Preblank}

@@ -1,5 +1,5 @@
 -- Reading line by line: what was read so far, and the rest.
-use Rattle.std.proofs.Common.{◌≡◌, ℕ, suc, zero, ◌+◌, ◌-◌, ◌<◌, ◌≤◌, List, [], ◌∷◌, ◌++◌, length, refl, sym, ◌∙◌, ap, append_assoc, append-nil, arith, Option, Some, None, slice_get, Result, Ok, Err, length-append}
+use Rattle.std.proofs.Common.{◌≡◌, ℕ, suc, zero, ◌+◌, ◌-◌, ◌<◌, ◌≤◌, List, [], ◌∷◌, ◌++◌, length, refl, sym, ◌∙◌, ap, append_assoc, append-nil, arith, Option, Some, slice_get, Result, Ok, Err, length-append}
 use Rattle.ap_fst.specs.declared.label.Edge.{Edge}
 use Rattle.ap_binary.specs.Lines.{FailsBy, edge_line, with_edges, edges_in, final_line, with_finals, finals_in}
 use Rattle.ap_binary.specs.declared.refusal.BinaryFault.{BinaryFault}

@@ -1,5 +1,5 @@
 -- What is read is what stands there: the fields and lines of the value, written again, are the bytes that were read.
-use Rattle.std.proofs.Common.{◌≡◌, ◌⊎◌, inl, inr, ℕ, suc, zero, ◌+◌, ◌-◌, ◌^◌, ◌<◌, ◌≤◌, eqb, Bool, true, false, not, ◌||◌, ◌&&◌, nat_le, nat_lt, List, [], ◌∷◌, ◌++◌, length, take, drop, get_or, refl, sym, ◌∙◌, ap, subst, arith, append_assoc, append-nil, IfSome, Option, Some, None, cond}
+use Rattle.std.proofs.Common.{◌≡◌, inl, inr, ℕ, suc, zero, ◌+◌, ◌-◌, ◌^◌, ◌<◌, eqb, true, false, not, ◌||◌, ◌&&◌, nat_le, nat_lt, List, [], ◌∷◌, ◌++◌, length, take, drop, get_or, refl, sym, ◌∙◌, ap, subst, arith, append_assoc, IfSome, Option, Some, None}
 use Rattle.std.specs.Prelude.{◌==◌, if◌then◌else◌, decimal, codes}
 use Rattle.std.specs.List.{prefix_len, flat_map, list_all}
 use Rattle.std.specs.Str.{all_ascii_digits, bytes_eq}
@@ -22,22 +22,12 @@ use Rattle.ap_binary.specs.Reading.{◌>>=◌}
 use Rattle.ap_binary.specs.Pieces.{byte_at, word_at, is_digit, value_after, is_numeral, limited, number_at, state_of, is_character, scalar_of, unless_white, character_of, character_at, letter_at, is_utf8, is_name_byte, tag_of, tag_at, side_at, label_of, label_at, number_then, edge_at, final_at, kind_at, head_at, begins_with, next_letter_at, with_letters, letters_in, alphabet_at}
 use Rattle.ap_binary.specs.Text.{side_text, then_space, then_end, edge_text, final_text, section_name, letter_text, alphabet_text}
 use Rattle.ap_binary.specs.declared.heads.Head.{Head}
+use Rattle.ap_binary.proofs.Bools.{or_cases, both_true, not_true, eqb_is}
 use Rattle.ap_binary.proofs.Numbers.{some_limited}
 use Rattle.ap_binary.proofs.Numerals.{own}
-use Rattle.ap_binary.proofs.Options.{bound, IsBound, some_if, some_unless, chosen, chosen_if, bind_some, some_holds}
+use Rattle.ap_binary.proofs.Options.{bound, IsBound, some_if, some_unless, chosen, chosen_by, chosen_if, map_some, bind_some, some_holds}
 use Rattle.ap_binary.proofs.Letters.{IsPlainLetter, plain_character}
 use Rattle.ap_binary.proofs.Rereading.{spaced, ended, four}
-
-chosen_by : {A : Type 0} (b : Bool) (x y : Option A) (P : A → Type 0) → (b ≡ true → IfSome x P) → IfSome y P → IfSome (if b then x else y) P
-chosen_by true x y P h k = h refl
-chosen_by false x y P h k = k
-
-map_some : {A : Type 0} (r : Option A) (Q P : A → Type 0) → ((x : A) → Q x → P x) → IfSome r Q → IfSome r P
-map_some (Some x) Q P f h = f x h
-map_some None Q P f h = tt
-
-eqb_is : (x y : ℕ) → eqb x y ≡ true → x ≡ y
-eqb_is x y h = grind (arith, nat_tests, h)
 
 -- ---- numbers
 
@@ -50,14 +40,6 @@ digits_front (b ∷ bs) = elim (cases_Bool (is_digit b)) [
       ap (λ i. all_ascii_digits (take i (b ∷ bs))) q ∙ rw (e, k) refl
   | inr e ↦ let q : prefix_len is_digit (b ∷ bs) ≡ zero = rw e refl in ap (λ i. all_ascii_digits (take i (b ∷ bs))) q
 ]
-
-or_cases : (a b : Bool) → (a || b) ≡ true → (a ≡ true) ⊎ (b ≡ true)
-or_cases true b h = inl refl
-or_cases false b h = inr h
-
-not_true : (b : Bool) → not b ≡ true → b ≡ false
-not_true true h = sym h
-not_true false h = refl
 
 numeral_some : (ds : List ℕ) → is_numeral ds ≡ true → 0 < length ds
 numeral_some ds h = let e : nat_lt 0 (length ds) ≡ true = (and_parts (nat_lt 0 (length ds)) (not (eqb (get_or ds 0 0) 48) || eqb (length ds) 1) h).0 in grind (arith, nat_tests, e)
@@ -77,9 +59,9 @@ number_inv bytes =
     let k : ℕ = prefix_len is_digit bytes in
     let ds : List ℕ = take k bytes in
     chosen_if (is_numeral ds) (limited (value_after 0 ds), drop k bytes) (IsNumberOf bytes) (λ numeral n e.
-      let s : (n ≡ value_after 0 ds) × (value_after 0 ds < 2 ^ 64) = some_limited n (value_after 0 ds) (sym e) in
-      let d : decimal (value_after 0 ds) ≡ ds = decimal-digits_value own ds (digits_front bytes) (numeral_some ds numeral) (numeral_lead ds numeral) s.1 in
-      (sym (take-append-drop k bytes) ∙ ap (λ z. z ++ drop k bytes) (sym d ∙ ap decimal (sym s.0)), omega (arith, s.0, s.1)))
+    let s : (n ≡ value_after 0 ds) × (value_after 0 ds < 2 ^ 64) = some_limited n (value_after 0 ds) (sym e) in
+    let d : decimal (value_after 0 ds) ≡ ds = decimal-digits_value own ds (digits_front bytes) (numeral_some ds numeral) (numeral_lead ds numeral) s.1 in
+    (sym (take-append-drop k bytes) ∙ ap (λ z. z ++ drop k bytes) (sym d ∙ ap decimal (sym s.0)), omega (arith, s.0, s.1)))
 
 byte_inv : (b : ℕ) (bytes : List ℕ) → IfSome (byte_at b bytes) (λ rest. bytes ≡ b ∷ rest)
 unfolding byte_at
@@ -103,8 +85,8 @@ then_inv b bytes =
     let N : Type 0 = Option ℕ × List ℕ in
     let P : N → Type 0 = λ v. (n : ℕ) → v.0 ≡ Some n → (bytes ≡ decimal n ++ b ∷ v.1) × (n < 2 ^ 64) in
     bind_some {A = N} {B = N} (number_at bytes) (λ n. ◌>>=◌ {A = List ℕ} {B = N} (byte_at b n.1) (λ rest. Some (n.0, rest))) P
-      (λ n is. bind_some {A = List ℕ} {B = N} (byte_at b n.1) (λ rest. Some (n.0, rest)) P
-        (λ rest is2 k e. let r : (bytes ≡ decimal k ++ n.1) × (k < 2 ^ 64) = some_holds (number_at bytes) n (IsNumberOf bytes) (number_inv bytes) is k e in (r.0 ∙ ap (λ z. decimal k ++ z) (byte_is b n.1 rest is2), r.1)))
+    (λ n is. bind_some {A = List ℕ} {B = N} (byte_at b n.1) (λ rest. Some (n.0, rest)) P
+    (λ rest is2 k e. let r : (bytes ≡ decimal k ++ n.1) × (k < 2 ^ 64) = some_holds (number_at bytes) n (IsNumberOf bytes) (number_inv bytes) is k e in (r.0 ∙ ap (λ z. decimal k ++ z) (byte_is b n.1 rest is2), r.1)))
 
 then_is : (b : ℕ) (bytes : List ℕ) (v : Option ℕ × List ℕ) (n : ℕ) → number_then b bytes ≡ Some v → v.0 ≡ Some n → (bytes ≡ decimal n ++ b ∷ v.1) × (n < 2 ^ 64)
 then_is b bytes v n is e = some_holds (number_then b bytes) v (λ w. (k : ℕ) → w.0 ≡ Some k → (bytes ≡ decimal k ++ b ∷ w.1) × (k < 2 ^ 64)) (then_inv b bytes) is n e
@@ -128,11 +110,11 @@ character_inv bytes =
     let N : Type 0 = Option ℕ × List ℕ in
     let C : Type 0 = ℕ × List ℕ in
     bind_some {A = N} {B = C} (number_at bytes) (λ n. ◌>>=◌ {A = ℕ} {B = C} (character_of n.0) (λ c. Some (c, n.1))) (IsCharacterOf bytes)
-      (λ n is. bind_some {A = ℕ} {B = C} (character_of n.0) (λ c. Some (c, n.1)) (IsCharacterOf bytes)
-        (λ c is2.
-          let plain : IsPlainLetter c = plain_character n.0 c is2 in
-          let r : (bytes ≡ decimal c ++ n.1) × (c < 2 ^ 64) = some_holds (number_at bytes) n (IsNumberOf bytes) (number_inv bytes) is c (of_number n.0 c is2) in
-          (r.0, plain.char)))
+    (λ n is. bind_some {A = ℕ} {B = C} (character_of n.0) (λ c. Some (c, n.1)) (IsCharacterOf bytes)
+    (λ c is2.
+    let plain : IsPlainLetter c = plain_character n.0 c is2 in
+    let r : (bytes ≡ decimal c ++ n.1) × (c < 2 ^ 64) = some_holds (number_at bytes) n (IsNumberOf bytes) (number_inv bytes) is c (of_number n.0 c is2) in
+    (r.0, plain.char)))
 
 abbrev IsSideOf : List ℕ → Option Symbol × List ℕ → Type 0
 IsSideOf bytes v = (bytes ≡ side_text v.0 ++ v.1) × (is_held_side v.0 ≡ true)
@@ -148,9 +130,9 @@ tag_inv bytes =
     let k : ℕ = prefix_len is_name_byte bytes in
     let name : List ℕ = take k bytes in
     bind_some {A = Symbol} {B = Option Symbol × List ℕ} (tag_of name) (λ tag. Some (Some tag, drop k bytes)) (IsSideOf (84 ∷ bytes))
-      (λ tag is.
-        let s : ((is_utf8 name && is_tag_name name) ≡ true) × (Tag name ≡ tag) = some_if (is_utf8 name && is_tag_name name) (Tag name) tag is in
-        subst (λ (t : Symbol). IsSideOf (84 ∷ bytes) (Some t, drop k bytes)) s.1 (ap (λ z. 84 ∷ z) (sym (take-append-drop k bytes)), s.0))
+    (λ tag is.
+    let s : ((is_utf8 name && is_tag_name name) ≡ true) × (Tag name ≡ tag) = some_if (is_utf8 name && is_tag_name name) (Tag name) tag is in
+    subst (λ (t : Symbol). IsSideOf (84 ∷ bytes) (Some t, drop k bytes)) s.1 (ap (λ z. 84 ∷ z) (sym (take-append-drop k bytes)), s.0))
 
 side_inv : (bytes : List ℕ) → IfSome (side_at bytes) (IsSideOf bytes)
 unfolding side_at
@@ -171,9 +153,6 @@ side_is bytes v is = some_holds (side_at bytes) v (IsSideOf bytes) (side_inv byt
 
 -- ---- edges and final states
 
-both_true : (a b : Bool) → a ≡ true → b ≡ true → (a && b) ≡ true
-both_true a b e f = rw (e, f) refl
-
 abbrev IsLabelOf : List ℕ → Label × List ℕ → Type 0
 IsLabelOf bytes v = (bytes ≡ then_space (side_text v.0.left) ++ (side_text v.0.right ++ v.1)) × (is_held_label v.0 ≡ true)
 
@@ -192,10 +171,10 @@ label_inv bytes =
     let S : Type 0 = Option Symbol × List ℕ in
     let L : Type 0 = Label × List ℕ in
     bind_some {A = S} {B = L} (side_at bytes) (λ left. ◌>>=◌ {A = List ℕ} {B = L} (byte_at 32 left.1) (λ after. ◌>>=◌ {A = S} {B = L} (side_at after) (λ right. ◌>>=◌ {A = Label} {B = L} (label_of left.0 right.0) (λ label. Some (label, right.1))))) (IsLabelOf bytes)
-      (λ left is. bind_some {A = List ℕ} {B = L} (byte_at 32 left.1) (λ after. ◌>>=◌ {A = S} {B = L} (side_at after) (λ right. ◌>>=◌ {A = Label} {B = L} (label_of left.0 right.0) (λ label. Some (label, right.1)))) (IsLabelOf bytes)
-        (λ after is2. bind_some {A = S} {B = L} (side_at after) (λ right. ◌>>=◌ {A = Label} {B = L} (label_of left.0 right.0) (λ label. Some (label, right.1))) (IsLabelOf bytes)
-          (λ right is3. bind_some {A = Label} {B = L} (label_of left.0 right.0) (λ label. Some (label, right.1)) (IsLabelOf bytes)
-            (λ label is4. label_whole bytes after left right label is is2 is3 is4))))
+    (λ left is. bind_some {A = List ℕ} {B = L} (byte_at 32 left.1) (λ after. ◌>>=◌ {A = S} {B = L} (side_at after) (λ right. ◌>>=◌ {A = Label} {B = L} (label_of left.0 right.0) (λ label. Some (label, right.1)))) (IsLabelOf bytes)
+    (λ after is2. bind_some {A = S} {B = L} (side_at after) (λ right. ◌>>=◌ {A = Label} {B = L} (label_of left.0 right.0) (λ label. Some (label, right.1))) (IsLabelOf bytes)
+    (λ right is3. bind_some {A = Label} {B = L} (label_of left.0 right.0) (λ label. Some (label, right.1)) (IsLabelOf bytes)
+    (λ label is4. label_whole bytes after left right label is is2 is3 is4))))
 
 state_some : (n : Option ℕ) → state_of n < 2 ^ 64 - 1 → n ≡ Some (state_of n)
 state_some None lt = absurd (omega arith)
@@ -225,10 +204,10 @@ edge_inv bytes =
     let N : Type 0 = Option ℕ × List ℕ in
     let E : Type 0 = Edge × List ℕ in
     bind_some {A = N} {B = E} (number_then 32 bytes) (λ from. ◌>>=◌ {A = Label × List ℕ} {B = E} (label_at from.1) (λ label. ◌>>=◌ {A = List ℕ} {B = E} (byte_at 32 label.1) (λ after. ◌>>=◌ {A = N} {B = E} (number_then 10 after) (λ to. Some (record { from = state_of from.0; label = label.0; to = state_of to.0 }, to.1))))) (IsEdgeOf bytes)
-      (λ from is. bind_some {A = Label × List ℕ} {B = E} (label_at from.1) (λ label. ◌>>=◌ {A = List ℕ} {B = E} (byte_at 32 label.1) (λ after. ◌>>=◌ {A = N} {B = E} (number_then 10 after) (λ to. Some (record { from = state_of from.0; label = label.0; to = state_of to.0 }, to.1)))) (IsEdgeOf bytes)
-        (λ label is2. bind_some {A = List ℕ} {B = E} (byte_at 32 label.1) (λ after. ◌>>=◌ {A = N} {B = E} (number_then 10 after) (λ to. Some (record { from = state_of from.0; label = label.0; to = state_of to.0 }, to.1))) (IsEdgeOf bytes)
-          (λ after is3. bind_some {A = N} {B = E} (number_then 10 after) (λ to. Some (record { from = state_of from.0; label = label.0; to = state_of to.0 }, to.1)) (IsEdgeOf bytes)
-            (λ to is4. edge_whole bytes after from to label is is2 is3 is4))))
+    (λ from is. bind_some {A = Label × List ℕ} {B = E} (label_at from.1) (λ label. ◌>>=◌ {A = List ℕ} {B = E} (byte_at 32 label.1) (λ after. ◌>>=◌ {A = N} {B = E} (number_then 10 after) (λ to. Some (record { from = state_of from.0; label = label.0; to = state_of to.0 }, to.1)))) (IsEdgeOf bytes)
+    (λ label is2. bind_some {A = List ℕ} {B = E} (byte_at 32 label.1) (λ after. ◌>>=◌ {A = N} {B = E} (number_then 10 after) (λ to. Some (record { from = state_of from.0; label = label.0; to = state_of to.0 }, to.1))) (IsEdgeOf bytes)
+    (λ after is3. bind_some {A = N} {B = E} (number_then 10 after) (λ to. Some (record { from = state_of from.0; label = label.0; to = state_of to.0 }, to.1)) (IsEdgeOf bytes)
+    (λ to is4. edge_whole bytes after from to label is is2 is3 is4))))
 
 pub edge_use : (bytes : List ℕ) (x : Edge × List ℕ) → edge_at bytes ≡ Some x → x.0.from < 2 ^ 64 - 1 → x.0.to < 2 ^ 64 - 1 → (bytes ≡ edge_text x.0 ++ x.1) × (is_held_edge x.0 ≡ true)
 edge_use bytes x is = some_holds (edge_at bytes) x (IsEdgeOf bytes) (edge_inv bytes) is
@@ -245,10 +224,10 @@ unfolding kind_at
 kind_inv kind bytes =
     let P : List ℕ → Type 0 = λ rest. bytes ≡ (codes "section " ++ then_space (section_name kind)) ++ rest in
     bind_some {A = List ℕ} {B = List ℕ} (word_at (codes "section ") bytes) (λ word. ◌>>=◌ {A = List ℕ} {B = List ℕ} (word_at (section_name kind) word) (λ name. byte_at 32 name)) P
-      (λ word is. bind_some {A = List ℕ} {B = List ℕ} (word_at (section_name kind) word) (λ name. byte_at 32 name) P
-        (λ name is2. map_some (byte_at 32 name) (λ rest. name ≡ 32 ∷ rest) P
-          (λ rest q. word_is (codes "section ") bytes word is ∙ ap (λ z. codes "section " ++ z) (word_is (section_name kind) word name is2 ∙ ap (λ z. section_name kind ++ z) q ∙ sym (spaced (section_name kind) rest)) ∙ sym (append_assoc (codes "section ") (then_space (section_name kind)) rest))
-          (byte_inv 32 name)))
+    (λ word is. bind_some {A = List ℕ} {B = List ℕ} (word_at (section_name kind) word) (λ name. byte_at 32 name) P
+    (λ name is2. map_some (byte_at 32 name) (λ rest. name ≡ 32 ∷ rest) P
+    (λ rest q. word_is (codes "section ") bytes word is ∙ ap (λ z. codes "section " ++ z) (word_is (section_name kind) word name is2 ∙ ap (λ z. section_name kind ++ z) q ∙ sym (spaced (section_name kind) rest)) ∙ sym (append_assoc (codes "section ") (then_space (section_name kind)) rest))
+    (byte_inv 32 name)))
 
 -- the first line of a section of so many states, edges and final states
 abbrev pub head_of : Kind2 → ℕ → ℕ → ℕ → List ℕ
@@ -286,10 +265,10 @@ head_inv kind bytes =
     let N : Type 0 = Option ℕ × List ℕ in
     let H : Type 0 = Head × List ℕ in
     bind_some {A = List ℕ} {B = H} (kind_at kind bytes) (λ name. ◌>>=◌ {A = N} {B = H} (number_then 32 name) (λ states. ◌>>=◌ {A = N} {B = H} (number_then 32 states.1) (λ edges. ◌>>=◌ {A = N} {B = H} (number_then 10 edges.1) (λ finals. Some (record { states = states.0; edges = edges.0; finals = finals.0 }, finals.1))))) (AreHeadsOf kind bytes)
-      (λ name is. bind_some {A = N} {B = H} (number_then 32 name) (λ states. ◌>>=◌ {A = N} {B = H} (number_then 32 states.1) (λ edges. ◌>>=◌ {A = N} {B = H} (number_then 10 edges.1) (λ finals. Some (record { states = states.0; edges = edges.0; finals = finals.0 }, finals.1)))) (AreHeadsOf kind bytes)
-        (λ states is2. bind_some {A = N} {B = H} (number_then 32 states.1) (λ edges. ◌>>=◌ {A = N} {B = H} (number_then 10 edges.1) (λ finals. Some (record { states = states.0; edges = edges.0; finals = finals.0 }, finals.1))) (AreHeadsOf kind bytes)
-          (λ edges is3. bind_some {A = N} {B = H} (number_then 10 edges.1) (λ finals. Some (record { states = states.0; edges = edges.0; finals = finals.0 }, finals.1)) (AreHeadsOf kind bytes)
-            (λ finals is4. head_whole kind bytes name states edges finals is is2 is3 is4))))
+    (λ name is. bind_some {A = N} {B = H} (number_then 32 name) (λ states. ◌>>=◌ {A = N} {B = H} (number_then 32 states.1) (λ edges. ◌>>=◌ {A = N} {B = H} (number_then 10 edges.1) (λ finals. Some (record { states = states.0; edges = edges.0; finals = finals.0 }, finals.1)))) (AreHeadsOf kind bytes)
+    (λ states is2. bind_some {A = N} {B = H} (number_then 32 states.1) (λ edges. ◌>>=◌ {A = N} {B = H} (number_then 10 edges.1) (λ finals. Some (record { states = states.0; edges = edges.0; finals = finals.0 }, finals.1))) (AreHeadsOf kind bytes)
+    (λ edges is3. bind_some {A = N} {B = H} (number_then 10 edges.1) (λ finals. Some (record { states = states.0; edges = edges.0; finals = finals.0 }, finals.1)) (AreHeadsOf kind bytes)
+    (λ finals is4. head_whole kind bytes name states edges finals is is2 is3 is4))))
 
 -- ---- the alphabet
 
@@ -301,9 +280,9 @@ unfolding next_letter_at
 next_inv least bytes =
     let C : Type 0 = ℕ × List ℕ in
     bind_some {A = List ℕ} {B = C} (byte_at 32 bytes) (λ rest. ◌>>=◌ {A = C} {B = C} (character_at rest) (λ c. if nat_le least c.0 then Some c else None)) (IsNextOf bytes)
-      (λ rest is. bind_some {A = C} {B = C} (character_at rest) (λ c. if nat_le least c.0 then Some c else None) (IsNextOf bytes)
-        (λ c is2. chosen_if (nat_le least c.0) c (IsNextOf bytes)
-          (λ e. let r : IsCharacterOf rest c = some_holds (character_at rest) c (IsCharacterOf rest) (character_inv rest) is2 in (byte_is 32 bytes rest is ∙ ap (λ z. 32 ∷ z) r.0, r.1))))
+    (λ rest is. bind_some {A = C} {B = C} (character_at rest) (λ c. if nat_le least c.0 then Some c else None) (IsNextOf bytes)
+    (λ c is2. chosen_if (nat_le least c.0) c (IsNextOf bytes)
+    (λ e. let r : IsCharacterOf rest c = some_holds (character_at rest) c (IsCharacterOf rest) (character_inv rest) is2 in (byte_is 32 bytes rest is ∙ ap (λ z. 32 ∷ z) r.0, r.1))))
 
 abbrev AreLettersOf : List ℕ → List ℕ × List ℕ → Type 0
 AreLettersOf bytes v = (bytes ≡ flat_map letter_text v.0 ++ v.1) × (list_all is_character v.0 ≡ true)
@@ -315,13 +294,13 @@ letters_inv (suc n) least bytes =
     let C : Type 0 = ℕ × List ℕ in
     let V : Type 0 = List ℕ × List ℕ in
     chosen (begins_with 32 bytes) (next_letter_at least bytes >>= λ c. with_letters (c.0 ∷ []) (letters_in n (c.0 + 1) c.1)) (Some ([], bytes)) (AreLettersOf bytes)
-      (bind_some {A = C} {B = V} (next_letter_at least bytes) (λ c. with_letters (c.0 ∷ []) (letters_in n (c.0 + 1) c.1)) (AreLettersOf bytes)
-        (λ c is. bind_some {A = V} {B = V} (letters_in n (c.0 + 1) c.1) (λ x. Some ((c.0 ∷ []) ++ x.0, x.1)) (AreLettersOf bytes)
-          (λ x is2.
-            let a : IsNextOf bytes c = some_holds (next_letter_at least bytes) c (IsNextOf bytes) (next_inv least bytes) is in
-            let b : AreLettersOf c.1 x = some_holds (letters_in n (c.0 + 1) c.1) x (AreLettersOf c.1) (letters_inv n (c.0 + 1) c.1) is2 in
-            (a.0 ∙ ap (λ z. letter_text c.0 ++ z) b.0 ∙ sym (append_assoc (letter_text c.0) (flat_map letter_text x.0) x.1), both_true (is_character c.0) (list_all is_character x.0) a.1 b.1))))
-      (refl, refl)
+    (bind_some {A = C} {B = V} (next_letter_at least bytes) (λ c. with_letters (c.0 ∷ []) (letters_in n (c.0 + 1) c.1)) (AreLettersOf bytes)
+    (λ c is. bind_some {A = V} {B = V} (letters_in n (c.0 + 1) c.1) (λ x. Some ((c.0 ∷ []) ++ x.0, x.1)) (AreLettersOf bytes)
+    (λ x is2.
+    let a : IsNextOf bytes c = some_holds (next_letter_at least bytes) c (IsNextOf bytes) (next_inv least bytes) is in
+    let b : AreLettersOf c.1 x = some_holds (letters_in n (c.0 + 1) c.1) x (AreLettersOf c.1) (letters_inv n (c.0 + 1) c.1) is2 in
+    (a.0 ∙ ap (λ z. letter_text c.0 ++ z) b.0 ∙ sym (append_assoc (letter_text c.0) (flat_map letter_text x.0) x.1), both_true (is_character c.0) (list_all is_character x.0) a.1 b.1))))
+    (refl, refl)
 
 abbrev pub IsAlphabetOf : List ℕ → List ℕ × List ℕ → Type 0
 IsAlphabetOf bytes v = (bytes ≡ alphabet_text v.0 ++ v.1) × (list_all is_character v.0 ≡ true)
@@ -332,9 +311,9 @@ alphabet_inv bytes =
     let V : Type 0 = List ℕ × List ℕ in
     let P : V → Type 0 = IsAlphabetOf bytes in
     bind_some {A = List ℕ} {B = V} (word_at (codes "alphabet") bytes) (λ word. ◌>>=◌ {A = V} {B = V} (letters_in (length word) 0 word) (λ letters. ◌>>=◌ {A = List ℕ} {B = V} (byte_at 10 letters.1) (λ rest. if is_closed letters.0 then Some (letters.0, rest) else None))) P
-      (λ word is. bind_some {A = V} {B = V} (letters_in (length word) 0 word) (λ letters. ◌>>=◌ {A = List ℕ} {B = V} (byte_at 10 letters.1) (λ rest. if is_closed letters.0 then Some (letters.0, rest) else None)) P
-        (λ letters is2. bind_some {A = List ℕ} {B = V} (byte_at 10 letters.1) (λ rest. if is_closed letters.0 then Some (letters.0, rest) else None) P
-          (λ rest is3. chosen_if (is_closed letters.0) (letters.0, rest) P (λ closed.
-            let l : AreLettersOf word letters = some_holds (letters_in (length word) 0 word) letters (AreLettersOf word) (letters_inv (length word) 0 word) is2 in
-            let fields : List ℕ = flat_map letter_text letters.0 in
-            (word_is (codes "alphabet") bytes word is ∙ ap (λ z. codes "alphabet" ++ z) (l.0 ∙ ap (λ z. fields ++ z) (byte_is 10 letters.1 rest is3) ∙ sym (ended fields rest)) ∙ sym (append_assoc (codes "alphabet") (then_end fields) rest), l.1)))))
+    (λ word is. bind_some {A = V} {B = V} (letters_in (length word) 0 word) (λ letters. ◌>>=◌ {A = List ℕ} {B = V} (byte_at 10 letters.1) (λ rest. if is_closed letters.0 then Some (letters.0, rest) else None)) P
+    (λ letters is2. bind_some {A = List ℕ} {B = V} (byte_at 10 letters.1) (λ rest. if is_closed letters.0 then Some (letters.0, rest) else None) P
+    (λ rest is3. chosen_if (is_closed letters.0) (letters.0, rest) P (λ closed.
+    let l : AreLettersOf word letters = some_holds (letters_in (length word) 0 word) letters (AreLettersOf word) (letters_inv (length word) 0 word) is2 in
+    let fields : List ℕ = flat_map letter_text letters.0 in
+    (word_is (codes "alphabet") bytes word is ∙ ap (λ z. codes "alphabet" ++ z) (l.0 ∙ ap (λ z. fields ++ z) (byte_is 10 letters.1 rest is3) ∙ sym (ended fields rest)) ∙ sym (append_assoc (codes "alphabet") (then_end fields) rest), l.1)))))

@@ -1,16 +1,16 @@
 -- The lines of a file, written again, are the text that was read.
-use Rattle.std.proofs.Common.{◌≡◌, ℕ, suc, zero, ◌+◌, ◌-◌, ◌^◌, ◌<◌, ◌≤◌, Bool, true, false, not, ◌&&◌, List, [], ◌∷◌, ◌++◌, length, refl, sym, ◌∙◌, ap, subst, arith, append_assoc, append-nil, Option, Some, None, Result, Ok, Err, IfOk, IfSome, cond}
-use Rattle.std.specs.Prelude.{◌==◌, if◌then◌else◌, codes, ◌↔◌, decimal}
+use Rattle.std.proofs.Common.{◌≡◌, ℕ, suc, zero, ◌+◌, ◌-◌, ◌^◌, ◌<◌, Bool, true, false, List, [], ◌∷◌, ◌++◌, length, refl, sym, ◌∙◌, ap, arith, append_assoc, append-nil, Option, Some, None, Result, Ok, Err, IfOk}
+use Rattle.std.specs.Prelude.{◌==◌, if◌then◌else◌, codes, ◌↔◌}
 use Rattle.std.specs.List.{flat_map, list_all}
 use Rattle.ap_fst.specs.Machines.{Machine}
-use Rattle.ap_fst.specs.Sections.{Parts, IsAlphabet}
+use Rattle.ap_fst.specs.Sections.{Parts}
 use Rattle.ap_fst.specs.declared.compiled.Kind2.{Kind2}
 use Rattle.ap_fst.specs.declared.compiled.Kind2.TheVariants.{Standard, Inconditional, Postblank, Preblank}
 use Rattle.ap_fst.specs.declared.label.Edge.{Edge}
-use Rattle.ap_binary.specs.Grammar.{IsRaw, AreRawParts, IsLeftOf, IsTextOf}
+use Rattle.ap_binary.specs.Grammar.{IsLeftOf, IsTextOf}
 use Rattle.ap_binary.specs.Held.{is_held_edge, IsHeldMachine, AreHeldSections, IsHeld}
-use Rattle.ap_binary.specs.Pieces.{word_at, is_character, edge_at, final_at, head_at, alphabet_at}
-use Rattle.ap_binary.specs.Lines.{◌>>=◌, fault, on_line, on_header, over, judged_edge, edge_line, edges_in, with_edges, judged_final, final_line, finals_in, with_finals, counts_of, head_line, section_in, line_after, sections_in, end_in, file_in}
+use Rattle.ap_binary.specs.Pieces.{word_at, final_at, head_at, alphabet_at}
+use Rattle.ap_binary.specs.Lines.{◌>>=◌, fault, on_line, on_header, over, edge_line, edges_in, with_edges, final_line, finals_in, with_finals, counts_of, head_line, section_in, line_after, sections_in, end_in, file_in}
 use Rattle.ap_binary.specs.Spelling.{IsSpelled, Spells}
 use Rattle.ap_binary.specs.Text.{edge_text, final_text, head_text, section_text, sections_text, alphabet_text, compiled_text}
 use Rattle.ap_binary.specs.declared.file.File.{File}
@@ -20,14 +20,12 @@ use Rattle.ap_binary.specs.declared.refusal.BinaryFault.{BinaryFault}
 use Rattle.ap_binary.specs.declared.refusal.BinaryKind.TheVariants.{OutOfRange}
 use Rattle.ap_binary.specs.declared.sections.Sections.{Sections}
 use Rattle.ap_binary.specs.declared.sections.Written.{Written}
+use Rattle.ap_binary.proofs.Bools.{both_true}
 use Rattle.ap_binary.proofs.Options.{some_holds}
 use Rattle.ap_binary.proofs.Edges.{bind_ok, ok_holds, if_ok, on_line_some, same_Ok, AreEdges, AreFinals, edges_are, finals_are, IsNextEdge, next_edge, IsNextFinal, next_final, judged_is, judged_final_is, within_is}
 use Rattle.ap_binary.proofs.Files.{IsRawFile, file_raw}
 use Rattle.ap_binary.proofs.Inverse.{edge_use, final_inv, head_inv, AreHeadsOf, IsHeadOf, head_of, alphabet_inv, IsAlphabetOf, word_is}
 use Rattle.ap_binary.proofs.Reread.{placed_file, file_back, written_at}
-
-both_true : (a b : Bool) → a ≡ true → b ≡ true → (a && b) ≡ true
-both_true a b e f = rw (e, f) refl
 
 -- ---- edges
 
@@ -49,11 +47,11 @@ edges_inv (suc n) states line before bytes small =
     let E : Type 0 = Edge × List ℕ in
     let V : Type 0 = List Edge × List ℕ in
     bind_ok {A = E} {B = V} (edge_line states before line bytes) (λ e. with_edges (e.0 ∷ []) (edges_in n states (Some e.0) (line + 1) e.1)) (AreEdgesOf bytes)
-      (λ e is. bind_ok {A = V} {B = V} (edges_in n states (Some e.0) (line + 1) e.1) (λ x. Ok ((e.0 ∷ []) ++ x.0, x.1)) (AreEdgesOf bytes)
-        (λ x is2.
-          let a : (bytes ≡ edge_text e.0 ++ e.1) × (is_held_edge e.0 ≡ true) = line_is_edge states line before bytes e small is in
-          let b : AreEdgesOf e.1 x = ok_holds (edges_in n states (Some e.0) (line + 1) e.1) x (AreEdgesOf e.1) (edges_inv n states (line + 1) (Some e.0) e.1 small) is2 in
-          (a.0 ∙ ap (λ z. edge_text e.0 ++ z) b.0 ∙ sym (append_assoc (edge_text e.0) (flat_map edge_text x.0) x.1), both_true (is_held_edge e.0) (list_all is_held_edge x.0) a.1 b.1)))
+    (λ e is. bind_ok {A = V} {B = V} (edges_in n states (Some e.0) (line + 1) e.1) (λ x. Ok ((e.0 ∷ []) ++ x.0, x.1)) (AreEdgesOf bytes)
+    (λ x is2.
+    let a : (bytes ≡ edge_text e.0 ++ e.1) × (is_held_edge e.0 ≡ true) = line_is_edge states line before bytes e small is in
+    let b : AreEdgesOf e.1 x = ok_holds (edges_in n states (Some e.0) (line + 1) e.1) x (AreEdgesOf e.1) (edges_inv n states (line + 1) (Some e.0) e.1 small) is2 in
+    (a.0 ∙ ap (λ z. edge_text e.0 ++ z) b.0 ∙ sym (append_assoc (edge_text e.0) (flat_map edge_text x.0) x.1), both_true (is_held_edge e.0) (list_all is_held_edge x.0) a.1 b.1)))
 
 -- ---- final states
 
@@ -70,10 +68,10 @@ finals_inv (suc n) states least line bytes small =
     let V : Type 0 = List ℕ × List ℕ in
     let P : V → Type 0 = λ v. bytes ≡ flat_map final_text v.0 ++ v.1 in
     bind_ok {A = ℕ × List ℕ} {B = V} (final_line states least line bytes) (λ s. with_finals (s.0 ∷ []) (finals_in n states (s.0 + 1) (line + 1) s.1)) P
-      (λ s is. bind_ok {A = V} {B = V} (finals_in n states (s.0 + 1) (line + 1) s.1) (λ x. Ok ((s.0 ∷ []) ++ x.0, x.1)) P
-        (λ x is2.
-          let b : s.1 ≡ flat_map final_text x.0 ++ x.1 = ok_holds (finals_in n states (s.0 + 1) (line + 1) s.1) x (λ v. s.1 ≡ flat_map final_text v.0 ++ v.1) (finals_inv n states (s.0 + 1) (line + 1) s.1 small) is2 in
-          line_is_final states least line bytes s small is ∙ ap (λ z. final_text s.0 ++ z) b ∙ sym (append_assoc (final_text s.0) (flat_map final_text x.0) x.1)))
+    (λ s is. bind_ok {A = V} {B = V} (finals_in n states (s.0 + 1) (line + 1) s.1) (λ x. Ok ((s.0 ∷ []) ++ x.0, x.1)) P
+    (λ x is2.
+    let b : s.1 ≡ flat_map final_text x.0 ++ x.1 = ok_holds (finals_in n states (s.0 + 1) (line + 1) s.1) x (λ v. s.1 ≡ flat_map final_text v.0 ++ v.1) (finals_inv n states (s.0 + 1) (line + 1) s.1 small) is2 in
+    line_is_final states least line bytes s small is ∙ ap (λ z. final_text s.0 ++ z) b ∙ sym (append_assoc (final_text s.0) (flat_map final_text x.0) x.1)))
 
 -- ---- sections
 
@@ -101,10 +99,10 @@ head_line_inv kind line bytes =
     let H : Type 0 = Head × List ℕ in
     let C : Type 0 = Counts × List ℕ in
     bind_ok {A = H} {B = C} (on_line line (head_at kind bytes)) (λ head. ◌>>=◌ {A = Counts} {B = C} (counts_of line head.0.states head.0.edges head.0.finals) (λ counts. Ok (counts, head.1))) (IsCountsOf kind bytes)
-      (λ head is. bind_ok {A = Counts} {B = C} (counts_of line head.0.states head.0.edges head.0.finals) (λ counts. Ok (counts, head.1)) (IsCountsOf kind bytes)
-        (λ counts is2.
-          let h : AreHeadsOf kind bytes head = some_holds (head_at kind bytes) head (AreHeadsOf kind bytes) (head_inv kind bytes) (on_line_some line (head_at kind bytes) head is) in
-          ok_holds (counts_of line head.0.states head.0.edges head.0.finals) counts (λ k. IsCountsOf kind bytes (k, head.1)) (counts_inv kind line bytes head.1 head.0.states head.0.edges head.0.finals h) is2))
+    (λ head is. bind_ok {A = Counts} {B = C} (counts_of line head.0.states head.0.edges head.0.finals) (λ counts. Ok (counts, head.1)) (IsCountsOf kind bytes)
+    (λ counts is2.
+    let h : AreHeadsOf kind bytes head = some_holds (head_at kind bytes) head (AreHeadsOf kind bytes) (head_inv kind bytes) (on_line_some line (head_at kind bytes) head is) in
+    ok_holds (counts_of line head.0.states head.0.edges head.0.finals) counts (λ k. IsCountsOf kind bytes (k, head.1)) (counts_inv kind line bytes head.1 head.0.states head.0.edges head.0.finals h) is2))
 
 record IsSectionOf (kind : Kind2) (bytes : List ℕ) (v : Written × List ℕ) : Type 0 where
   whole : bytes ≡ section_text kind v.0.fst ++ v.1
@@ -135,9 +133,9 @@ section_inv kind line bytes =
     let W : Type 0 = Written × List ℕ in
     let P : W → Type 0 = IsSectionOf kind bytes in
     bind_ok {A = C} {B = W} (head_line kind line bytes) (λ head. ◌>>=◌ {A = E} {B = W} (edges_in head.0.edges head.0.states None (line + 1) head.1) (λ edges. ◌>>=◌ {A = F} {B = W} (finals_in head.0.finals head.0.states 0 (line + 1 + head.0.edges) edges.1) (λ finals. Ok (record { fst = record { states = head.0.states; edges = edges.0; finals = finals.0 }; line = line }, finals.1)))) P
-      (λ head is. bind_ok {A = E} {B = W} (edges_in head.0.edges head.0.states None (line + 1) head.1) (λ edges. ◌>>=◌ {A = F} {B = W} (finals_in head.0.finals head.0.states 0 (line + 1 + head.0.edges) edges.1) (λ finals. Ok (record { fst = record { states = head.0.states; edges = edges.0; finals = finals.0 }; line = line }, finals.1))) P
-        (λ edges is2. bind_ok {A = F} {B = W} (finals_in head.0.finals head.0.states 0 (line + 1 + head.0.edges) edges.1) (λ finals. Ok (record { fst = record { states = head.0.states; edges = edges.0; finals = finals.0 }; line = line }, finals.1)) P
-          (λ finals is3. section_whole kind line bytes head edges finals is is2 is3)))
+    (λ head is. bind_ok {A = E} {B = W} (edges_in head.0.edges head.0.states None (line + 1) head.1) (λ edges. ◌>>=◌ {A = F} {B = W} (finals_in head.0.finals head.0.states 0 (line + 1 + head.0.edges) edges.1) (λ finals. Ok (record { fst = record { states = head.0.states; edges = edges.0; finals = finals.0 }; line = line }, finals.1))) P
+    (λ edges is2. bind_ok {A = F} {B = W} (finals_in head.0.finals head.0.states 0 (line + 1 + head.0.edges) edges.1) (λ finals. Ok (record { fst = record { states = head.0.states; edges = edges.0; finals = finals.0 }; line = line }, finals.1)) P
+    (λ finals is3. section_whole kind line bytes head edges finals is is2 is3)))
 
 section_is : (kind : Kind2) (line : ℕ) (bytes : List ℕ) (x : Written × List ℕ) → section_in kind line bytes ≡ Ok x → IsSectionOf kind bytes x
 section_is kind line bytes x is = ok_holds (section_in kind line bytes) x (IsSectionOf kind bytes) (section_inv kind line bytes) is
@@ -174,10 +172,10 @@ sections_inv line bytes =
     let S : Type 0 = Sections × List ℕ in
     let P : S → Type 0 = AreSectionsOf bytes in
     bind_ok {A = W} {B = S} (section_in Standard line bytes) (λ a. ◌>>=◌ {A = W} {B = S} (section_in Inconditional (line_after a.0) a.1) (λ b. ◌>>=◌ {A = W} {B = S} (section_in Postblank (line_after b.0) b.1) (λ c. ◌>>=◌ {A = W} {B = S} (section_in Preblank (line_after c.0) c.1) (λ d. Ok (record { standard = a.0; inconditional = b.0; postblank = c.0; preblank = d.0 }, d.1))))) P
-      (λ a is. bind_ok {A = W} {B = S} (section_in Inconditional (line_after a.0) a.1) (λ b. ◌>>=◌ {A = W} {B = S} (section_in Postblank (line_after b.0) b.1) (λ c. ◌>>=◌ {A = W} {B = S} (section_in Preblank (line_after c.0) c.1) (λ d. Ok (record { standard = a.0; inconditional = b.0; postblank = c.0; preblank = d.0 }, d.1)))) P
-        (λ b is2. bind_ok {A = W} {B = S} (section_in Postblank (line_after b.0) b.1) (λ c. ◌>>=◌ {A = W} {B = S} (section_in Preblank (line_after c.0) c.1) (λ d. Ok (record { standard = a.0; inconditional = b.0; postblank = c.0; preblank = d.0 }, d.1))) P
-          (λ c is3. bind_ok {A = W} {B = S} (section_in Preblank (line_after c.0) c.1) (λ d. Ok (record { standard = a.0; inconditional = b.0; postblank = c.0; preblank = d.0 }, d.1)) P
-            (λ d is4. sections_whole line bytes a b c d is is2 is3 is4))))
+    (λ a is. bind_ok {A = W} {B = S} (section_in Inconditional (line_after a.0) a.1) (λ b. ◌>>=◌ {A = W} {B = S} (section_in Postblank (line_after b.0) b.1) (λ c. ◌>>=◌ {A = W} {B = S} (section_in Preblank (line_after c.0) c.1) (λ d. Ok (record { standard = a.0; inconditional = b.0; postblank = c.0; preblank = d.0 }, d.1)))) P
+    (λ b is2. bind_ok {A = W} {B = S} (section_in Postblank (line_after b.0) b.1) (λ c. ◌>>=◌ {A = W} {B = S} (section_in Preblank (line_after c.0) c.1) (λ d. Ok (record { standard = a.0; inconditional = b.0; postblank = c.0; preblank = d.0 }, d.1))) P
+    (λ c is3. bind_ok {A = W} {B = S} (section_in Preblank (line_after c.0) c.1) (λ d. Ok (record { standard = a.0; inconditional = b.0; postblank = c.0; preblank = d.0 }, d.1)) P
+    (λ d is4. sections_whole line bytes a b c d is is2 is3 is4))))
 
 -- ---- the file
 
@@ -189,7 +187,7 @@ end_inv : (line : ℕ) (bytes : List ℕ) → IfOk (end_in line bytes) (λ none.
 unfolding end_in
 end_inv line bytes = bind_ok {A = List ℕ} {B = List ℕ} (on_line line (word_at (codes "end\n") bytes)) (over (line + 1)) (λ none. bytes ≡ codes "end\n")
     (λ rest is. if_ok (over (line + 1) rest) (λ none. bytes ≡ codes "end\n")
-      (λ none is2. word_is (codes "end\n") bytes rest (on_line_some line (word_at (codes "end\n") bytes) rest is) ∙ ap (λ z. codes "end\n" ++ z) (over_inv (line + 1) rest none is2) ∙ append-nil (codes "end\n")))
+    (λ none is2. word_is (codes "end\n") bytes rest (on_line_some line (word_at (codes "end\n") bytes) rest is) ∙ ap (λ z. codes "end\n" ++ z) (over_inv (line + 1) rest none is2) ∙ append-nil (codes "end\n")))
 
 header_some : (r : Option (List ℕ)) (rest : List ℕ) → on_header r ≡ Ok rest → r ≡ Some rest
 header_some (Some x) rest e = ap (λ (z : List ℕ). let o : Option (List ℕ) = Some z in o) (same_Ok x rest e)
@@ -223,10 +221,10 @@ file_inv text =
     let S : Type 0 = Sections × List ℕ in
     let P : File → Type 0 = IsFileOf text in
     bind_ok {A = List ℕ} {B = File} (on_header (word_at (codes "LTC1\n") text)) (λ rest. ◌>>=◌ {A = A2} {B = File} (on_line 2 (alphabet_at rest)) (λ alphabet. ◌>>=◌ {A = S} {B = File} (sections_in 3 alphabet.1) (λ sections. ◌>>=◌ {A = List ℕ} {B = File} (end_in (line_after sections.0.preblank) sections.1) (λ none. Ok (record { alphabet = alphabet.0; sections = sections.0 }))))) P
-      (λ rest is. bind_ok {A = A2} {B = File} (on_line 2 (alphabet_at rest)) (λ alphabet. ◌>>=◌ {A = S} {B = File} (sections_in 3 alphabet.1) (λ sections. ◌>>=◌ {A = List ℕ} {B = File} (end_in (line_after sections.0.preblank) sections.1) (λ none. Ok (record { alphabet = alphabet.0; sections = sections.0 })))) P
-        (λ alphabet is2. bind_ok {A = S} {B = File} (sections_in 3 alphabet.1) (λ sections. ◌>>=◌ {A = List ℕ} {B = File} (end_in (line_after sections.0.preblank) sections.1) (λ none. Ok (record { alphabet = alphabet.0; sections = sections.0 }))) P
-          (λ sections is3. bind_ok {A = List ℕ} {B = File} (end_in (line_after sections.0.preblank) sections.1) (λ none. Ok (record { alphabet = alphabet.0; sections = sections.0 })) P
-            (λ none is4. file_whole text rest alphabet sections none is is2 is3 is4))))
+    (λ rest is. bind_ok {A = A2} {B = File} (on_line 2 (alphabet_at rest)) (λ alphabet. ◌>>=◌ {A = S} {B = File} (sections_in 3 alphabet.1) (λ sections. ◌>>=◌ {A = List ℕ} {B = File} (end_in (line_after sections.0.preblank) sections.1) (λ none. Ok (record { alphabet = alphabet.0; sections = sections.0 })))) P
+    (λ alphabet is2. bind_ok {A = S} {B = File} (sections_in 3 alphabet.1) (λ sections. ◌>>=◌ {A = List ℕ} {B = File} (end_in (line_after sections.0.preblank) sections.1) (λ none. Ok (record { alphabet = alphabet.0; sections = sections.0 }))) P
+    (λ sections is3. bind_ok {A = List ℕ} {B = File} (end_in (line_after sections.0.preblank) sections.1) (λ none. Ok (record { alphabet = alphabet.0; sections = sections.0 })) P
+    (λ none is4. file_whole text rest alphabet sections none is is2 is3 is4))))
 
 -- ---- both ways
 

@@ -1,13 +1,12 @@
 -- A trimmed transducer is what trimming leaves of it.
-use Rattle.std.proofs.Common.{◌≡◌, ◌⊎◌, inl, inr, ℕ, suc, zero, ◌+◌, ◌<◌, ◌≤◌, List, [], ◌∷◌, ◌++◌, refl, sym, ◌∙◌, ap, subst, arith}
+use Rattle.std.proofs.Common.{◌≡◌, inl, inr, ℕ, suc, zero, ◌<◌, List, [], ◌∷◌, ◌++◌, refl, sym, subst, arith}
 use Rattle.std.specs.Prelude.{◌↔◌}
 use Rattle.std.specs.Ordering.{nat_cmp}
 use Rattle.std.proofs.lemmas.Bool.{cases_lt}
 use Rattle.ap_fst.specs.Lists.{IsIn, Ascends}
 use Rattle.ap_fst.specs.Machines.{Machine, IsMachine}
 use Rattle.ap_fst.specs.Trimming.{IsReached, IsFinishing, IsTrimmed, IsUseful, IsTrimOf}
-use Rattle.ap_fst.specs.Walks.{Walk, ends, AcceptsLabels}
-use Rattle.ap_fst.specs.declared.label.Label.{Label}
+use Rattle.ap_fst.specs.Walks.{ends}
 use Rattle.ap_fst.proofs.Listing.{in_front, in_back, in_either, ascends_push}
 use Rattle.ap_fst.proofs.PlaceLaws.{cmp_less}
 use Rattle.ap_fst.proofs.Trims.{trimmed_back}

@@ -1,9 +1,8 @@
 -- What labels are read: plain ones, with a symbol on one side at least.
-use Rattle.std.proofs.Common.{◌≡◌, ℕ, Bool, true, false, not, ◌&&◌, List, [], ◌∷◌, take, drop, refl, sym, ◌∙◌, ap, subst, IfSome, Option, Some, None, cond}
+use Rattle.std.proofs.Common.{◌≡◌, ℕ, true, not, ◌&&◌, List, [], ◌∷◌, take, drop, refl, sym, ap, subst, IfSome, Option, Some, None}
 use Rattle.std.specs.Prelude.{IsTrue, ◌==◌, if◌then◌else◌}
 use Rattle.std.specs.List.{prefix_len}
 use Rattle.ap_symbol.specs.TagNames.{is_tag_name}
-use Rattle.ap_symbol.specs.Words.{is_white}
 use Rattle.ap_symbol.specs.declared.symbol.Symbol.{Symbol}
 use Rattle.ap_symbol.specs.declared.symbol.Symbol.TheVariants.{Letter, Tag, Blank, Join, Queue, Alarm}
 use Rattle.ap_fst.specs.Sections.{is_plain_side, is_plain_label}
@@ -12,6 +11,7 @@ use Rattle.ap_fst.specs.declared.label.Edge.{Edge}
 use Rattle.ap_fst.specs.declared.label.Label.{Label}
 use Rattle.ap_binary.specs.Reading.{◌>>=◌}
 use Rattle.ap_binary.specs.Pieces.{side_at, letter_at, character_at, tag_at, tag_of, is_utf8, is_name_byte, label_of, label_at, edge_at, number_then, byte_at, state_of}
+use Rattle.ap_binary.proofs.Bools.{both_true}
 use Rattle.ap_binary.proofs.Options.{chosen, bind_some, some_holds, some_if}
 use Rattle.ap_binary.proofs.Letters.{plain_character_at, IsPlainLetter}
 
@@ -49,9 +49,6 @@ side_plain (b ∷ rest) =
 pub record IsGoodLabel (l : Label) : Type 0 where
   pub sided : IsTrue (has_side l)
   pub plain : IsTrue (is_plain_label l)
-
-both_true : (a b : Bool) → a ≡ true → b ≡ true → (a && b) ≡ true
-both_true a b e f = rw (e, f) refl
 
 good_label : (left right : Option Symbol) (label : Label) → is_plain_side left ≡ true → is_plain_side right ≡ true → label_of left right ≡ Some label → IsGoodLabel label
 good_label left right label p q h =

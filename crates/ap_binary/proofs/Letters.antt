@@ -1,9 +1,8 @@
 -- The letters of an alphabet's line.
-use Rattle.std.proofs.Common.{◌≡◌, ◌⊎◌, inl, inr, ℕ, suc, zero, ◌+◌, ◌-◌, ◌<◌, ◌≤◌, eqb, Bool, true, false, not, ◌||◌, ◌&&◌, nat_le, nat_lt, List, [], ◌∷◌, ◌++◌, length, get_or, refl, sym, ◌∙◌, ap, subst, append_assoc, append-nil, arith, Option, Some, None, cond}
-use Rattle.std.specs.Prelude.{◌↔◌, IsTrue, ◌==◌, if◌then◌else◌, codes, IfSome}
-use Rattle.std.specs.List.{list_any, list_all}
+use Rattle.std.proofs.Common.{◌≡◌, inl, inr, ℕ, suc, zero, ◌+◌, ◌<◌, ◌≤◌, eqb, Bool, true, false, not, ◌&&◌, nat_le, List, [], ◌∷◌, ◌++◌, length, get_or, refl, sym, ◌∙◌, ap, subst, append_assoc, append-nil, arith, Option, Some, None}
+use Rattle.std.specs.Prelude.{◌↔◌, IsTrue, if◌then◌else◌, codes, IfSome}
+use Rattle.std.specs.List.{list_all}
 use Rattle.std.specs.Ordering.{nat_cmp}
-use Rattle.std.specs.declared.cmp.Ordering.TheVariants.{Less}
 use Rattle.std.proofs.lemmas.Bool.{cases_Bool, cond-true, cond-false}
 use Rattle.std.proofs.lemmas.Bool.Decides.{nat_tests}
 use Rattle.ap_symbol.specs.Alphabet.{has_letter, is_closed}
@@ -16,6 +15,7 @@ use Rattle.ap_binary.specs.Reading.{◌>>=◌, Fails}
 use Rattle.ap_binary.specs.Pieces.{is_character, scalar_of, unless_white, character_of, number_at, character_at, byte_at, word_at, begins_with, next_letter_at, with_letters, letters_in, alphabet_at}
 use Rattle.ap_binary.specs.declared.refusal.CutError.{CutError}
 use Rattle.ap_binary.specs.declared.refusal.CutError.TheVariants.{Bad, Memory}
+use Rattle.ap_binary.proofs.Bools.{or_cases, or_left, or_right, and_false, same_bool, eqb_is, is_eqb}
 use Rattle.ap_binary.proofs.Options.{bound, IsBound, some_if, some_unless, bind_some, chosen_if}
 
 -- ---- reading goes on
@@ -123,29 +123,6 @@ letters_are (suc n) least bytes letters rest h = elim (cases_Bool (begins_with 3
 
 -- ---- partners
 
-or_cases : (a b : Bool) → (a || b) ≡ true → (a ≡ true) ⊎ (b ≡ true)
-or_cases true b h = inl refl
-or_cases false b h = inr h
-
-or_left : (a b : Bool) → a ≡ true → (a || b) ≡ true
-or_left true b h = refl
-or_left false b h = cc
-
-or_right : (a b : Bool) → b ≡ true → (a || b) ≡ true
-or_right true b h = refl
-or_right false b h = h
-
-same_bool : (a b : Bool) → (a ≡ true → b ≡ true) → (b ≡ true → a ≡ true) → a ≡ b
-same_bool true b f g = sym (f refl)
-same_bool false true f g = g refl
-same_bool false false f g = refl
-
-eqb_is : (x y : ℕ) → eqb x y ≡ true → x ≡ y
-eqb_is x y h = grind (arith, nat_tests)
-
-is_eqb : (x y : ℕ) → x ≡ y → eqb x y ≡ true
-is_eqb x y h = grind (arith, nat_tests)
-
 has_in : (xs : List ℕ) (c : ℕ) → has_letter xs c ≡ true → IsIn c xs
 has_in [] c h = cc
 has_in (x ∷ xs) c h = elim (or_cases (eqb x c) (has_letter xs c) h) [ inl e ↦ inl (sym (eqb_is x c e)) | inr k ↦ inr (has_in xs c k) ]
@@ -157,10 +134,6 @@ in_has (x ∷ xs) c (inr h) = or_right (eqb x c) (has_letter xs c) (in_has xs c 
 
 pub listed_is : (xs : List ℕ) (c : ℕ) (b : Bool) → (IsTrue b ↔ IsIn c xs) → b ≡ has_letter xs c
 listed_is xs c b h = same_bool b (has_letter xs c) (λ t. in_has xs c (h.0 t)) (λ t. h.1 (has_in xs c t))
-
-and_false : (b : Bool) → false ≡ (b && false)
-and_false true = refl
-and_false false = refl
 
 pub fails_at : {X : Type 0} (p : X → Bool) (xs : List X) (i : ℕ) (d : X) → i < length xs → p (get_or xs i d) ≡ false → false ≡ list_all p xs
 fails_at p [] i d lt e = absurd (omega arith)

@@ -1,3 +1,4 @@
+pub mod Bools
 pub mod Spans
 pub mod Numbers
 pub mod Puts

@@ -1,17 +1,16 @@
 -- The number that is written is read again.
-use Rattle.std.proofs.Common.{◌≡◌, ◌⊎◌, inl, inr, ℕ, suc, zero, ◌+◌, ◌-◌, ◌*◌, ◌^◌, ◌<◌, ◌≤◌, eqb, Bool, true, false, not, ◌||◌, ◌&&◌, nat_le, nat_lt, List, [], ◌∷◌, ◌++◌, length, take, drop, get_or, refl, sym, ◌∙◌, ap, subst, arith, rules, Option, Some, None, cond}
-use Rattle.std.specs.Prelude.{◌==◌, if◌then◌else◌, decimal, slice_index}
+use Rattle.std.proofs.Common.{◌≡◌, inl, inr, ℕ, suc, ◌+◌, ◌^◌, ◌<◌, eqb, Bool, true, false, ◌&&◌, nat_le, nat_lt, List, [], ◌∷◌, ◌++◌, length, take, drop, get_or, refl, ◌∙◌, ap, arith, rules, Some, cond}
+use Rattle.std.specs.Prelude.{decimal}
 use Rattle.std.specs.List.{prefix_len}
 use Rattle.std.specs.Str.{all_ascii_digits, bytes_eq}
-use Rattle.std.specs.Char.{is_ascii_digit}
 use Rattle.std.proofs.lemmas.Bool.{and_parts, cases_lt}
 use Rattle.std.proofs.lemmas.Bool.Decides.{nat_tests}
 use Rattle.std.proofs.lemmas.Fmt.{digits_decimal, digits_value-decimal, decimal_digit, decimal_nonempty, first_decimal}
 use Rattle.std.proofs.lemmas.Str.Parse.{IsNumeralModel, numerals_by_fold}
 use Rattle.std.proofs.Math.Seq.{take-append_seam, drop-append_seam}
 use Rattle.ap_symbol.specs.Words.{is_white}
-use Rattle.ap_binary.specs.Reading.{◌>>=◌}
-use Rattle.ap_binary.specs.Pieces.{byte_at, word_at, is_digit, value_after, is_numeral, limited, number_at, is_character, scalar_of, unless_white, character_of, character_at, number_then}
+use Rattle.ap_binary.specs.Pieces.{byte_at, word_at, is_digit, value_after, is_numeral, number_at, is_character, character_of, character_at, number_then}
+use Rattle.ap_binary.proofs.Bools.{or_cases}
 use Rattle.ap_binary.proofs.Numbers.{limited_some}
 
 pub own : IsNumeralModel (λ ds. all_ascii_digits ds ≡ true) (value_after 0)
@@ -70,10 +69,6 @@ same_bytes (b ∷ w) = let e : eqb b b ≡ true = grind (arith, nat_tests) in rw
 pub word_back : (w rest : List ℕ) → word_at w (w ++ rest) ≡ Some rest
 unfolding word_at
 word_back w rest = rw (take-append_seam w rest, drop-append_seam w rest, same_bytes w) refl
-
-or_cases : (a b : Bool) → (a || b) ≡ true → (a ≡ true) ⊎ (b ≡ true)
-or_cases true b h = inl refl
-or_cases false b h = inr h
 
 pub small_character : (c : ℕ) → is_character c ≡ true → c < 2 ^ 64
 small_character c h = elim (or_cases (nat_lt c 0xD800) (nat_le 0xE000 c && nat_lt c 0x110000) h) [

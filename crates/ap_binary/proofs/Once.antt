@@ -1,16 +1,15 @@
 -- A text spells one compiled dictionary at most, or has one first fault.
-use Rattle.std.proofs.Common.{◌≡◌, ◌⊎◌, inl, inr, ℕ, ◌+◌, ◌<◌, ◌≤◌, List, [], ◌∷◌, refl, sym, ◌∙◌, ap, subst, arith, Result, Ok, Err}
-use Rattle.std.specs.Prelude.{◌↔◌}
+use Rattle.std.proofs.Common.{◌≡◌, inl, inr, ℕ, ◌+◌, ◌<◌, List, [], ◌∷◌, refl, sym, ◌∙◌, ap, subst, arith, Result, Ok, Err}
 use Rattle.std.specs.Ordering.{nat_cmp}
 use Rattle.std.proofs.lemmas.Bool.{cases_lt}
 use Rattle.ap_fst.specs.Lists.{IsIn, Ascends}
 use Rattle.ap_fst.specs.Machines.{Machine}
 use Rattle.ap_fst.specs.Sections.{Parts}
-use Rattle.ap_fst.specs.Silence.{HasNoEmptyCycle, IsFirstOnEmptyCycle}
+use Rattle.ap_fst.specs.Silence.{IsFirstOnEmptyCycle}
 use Rattle.ap_fst.specs.Trimming.{IsTrimOf, trimmed_to}
 use Rattle.ap_fst.proofs.PlaceLaws.{less_from_cmp}
 use Rattle.ap_binary.specs.Lines.{file_in, fault}
-use Rattle.ap_binary.specs.Spelling.{IsFine, IsFaultOf, cycle, side, IsFirstIn, in_order, IsSpelled, AreSpelled, Spells, IsFirstFault, in_lines, in_sections}
+use Rattle.ap_binary.specs.Spelling.{IsFine, IsFaultOf, cycle, side, IsFirstIn, in_order, IsSpelled, Spells, IsFirstFault, in_lines, in_sections}
 use Rattle.ap_binary.specs.declared.file.File.{File}
 use Rattle.ap_binary.specs.declared.refusal.BinaryFault.{BinaryFault}
 use Rattle.ap_binary.specs.declared.refusal.BinaryKind.TheVariants.{EmptyCycle}

@@ -1,5 +1,5 @@
 -- What a reading that succeeded was made of.
-use Rattle.std.proofs.Common.{◌≡◌, Bool, true, false, refl, cond, subst, IfSome, Option, Some, None, Result, Ok, Err}
+use Rattle.std.proofs.Common.{◌≡◌, Bool, true, false, refl, subst, IfSome, Option, Some, None}
 use Rattle.std.specs.Prelude.{if◌then◌else◌}
 use Rattle.std.proofs.lemmas.Option.{same_Some}
 use Rattle.ap_binary.specs.Reading.{◌>>=◌}
@@ -38,3 +38,11 @@ some_holds None x P h e = cc
 pub chosen_if : {A : Type 0} (b : Bool) (x : A) (P : A → Type 0) → (b ≡ true → P x) → IfSome (if b then Some x else None) P
 chosen_if true x P h = h refl
 chosen_if false x P h = tt
+
+pub chosen_by : {A : Type 0} (b : Bool) (x y : Option A) (P : A → Type 0) → (b ≡ true → IfSome x P) → IfSome y P → IfSome (if b then x else y) P
+chosen_by true x y P h k = h refl
+chosen_by false x y P h k = k
+
+pub map_some : {A : Type 0} (r : Option A) (Q P : A → Type 0) → ((x : A) → Q x → P x) → IfSome r Q → IfSome r P
+map_some (Some x) Q P f h = f x h
+map_some None Q P f h = tt

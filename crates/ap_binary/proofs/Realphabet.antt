@@ -1,15 +1,13 @@
 -- The line of an alphabet that is written is read again.
-use Rattle.std.proofs.Common.{◌≡◌, inl, inr, ℕ, suc, zero, ◌+◌, ◌^◌, ◌<◌, ◌≤◌, Bool, true, false, ◌&&◌, nat_le, List, [], ◌∷◌, ◌++◌, length, refl, sym, ◌∙◌, ap, subst, arith, append_assoc, length-append, Option, Some, None, cond}
-use Rattle.std.specs.Prelude.{◌==◌, if◌then◌else◌, decimal, codes}
+use Rattle.std.proofs.Common.{◌≡◌, inl, inr, ℕ, suc, zero, ◌+◌, ◌<◌, ◌≤◌, Bool, true, false, nat_le, List, [], ◌∷◌, ◌++◌, length, refl, sym, ◌∙◌, ap, arith, append_assoc, length-append, Option, Some}
+use Rattle.std.specs.Prelude.{decimal, codes}
 use Rattle.std.specs.List.{flat_map, list_all}
-use Rattle.std.specs.Ordering.{nat_cmp}
 use Rattle.std.proofs.lemmas.Bool.{and_parts}
 use Rattle.std.proofs.lemmas.Bool.Decides.{nat_tests}
 use Rattle.ap_symbol.specs.Alphabet.{is_closed}
-use Rattle.ap_fst.specs.Lists.{IsIn, Ascends}
+use Rattle.ap_fst.specs.Lists.{IsIn}
 use Rattle.ap_fst.proofs.PlaceLaws.{less_from_cmp}
-use Rattle.ap_binary.specs.Reading.{◌>>=◌}
-use Rattle.ap_binary.specs.Pieces.{byte_at, word_at, is_digit, character_at, begins_with, next_letter_at, with_letters, letters_in, alphabet_at}
+use Rattle.ap_binary.specs.Pieces.{word_at, is_digit, character_at, next_letter_at, letters_in, alphabet_at}
 use Rattle.ap_binary.specs.Text.{then_end, letter_text, alphabet_text}
 use Rattle.ap_binary.proofs.Letters.{AreLetters, IsPlainLetter}
 use Rattle.ap_binary.proofs.Numerals.{byte_back, word_back, character_back}

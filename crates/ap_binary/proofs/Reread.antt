@@ -1,19 +1,14 @@
 -- The lines of a compiled dictionary that is written are read again.
-use Rattle.std.proofs.Common.{◌≡◌, ◌⊎◌, inl, inr, ℕ, suc, zero, ◌+◌, ◌^◌, ◌<◌, ◌≤◌, eqb, Bool, true, false, not, ◌&&◌, nat_le, nat_lt, List, [], ◌∷◌, ◌++◌, length, refl, sym, ◌∙◌, ap, subst, arith, append_assoc, append-nil, Option, Some, None, Result, Ok, Err, cond}
-use Rattle.std.specs.Prelude.{◌==◌, if◌then◌else◌, codes, IsTrue}
-use Rattle.std.specs.List.{flat_map, list_all}
+use Rattle.std.proofs.Common.{◌≡◌, inl, inr, ℕ, suc, zero, ◌+◌, ◌^◌, ◌<◌, ◌≤◌, eqb, true, false, not, nat_le, nat_lt, List, [], ◌∷◌, ◌++◌, length, refl, ◌∙◌, ap, arith, append_assoc, Option, Some, None, Ok}
+use Rattle.std.specs.Prelude.{codes}
+use Rattle.std.specs.List.{flat_map}
 use Rattle.std.specs.Ordering.{nat_cmp, is_lt}
-use Rattle.std.specs.declared.cmp.Ordering.{Ordering}
-use Rattle.std.specs.declared.cmp.Ordering.TheVariants.{Less}
-use Rattle.std.proofs.lemmas.Bool.{and_parts}
 use Rattle.std.proofs.lemmas.Bool.Decides.{nat_tests}
-use Rattle.ap_symbol.specs.Alphabet.{is_closed}
 use Rattle.ap_symbol.specs.Words.{is_white}
 use Rattle.ap_fst.specs.Lists.{IsIn, Ascends}
-use Rattle.ap_fst.specs.Machines.{Machine, IsMachine, IsEdgeWithin}
+use Rattle.ap_fst.specs.Machines.{Machine, IsEdgeWithin}
 use Rattle.ap_fst.specs.Order.{edge_cmp}
-use Rattle.ap_fst.specs.Sections.{Parts, IsAlphabet, IsSection, IsCompiled, is_plain_label}
-use Rattle.ap_fst.specs.Sides.{has_side}
+use Rattle.ap_fst.specs.Sections.{Parts}
 use Rattle.ap_fst.specs.declared.compiled.Kind2.{Kind2}
 use Rattle.ap_fst.specs.declared.compiled.Kind2.TheVariants.{Standard, Inconditional, Postblank, Preblank}
 use Rattle.ap_fst.specs.declared.label.Edge.{Edge}
@@ -21,15 +16,14 @@ use Rattle.ap_fst.proofs.PlaceLaws.{less_from_cmp}
 use Rattle.ap_binary.specs.Grammar.{IsRaw, AreRawParts}
 use Rattle.ap_binary.specs.Held.{is_held_edge, IsHeldMachine, IsHeld}
 use Rattle.ap_binary.specs.Pieces.{word_at, is_character, edge_at, final_at, head_at, alphabet_at}
-use Rattle.ap_binary.specs.Lines.{◌>>=◌, on_line, on_header, over, follows, is_within, judged_edge, edge_line, edges_in, with_edges, judged_final, final_line, finals_in, with_finals, counts_of, head_line, section_in, line_after, sections_in, end_in, file_in}
+use Rattle.ap_binary.specs.Lines.{follows, is_within, edge_line, edges_in, final_line, finals_in, head_line, section_in, line_after, sections_in, end_in, file_in}
 use Rattle.ap_binary.specs.Text.{edge_text, final_text, head_text, section_text, sections_text, alphabet_text, compiled_text}
 use Rattle.ap_binary.specs.declared.file.File.{File}
 use Rattle.ap_binary.specs.declared.heads.Counts.{Counts}
-use Rattle.ap_binary.specs.declared.heads.Head.{Head}
-use Rattle.ap_binary.specs.declared.refusal.BinaryFault.{BinaryFault}
 use Rattle.ap_binary.specs.declared.sections.Sections.{Sections}
 use Rattle.ap_binary.specs.declared.sections.Written.{Written}
-use Rattle.ap_binary.proofs.Letters.{AreLetters, IsPlainLetter}
+use Rattle.ap_binary.proofs.Bools.{not_true}
+use Rattle.ap_binary.proofs.Letters.{AreLetters}
 use Rattle.ap_binary.proofs.Numerals.{word_back}
 use Rattle.ap_binary.proofs.Rereading.{IsWritable, edge_back, final_back, head_back}
 use Rattle.ap_binary.proofs.Realphabet.{pass_at, alphabet_back}
@@ -187,15 +181,11 @@ file_parts : (text a b c : List ℕ) (letters : List ℕ) (s : Sections) → wor
 unfolding file_in
 file_parts text a b c letters s p q r u = rw (p, q, r, u) refl
 
-not_white : (b : Bool) → not b ≡ true → b ≡ false
-not_white true h = sym h
-not_white false h = refl
-
 held_letters : (p : Parts) → AreRawParts p → IsHeld p → AreLetters 0 p.alphabet
 held_letters p raw held = record {
   ascend = raw.alphabet.ascend;
   above = λ c i. omega arith;
-  plain = λ c i. record { char = pass_at is_character p.alphabet c held.letters i; plain = not_white (is_white c) (pass_at (λ d. not (is_white d)) p.alphabet c raw.alphabet.no_white i) };
+  plain = λ c i. record { char = pass_at is_character p.alphabet c held.letters i; plain = not_true (is_white c) (pass_at (λ d. not (is_white d)) p.alphabet c raw.alphabet.no_white i) };
 }
 
 pub file_back : (p : Parts) → AreRawParts p → IsHeld p → file_in (compiled_text p) ≡ Ok (placed_file p)

@@ -1,9 +1,8 @@
 -- The fields and lines that are written are read again.
-use Rattle.std.proofs.Common.{◌≡◌, ◌⊎◌, inl, inr, ℕ, suc, zero, ◌+◌, ◌-◌, ◌^◌, ◌<◌, ◌≤◌, eqb, Bool, true, false, not, ◌||◌, ◌&&◌, nat_le, nat_lt, List, [], ◌∷◌, ◌++◌, length, take, drop, refl, sym, ◌∙◌, ap, subst, arith, append_assoc, append-nil, Option, Some, None, cond, length-append}
-use Rattle.std.specs.Prelude.{◌==◌, if◌then◌else◌, decimal, codes, IsTrue}
-use Rattle.std.specs.List.{prefix_len, flat_map, list_any, list_all}
+use Rattle.std.proofs.Common.{◌≡◌, ℕ, suc, ◌+◌, ◌^◌, ◌<◌, Bool, true, false, not, ◌||◌, ◌&&◌, List, [], ◌∷◌, ◌++◌, length, take, drop, refl, ◌∙◌, ap, arith, append_assoc, Option, Some, None, cond}
+use Rattle.std.specs.Prelude.{◌==◌, decimal, codes}
+use Rattle.std.specs.List.{prefix_len, list_any}
 use Rattle.std.proofs.lemmas.Bool.{and_parts}
-use Rattle.std.proofs.lemmas.Bool.Decides.{nat_tests}
 use Rattle.std.proofs.Math.Seq.{take-append_seam, drop-append_seam}
 use Rattle.ap_symbol.specs.TagNames.{is_tag_name, is_reserved_lem}
 use Rattle.ap_symbol.specs.Words.{is_white}
@@ -13,14 +12,12 @@ use Rattle.ap_fst.specs.Machines.{Machine}
 use Rattle.ap_fst.specs.Sections.{is_plain_side, is_plain_label}
 use Rattle.ap_fst.specs.Sides.{has_side}
 use Rattle.ap_fst.specs.declared.compiled.Kind2.{Kind2}
-use Rattle.ap_fst.specs.declared.compiled.Kind2.TheVariants.{Standard, Inconditional, Postblank, Preblank}
 use Rattle.ap_fst.specs.declared.label.Edge.{Edge}
 use Rattle.ap_fst.specs.declared.label.Label.{Label}
 use Rattle.ap_binary.specs.Held.{is_held_side, is_held_label, is_held_edge}
-use Rattle.ap_binary.specs.Reading.{◌>>=◌}
-use Rattle.ap_binary.specs.Pieces.{byte_at, word_at, is_digit, number_at, state_of, character_at, letter_at, is_character, is_utf8, is_name_byte, tag_of, tag_at, side_at, label_of, label_at, number_then, edge_at, final_at, kind_at, head_at, begins_with, next_letter_at, with_letters, letters_in, alphabet_at}
-use Rattle.ap_binary.specs.Text.{side_text, then_space, then_end, edge_text, final_text, section_name, head_text, letter_text, alphabet_text}
-use Rattle.ap_binary.specs.declared.heads.Head.{Head}
+use Rattle.ap_binary.specs.Pieces.{word_at, letter_at, is_character, is_utf8, is_name_byte, tag_of, tag_at, side_at, label_of, label_at, number_then, edge_at, final_at, kind_at, head_at}
+use Rattle.ap_binary.specs.Text.{side_text, then_space, then_end, edge_text, final_text, section_name, head_text}
+use Rattle.ap_binary.proofs.Bools.{not_true}
 use Rattle.ap_binary.proofs.Numerals.{then_back, byte_back, word_back, character_back, prefix_all}
 
 pub spaced : (field rest : List ℕ) → then_space field ++ rest ≡ field ++ 32 ∷ rest
@@ -44,10 +41,6 @@ reserved_step false c m n h f = let e : m ≡ n = f h in omega arith
 none_reserved : (name : List ℕ) → list_any is_reserved_lem name ≡ false → prefix_len is_name_byte name ≡ length name
 none_reserved [] h = refl
 none_reserved (b ∷ name) h = reserved_step (is_reserved_lem b) (list_any is_reserved_lem name) (prefix_len is_name_byte name) (length name) h (none_reserved name)
-
-not_true : (b : Bool) → not b ≡ true → b ≡ false
-not_true true h = sym h
-not_true false h = refl
 
 name_prefix : (name : List ℕ) → is_tag_name name ≡ true → prefix_len is_name_byte name ≡ length name
 name_prefix name h =

@@ -1,5 +1,5 @@
 -- What is written is read again as the same value.
-use Rattle.std.proofs.Common.{◌≡◌, refl}
+use Rattle.std.proofs.Common.{refl}
 use Rattle.ap_fst.specs.Machines.{Machine}
 use Rattle.ap_fst.specs.Sections.{Parts, IsSection, IsCompiled}
 use Rattle.ap_binary.specs.Grammar.{IsRaw, AreRawParts}

@@ -1,24 +1,20 @@
 -- What trimming leaves of a section without a fault is a section of a compiled dictionary.
-use Rattle.std.proofs.Common.{◌≡◌, ◌⊎◌, inl, inr, ℕ, ◌+◌, ◌<◌, ◌≤◌, List, [], ◌∷◌, length, refl, sym, ◌∙◌, ap, subst, arith, Option, Some, None, Result, Ok, Err, IfOk, IfErr}
+use Rattle.std.proofs.Common.{◌≡◌, ℕ, List, refl, sym, subst, Ok}
 use Rattle.std.specs.Prelude.{◌↔◌, IsTrue}
-use Rattle.std.specs.List.{flat_map}
-use Rattle.ap_fst.specs.Lists.{IsIn, Ascends}
 use Rattle.ap_fst.specs.Machines.{Machine, IsMachine}
 use Rattle.ap_fst.specs.Sections.{Parts, IsSection, IsCompiled, is_plain_label}
-use Rattle.ap_fst.specs.Silence.{HasEmptySide, HasNoEmptyCycle, HasBoundedRuns, IsFirstOnEmptyCycle}
+use Rattle.ap_fst.specs.Silence.{HasEmptySide, HasNoEmptyCycle, HasBoundedRuns}
 use Rattle.ap_fst.specs.Trimming.{IsTrimmed, IsTrimOf, trimmed_to, kept_edge}
 use Rattle.ap_fst.specs.Walks.{AcceptsLabels}
-use Rattle.ap_fst.specs.declared.label.Edge.{Edge}
 use Rattle.ap_fst.specs.declared.label.Label.{Label}
 use Rattle.ap_fst.proofs.CycleLaws.{bounded_runs, empty_cycle_runs}
 use Rattle.ap_fst.proofs.Trims.{IsMade, in_flat, IsRenumbered, renumbered, trimmed_is_machine, trimmed_is_trimmed, trim_same}
 use Rattle.ap_binary.specs.Grammar.{IsRaw}
 use Rattle.ap_binary.specs.Lines.{file_in}
 use Rattle.ap_binary.specs.Refusals.{IfFault}
-use Rattle.ap_binary.specs.Spelling.{IsFine, IsFaultOf, IsFirstIn, in_order, IsSpelled, AreSpelled, Spells, IsFirstFault, in_lines, in_sections}
+use Rattle.ap_binary.specs.Spelling.{IsFirstIn, in_order, IsSpelled, AreSpelled, Spells, IsFirstFault, in_sections}
 use Rattle.ap_binary.specs.declared.file.File.{File}
 use Rattle.ap_binary.specs.declared.reading.Trimmed.{Trimmed}
-use Rattle.ap_binary.specs.declared.refusal.BinaryFault.{BinaryFault}
 use Rattle.ap_binary.specs.declared.refusal.BinaryRefusal.{BinaryRefusal}
 use Rattle.ap_binary.specs.declared.refusal.BinaryRefusal.TheVariants.{Fault, Memory}
 use Rattle.ap_binary.specs.declared.sections.Written.{Written}

@@ -1,6 +1,5 @@
 -- What a text spells, said without reading: by the text of an alphabet and of four transducers.
 use Rattle.std.specs.Prelude.{◌≡◌, ℕ, List, IsTrue}
-use Rattle.std.specs.List.{list_all}
 use Rattle.ap_fst.specs.Lists.{IsIn}
 use Rattle.ap_fst.specs.Machines.{Machine, IsMachine}
 use Rattle.ap_fst.specs.Sections.{Parts, IsAlphabet, is_plain_label}

@@ -1,5 +1,5 @@
 -- What each value of the program holds: numbers of 64 bits, characters, and names of tags in UTF-8.
-use Rattle.std.specs.Prelude.{ℕ, ◌^◌, ◌<◌, Bool, true, ◌&&◌, List, length, Option, Some, None, IsTrue}
+use Rattle.std.specs.Prelude.{◌^◌, ◌<◌, Bool, true, ◌&&◌, length, Option, Some, None, IsTrue}
 use Rattle.std.specs.List.{list_all}
 use Rattle.ap_symbol.specs.TagNames.{is_tag_name}
 use Rattle.ap_symbol.specs.declared.symbol.Symbol.{Symbol}

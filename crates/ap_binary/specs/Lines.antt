@@ -1,6 +1,6 @@
 -- What the lines of a compiled file say, or the first fault among them. Faults of the lines come in the order of the
 -- lines, and on one line BadLine comes before OutOfRange.
-use Rattle.std.specs.Prelude.{◌≡◌, ℕ, zero, suc, ◌+◌, Bool, true, false, not, ◌&&◌, nat_lt, nat_le, ◌==◌, List, [], ◌∷◌, ◌++◌, length, Option, Some, None, Result, Ok, Err, if◌then◌else◌, codes}
+use Rattle.std.specs.Prelude.{◌≡◌, ℕ, zero, suc, ◌+◌, Bool, true, not, ◌&&◌, nat_lt, nat_le, ◌==◌, List, [], ◌∷◌, ◌++◌, length, Option, Some, None, Result, Ok, Err, if◌then◌else◌, codes}
 use Rattle.std.specs.Ordering.{is_lt}
 use Rattle.ap_fst.specs.Order.{edge_cmp}
 use Rattle.ap_fst.specs.declared.compiled.Kind2.{Kind2}
@@ -9,7 +9,6 @@ use Rattle.ap_fst.specs.declared.label.Edge.{Edge}
 use Rattle.ap_binary.specs.Pieces.{word_at, edge_at, final_at, head_at, alphabet_at}
 use Rattle.ap_binary.specs.declared.file.File.{File}
 use Rattle.ap_binary.specs.declared.heads.Counts.{Counts}
-use Rattle.ap_binary.specs.declared.heads.Head.{Head}
 use Rattle.ap_binary.specs.declared.refusal.BinaryFault.{BinaryFault}
 use Rattle.ap_binary.specs.declared.refusal.BinaryKind.{BinaryKind}
 use Rattle.ap_binary.specs.declared.refusal.BinaryKind.TheVariants.{BadHeader, BadLine, OutOfRange}

@@ -1,5 +1,5 @@
 -- What a text says as a compiled dictionary: the one that it spells, or its first fault.
-use Rattle.std.specs.Prelude.{◌≡◌, ◌⊎◌, ℕ, ◌+◌, ◌^◌, ◌<◌, List, [], ◌∷◌, length, Result, Ok, Err}
+use Rattle.std.specs.Prelude.{◌≡◌, ◌⊎◌, ℕ, ◌+◌, ◌^◌, ◌<◌, List, [], ◌∷◌, Ok, Err}
 use Rattle.ap_fst.specs.Machines.{Machine}
 use Rattle.ap_fst.specs.Sections.{Parts}
 use Rattle.ap_fst.specs.Silence.{HasEmptySide, HasNoEmptyCycle, IsFirstOnEmptyCycle}

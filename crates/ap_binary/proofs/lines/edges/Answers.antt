@@ -1,4 +1,4 @@
-use Rattle.std.proofs.Common.{◌≡◌, ◌+◌, ◌-◌, ◌++◌, ◌∷◌, [], length, arith, List, Option, None, ap, ◌∙◌}
+use Rattle.std.proofs.Common.{◌≡◌, arith, List, None, ap, ◌∙◌}
 use Rattle.std.specs.Option.{option_copied}
 use Rattle.std.proofs.lemmas.Result.{err_from_is_err_and}
 use Rattle.ap_fst.specs.declared.label.Edge.{Edge}

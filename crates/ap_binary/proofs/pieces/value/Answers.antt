@@ -1,4 +1,3 @@
-use Rattle.std.proofs.Common.{arith}
 use Rattle.ap_binary.proofs.Numbers.{stops_at, is_read, goes_on}
 use Rattle.ap_binary.proofs.pieces.value.Goals as goal
 

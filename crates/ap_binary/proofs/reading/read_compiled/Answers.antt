@@ -1,7 +1,5 @@
-use Rattle.std.proofs.Common.{◌≡◌, refl, Ok}
 use Rattle.std.proofs.lemmas.Result.{err_from_is_err_and}
 use Rattle.ap_fst.specs.Sections.{Parts}
-use Rattle.ap_binary.specs.Spelling.{Spells}
 use Rattle.ap_binary.specs.declared.file.File.{File}
 use Rattle.ap_binary.proofs.Trimmed.{spelled_is_compiled, spells_by, section_refused}
 use Rattle.ap_binary.proofs.reading.read_compiled.Goals as goal

@@ -1,6 +1,5 @@
-use Rattle.std.proofs.Common.{◌≡◌, ◌+◌, ℕ, List, None, Some, Ok, length, arith, ap, ◌∙◌}
+use Rattle.std.proofs.Common.{◌≡◌, ◌+◌, None, length, arith, ap, ◌∙◌}
 use Rattle.ap_fst.specs.Machines.{Machine}
-use Rattle.ap_fst.specs.declared.label.Edge.{Edge}
 use Rattle.ap_binary.specs.Grammar.{IsRaw}
 use Rattle.ap_binary.specs.Lines.{edges_in, finals_in}
 use Rattle.ap_binary.proofs.Edges.{AreEdges, AreFinals, edges_are, finals_are, ok_holds, raw_read}

@@ -1,8 +1,6 @@
 use Rattle.std.proofs.Common.{◌≡◌, eq-eqb, length, List, ℕ, true, refl, ap, sym, ◌∙◌}
-use Rattle.std.specs.Str.{IsUtf8}
 use Rattle.std.specs.Str.Lossy.{utf8_valid_len}
 use Rattle.std.proofs.lemmas.Str.{utf8_valid_len-IsUtf8}
-use Rattle.ap_symbol.specs.TagNames.{is_tag_name}
 use Rattle.ap_binary.specs.Pieces.{is_utf8}
 use Rattle.ap_binary.proofs.writing.put_name.Goals as goal
 
