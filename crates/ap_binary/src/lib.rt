@@ -1,0 +1,23 @@
+//! Compiled dictionaries as text, the form `LTC1`: the writer and the reader.
+#![tactic(auto)]
+
+mod alphabet;
+mod file;
+mod heads;
+mod laws;
+mod lines;
+mod pieces;
+mod reading;
+mod refusal;
+mod sections;
+#[cfg(test)]
+mod tests;
+mod writing;
+
+pub use laws::{
+    has_one_fault, reads_what_is_written, spells_compiled, spells_one, spells_texts,
+    spells_without_fault,
+};
+pub use reading::read_compiled;
+pub use refusal::{BinaryFault, BinaryKind, BinaryRefusal};
+pub use writing::write_compiled;
