@@ -4,4 +4,6 @@
 #[cfg(test)]
 mod driving;
 #[cfg(test)]
+mod plain;
+#[cfg(test)]
 mod rows;
