@@ -7,6 +7,8 @@ mod laws;
 mod listing;
 mod messages;
 mod opening;
+#[cfg(test)]
+mod plain;
 mod status;
 mod stream;
 #[cfg(test)]
