@@ -1,9 +1,8 @@
-use Rattle.std.proofs.Common.{◌≡◌, ◌≢◌, ℕ, ◌+◌, ◌-◌, ◌^◌, ◌<◌, ◌≤◌, Bool, List, [], ◌∷◌, ◌++◌, arith, subst, sym, ap, ◌∙◌, refl, inl, inr, ◌⊎◌, Option, Some, None, Result, Ok, Err, length, append-nil, length-append, append_assoc, take}
-use Rattle.std.specs.Option.{IfSome, option_map}
+use Rattle.std.proofs.Common.{◌≡◌, ◌≢◌, ℕ, ◌+◌, ◌-◌, ◌<◌, ◌≤◌, Bool, List, ◌++◌, arith, subst, sym, ap, ◌∙◌, refl, inl, inr, ◌⊎◌, Option, Some, None, Result, Ok, Err, length, append-nil, length-append, append_assoc, take}
+use Rattle.std.specs.Option.{option_map}
 use Rattle.std.proofs.lemmas.Bool.{le-ltb, lt-ltb}
 use Rattle.std.proofs.lemmas.List.{take_all}
 use Rattle.std.proofs.Math.Seq.{take-append-add}
-use Rattle.ap_outside.specs.Causes.{Rose}
 use Rattle.ap_outside.specs.Told.{Takes, IsEnd, Puts}
 use Rattle.ap_dix.specs.declared.dictionary.Dictionary.{Dictionary}
 use Rattle.ap_dix.specs.declared.dictionary.Direction.TheVariants.{Lr}
@@ -11,7 +10,7 @@ use Rattle.ap_dix.specs.declared.refusal.DixFault.{DixFault}
 use Rattle.ap_dix.specs.Spelling.{Spells, IsFirstFault}
 use Rattle.ap_dix.specs.Refusals.{kind_number}
 use Rattle.ap_compile.specs.Empties.{IsFirstEmpty, section_entries}
-use Rattle.ap_stream.specs.Told.{Told, Ending as TextEnding, Clean as Whole, Cut, ends_in}
+use Rattle.ap_stream.specs.Told.{Told, Ending as TextEnding, Clean as Whole, ends_in}
 use Rattle.ap_stream.specs.declared.fault.StreamFault.{StreamFault}
 use Rattle.ap_stream.specs.declared.fault.StreamFault.TheVariants as fault
 use Rattle.ap_analysis.specs.Lexicon.{Lexicon}
@@ -24,18 +23,17 @@ use Rattle.ap_tool.specs.declared.driving.Stop.{Stop}
 use Rattle.ap_tool.specs.declared.driving.Stop.TheVariants.{Write, Fault}
 use Rattle.ap_tool.specs.declared.words.Command.{Command}
 use Rattle.ap_tool.specs.declared.words.Command.TheVariants.{Proc, Expand}
-use Rattle.ap_tool.specs.declared.words.UsageFault.{UsageFault}
-use Rattle.ap_tool.specs.Words.{command_of, file_of}
-use Rattle.ap_tool.specs.Listing.{IsListed, RunsOut, listing}
+use Rattle.ap_tool.specs.Words.{file_of}
+use Rattle.ap_tool.specs.Listing.{IsListed, listing}
 use Rattle.ap_tool.specs.Messages.{name_at}
-use Rattle.ap_tool.specs.Standing.{Standing, PutsAll, PutsSome}
+use Rattle.ap_tool.specs.Standing.{Standing}
 use Rattle.ap_tool.specs.Intake.{TakesCalmly, IsIntake, input_max}
 use Rattle.ap_tool.specs.Driving.{whole, Course, Onward, Ended, IsTaken, text_ending, Completes, Halts, Drives}
 use Rattle.ap_tool.specs.Output.{IsLexicon, IsOutput}
-use Rattle.ap_tool.specs.Stream.{status_of_ending, status_of_fault, status_of_driving, stream_status, Streams, StreamsOrStops}
-use Rattle.ap_tool.specs.Opening.{FilesStanding, IsFileRefusal, HasText, Opens, IsAccepted, IsFaultOf, file_max}
+use Rattle.ap_tool.specs.Stream.{status_of_ending, status_of_fault, status_of_driving, stream_status, StreamsOrStops}
+use Rattle.ap_tool.specs.Opening.{IsFileRefusal, Opens, IsAccepted, IsFaultOf, file_max}
 use Rattle.ap_tool.specs.Answer.{Outside, IsAnswer, IsAnswerTo, IsCommandAnswer, Refuses, Proceeds, Expands}
-use Rattle.ap_tool.specs.Clauses.{IsCalm, cut_input, ending_of, Holds, IsFileOf, IsHonestListing, IsListedExactly, IsHonest, IsExact, IsComplete, AreOutputs, GivesUp, Reads, IsEmptySideOf, IsFaultFor, RefusesFaulty, RefusesLong}
+use Rattle.ap_tool.specs.Clauses.{IsCalm, cut_input, ending_of, Holds, IsFileOf, IsListedExactly, IsHonest, IsExact, IsComplete, AreOutputs, GivesUp, IsEmptySideOf, IsFaultFor, RefusesFaulty, RefusesLong}
 use Rattle.ap_tool.proofs.Entries.{first-has, one-first}
 use Rattle.ap_tool.proofs.Listings.{take-front}
 use Rattle.ap_tool.proofs.Meaning.{completes-output, halts-outputs, fails-rose}

@@ -1,9 +1,8 @@
-use Rattle.std.specs.Prelude.{◌≡◌, ℕ, ◌+◌, ◌-◌, ◌^◌, ◌<◌, ◌≤◌, ◌⊎◌, nat_lt, Bool, List, ◌++◌, Option, Some, None, Result, Ok, length, take, if◌then◌else◌}
+use Rattle.std.specs.Prelude.{◌≡◌, ℕ, ◌-◌, ◌^◌, ◌<◌, ◌≤◌, ◌⊎◌, nat_lt, Bool, List, ◌++◌, Option, Some, None, Ok, length, take, if◌then◌else◌}
 use Rattle.ap_outside.specs.Causes.{Rose}
-use Rattle.ap_outside.specs.Told.{Takes, Puts}
+use Rattle.ap_outside.specs.Told.{Puts}
 use Rattle.ap_dix.specs.declared.dictionary.Dictionary.{Dictionary}
 use Rattle.ap_dix.specs.declared.dictionary.Direction.TheVariants.{Lr}
-use Rattle.ap_dix.specs.Spelling.{Spells}
 use Rattle.ap_compile.specs.Empties.{IsFirstEmpty, section_entries}
 use Rattle.ap_stream.specs.Told.{Told, Ending as TextEnding, Clean as Whole, Cut}
 use Rattle.ap_stream.specs.declared.fault.StreamFault.{StreamFault}
@@ -11,13 +10,12 @@ use Rattle.ap_tool.specs.declared.status.Status.{Status}
 use Rattle.ap_tool.specs.declared.status.Status.TheVariants.{Done, FileFault, ReadFault, BadDictionary, Malformed, Limit, Memory}
 use Rattle.ap_tool.specs.declared.words.Command.{Command}
 use Rattle.ap_tool.specs.declared.words.Command.TheVariants.{Proc, Expand}
-use Rattle.ap_tool.specs.declared.words.UsageFault.{UsageFault}
 use Rattle.ap_tool.specs.declared.intake.Ending.{Ending}
 use Rattle.ap_tool.specs.declared.intake.Ending.TheVariants.{Clean, Failed, TooLong}
 use Rattle.ap_tool.specs.Words.{command_of, file_of}
 use Rattle.ap_tool.specs.Listing.{listing}
 use Rattle.ap_tool.specs.Messages.{name_at}
-use Rattle.ap_tool.specs.Standing.{Standing, PutsAll}
+use Rattle.ap_tool.specs.Standing.{PutsAll}
 use Rattle.ap_tool.specs.Opening.{FilesStanding, HasText, Opens, IsAccepted, IsFaultOf, file_max}
 use Rattle.ap_tool.specs.Intake.{IsIntake, input_max}
 use Rattle.ap_tool.specs.Driving.{Course, Onward, Ended, IsTaken, text_ending}

@@ -95,7 +95,7 @@ fn check(rt: &impl Abort, alloc: Global, row: &Row, cut: usize) -> Result<(), Fa
     files.add("R", R.as_bytes())?;
     files.add("B", B.as_bytes())?;
     let input = Vec::from_slice(alloc, row.input.as_bytes())?;
-    let mut source = MemSource::new(input, cut, call_of(alloc, take)?);
+    let mut source = MemSource::new(input, cut.max(1), call_of(alloc, take)?);
     let mut sink = MemSink::new(alloc, 1000, call_of(alloc, put)?, 0)?;
     let mut err = MemSink::new(alloc, 1000, Vec::new(alloc), 0)?;
     let status = apertium(
@@ -737,70 +737,83 @@ fn letters(alloc: Global, letter: u8, count: usize) -> Result<Vec<u8>, Fail> {
     Ok(vec![in alloc; letter; count]?)
 }
 
-#[test]
-fn limits_have_their_places(rt: HostRuntime) -> Result<(), Fail> {
-    let alloc = rt.alloc();
+/// Analyses so many letters by M, or by a file of so many spaces, and compares the status, how many
+/// bytes are written, and the message.
+fn check_limit(
+    rt: &impl Abort,
+    alloc: Global,
+    file: &[u8],
+    input: Vec<u8>,
+    status: Status,
+    written: usize,
+    message: &str,
+) -> Result<(), Fail> {
     let words = words_of(alloc, "lt-proc -a M")?;
-    for (file, letter, input, status, written, message) in [
-        (
-            67_108_865,
-            b' ',
-            1,
-            Status::Limit {
-                stage: 0,
-                kind: 6,
-                place: 2,
-            },
-            0,
-            "apertium: M: limit 6 FileTooLong\n",
-        ),
-        (0, b' ', 1_048_576, Status::Done, 1_048_576, ""),
-        (
-            0,
-            b' ',
-            1_048_577,
-            Status::Limit {
-                stage: 1,
-                kind: 1,
-                place: 0,
-            },
-            0,
-            "apertium: stage 1: byte 0: limit 1 ItemTooLong\n",
-        ),
-        (0, b'a', 524_286, Status::Done, 1_048_576, ""),
-        (
-            0,
-            b'a',
-            524_287,
-            Status::Limit {
-                stage: 1,
-                kind: 3,
-                place: 0,
-            },
-            0,
-            "apertium: stage 1: byte 0: limit 3 UnitTooLong\n",
-        ),
+    let mut files = MemFiles::new(alloc, Vec::new(alloc));
+    files.add("M", file)?;
+    let mut source = MemSource::new(input, 65_536, Vec::new(alloc));
+    let mut sink = MemSink::new(alloc, 1_048_600, Vec::new(alloc), 0)?;
+    let mut err = MemSink::new(alloc, 1000, Vec::new(alloc), 0)?;
+    let got = apertium(
+        alloc,
+        words.as_slice(),
+        &mut files,
+        &mut source,
+        &mut sink,
+        &mut err,
+    );
+    assert_eq!(rt; got, status);
+    assert_eq!(rt; sink.written().len(), written);
+    assert_eq!(rt; err.written(), message.as_bytes());
+    Ok(())
+}
+
+fn limit(stage: u8, kind: u8, place: u64) -> Status {
+    Status::Limit { stage, kind, place }
+}
+
+#[test]
+fn a_file_is_too_long(rt: HostRuntime) -> Result<(), Fail> {
+    let alloc = rt.alloc();
+    let file = letters(alloc, b' ', 67_108_865)?;
+    let long = "apertium: M: limit 6 FileTooLong\n";
+    check_limit(
+        &rt,
+        alloc,
+        file.as_slice(),
+        letters(alloc, b'a', 1)?,
+        limit(0, 6, 2),
+        0,
+        long,
+    )
+}
+
+#[test]
+fn an_item_is_too_long(rt: HostRuntime) -> Result<(), Fail> {
+    let alloc = rt.alloc();
+    let file = M.as_bytes();
+    let long = "apertium: stage 1: byte 0: limit 1 ItemTooLong\n";
+    for (count, status, written, message) in [
+        (1_048_576, Status::Done, 1_048_576, ""),
+        (1_048_577, limit(1, 1, 0), 0, long),
     ] {
-        let mut files = MemFiles::new(alloc, Vec::new(alloc));
-        if file == 0 {
-            files.add("M", M.as_bytes())?;
-        } else {
-            files.add("M", letters(alloc, b' ', file)?.as_slice())?;
-        }
-        let mut source = MemSource::new(letters(alloc, letter, input)?, 5000, Vec::new(alloc));
-        let mut sink = MemSink::new(alloc, 1_048_600, Vec::new(alloc), 0)?;
-        let mut err = MemSink::new(alloc, 1000, Vec::new(alloc), 0)?;
-        let got = apertium(
-            alloc,
-            words.as_slice(),
-            &mut files,
-            &mut source,
-            &mut sink,
-            &mut err,
-        );
-        assert_eq!(rt; got, status);
-        assert_eq!(rt; sink.written().len(), written);
-        assert_eq!(rt; err.written(), message.as_bytes());
+        let input = letters(alloc, b' ', count)?;
+        check_limit(&rt, alloc, file, input, status, written, message)?;
+    }
+    Ok(())
+}
+
+#[test]
+fn a_unit_is_too_long(rt: HostRuntime) -> Result<(), Fail> {
+    let alloc = rt.alloc();
+    let file = M.as_bytes();
+    let long = "apertium: stage 1: byte 0: limit 3 UnitTooLong\n";
+    for (count, status, written, message) in [
+        (524_286, Status::Done, 1_048_576, ""),
+        (524_287, limit(1, 3, 0), 0, long),
+    ] {
+        let input = letters(alloc, b'a', count)?;
+        check_limit(&rt, alloc, file, input, status, written, message)?;
     }
     Ok(())
 }

@@ -1,4 +1,4 @@
-use Rattle.std.proofs.Common.{sym, ap, ◌∙◌, refl}
+use Rattle.std.proofs.Common.{sym, ap, ◌∙◌}
 use Rattle.std.specs.Prelude.{codes}
 use Rattle.ap_tool.specs.Messages.{message_of, dictionary_text, file_text, name_at}
 use Rattle.ap_tool.specs.Words.{texts}

@@ -1,4 +1,4 @@
-use Rattle.ap_tool.proofs.Honesty.{Laws, exact-from, complete-from, listed-from, faulty-from, long-from}
+use Rattle.ap_tool.proofs.Honesty.{exact-from, complete-from, listed-from, faulty-from, long-from}
 use Rattle.ap_tool.proofs.Endings.{usage-from, file-fault-from, read-fault-from, write-fault-from, no-write-fault-from, malformed-from, limit-from, input-too-long-from, done-from, nothing-from, bad-dictionary-from, file-too-long-from}
 use Rattle.ap_tool.proofs.top.apertium.Goals as goal
 
