@@ -1,6 +1,7 @@
 pub mod Spreading
 pub mod Others
 pub mod RowLaws
+pub mod KnownLaws
 pub mod Backing
 pub mod TailLaws
 pub mod OutputLaws

@@ -18,11 +18,12 @@ use Rattle.ap_fst.proofs.WalkLaws.{walk_then}
 use Rattle.ap_fst.proofs.SilenceLaws.{left_word_then}
 use Rattle.ap_live.specs.Fitting.{Input, fits_inputs, fits_side, is_empty_side}
 use Rattle.ap_live.specs.Spreads.{Picked}
-use Rattle.ap_live.specs.Rows.{Reach, begin, silent, taken, AreRows, Lives, IsLive}
+use Rattle.ap_live.specs.Rows.{Reach, begin, silent, taken, AreRows, IsKnown, Lives, IsLive}
 use Rattle.ap_live.specs.Tails.{AreBacks}
 use Rattle.ap_live.specs.Outputs.{IsOutput, FitBeginning}
 use Rattle.ap_live.specs.declared.rows.Row.{Row}
 use Rattle.ap_live.proofs.Spreading.{both_true, to_in}
+use Rattle.ap_live.proofs.KnownLaws.{nothing_known}
 use Rattle.ap_live.proofs.OutputLaws.{output_from_tail, tail_from_output}
 
 -- ---- from a state that is reached on to a final one
@@ -183,9 +184,12 @@ outputs_law m seen l rows backs words r live h k output =
       (λ o. (k output).1 (subst (λ (z : List Symbol). IsIn z (map reverse backs)) (reverse-reverse output) (in_map reverse (reverse output) backs (are.complete (reverse output) (tail_from_output m seen output o))))),
     )
 
-pub cut_law : (m : Machine) (seen : List Input) (n : ℕ) (l : Lives) (old new : List Row) (void : Bool) → IsLive m seen l → old ≡ l.rows → void ≡ l.is_void → ((edges : List Edge) (s : List Input) → AreRows edges s old → AreRows edges (take n s) new)
-    → IsLive m (take n seen) (record { rows = new; is_void = void })
-cut_law m seen n l old new void live o v h = record {
-  rows_are = h m.edges seen (subst (λ (z : List Row). AreRows m.edges seen z) (sym o) live.rows_are);
-  void_is = subst (λ (z : Bool). IsTrue z ↔ (m.finals ≡ [])) (sym v) live.void_is;
-}
+pub start_law : (m : Machine) (l : Lives) → AreRows m.edges [] l.rows → l.links ≡ [] → l.path ≡ [] → (IsTrue l.is_void ↔ (m.finals ≡ [])) → IsLive m [] l
+start_law m l are links path void = record { rows_are = are; known_is = nothing_known m.edges l.rows l.known l.links l.path links path; void_is = void }
+
+pub live_on : (m : Machine) (seen seen' : List Input) (l old new : Lives) → IsLive m seen l → old ≡ l
+    → (AreRows m.edges seen old.rows → IsKnown m.edges old.rows old.known old.links old.path → AreRows m.edges seen' new.rows × IsKnown m.edges new.rows new.known new.links new.path) → new.is_void ≡ old.is_void → IsLive m seen' new
+live_on m seen seen' l old new live o h v =
+    let live' : IsLive m seen old = subst (λ (z : Lives). IsLive m seen z) (sym o) live in
+    let both : AreRows m.edges seen' new.rows × IsKnown m.edges new.rows new.known new.links new.path = h live'.rows_are live'.known_is in
+    record { rows_are = both.0; known_is = both.1; void_is = subst (λ (z : Bool). IsTrue z ↔ (m.finals ≡ [])) (sym v) live'.void_is }

@@ -120,7 +120,7 @@ last_row edges seen rows row k live n at =
     let same : take k seen ≡ seen = ap (λ i. take i seen) (let e : k ≡ length seen = omega arith in e) ∙ take-length seen in
     subst (λ (x : List Input). IsRow edges x row) same (live.each k row at)
 
-snoc_get : {X : Type 0} (xs : List X) (x y : X) (k : ℕ) → slice_get (xs ++ x ∷ []) k ≡ Some y → ((k < length xs) × (slice_get xs k ≡ Some y)) ⊎ ((k ≡ length xs) × (x ≡ y))
+pub snoc_get : {X : Type 0} (xs : List X) (x y : X) (k : ℕ) → slice_get (xs ++ x ∷ []) k ≡ Some y → ((k < length xs) × (slice_get xs k ≡ Some y)) ⊎ ((k ≡ length xs) × (x ≡ y))
 snoc_get [] x y zero h = inr (refl, cc)
 snoc_get [] x y (suc k) h = cc
 snoc_get (z ∷ xs) x y zero h = inl (omega arith, h)
@@ -186,7 +186,7 @@ final_law m seen row answer is h = (
   (λ (s, (r, f)). h.1 (s, (is.complete s r, f))),
 )
 
-get_taken : {X : Type 0} (xs : List X) (n k : ℕ) (x : X) → slice_get (take n xs) k ≡ Some x → (slice_get xs k ≡ Some x) × (k < n)
+pub get_taken : {X : Type 0} (xs : List X) (n k : ℕ) (x : X) → slice_get (take n xs) k ≡ Some x → (slice_get xs k ≡ Some x) × (k < n)
 get_taken [] zero k x h = absurd (none-some x h)
 get_taken [] (suc n) k x h = absurd (none-some x h)
 get_taken (y ∷ xs) zero k x h = absurd (none-some x h)
@@ -209,7 +209,7 @@ take_whole [] (suc n) h = refl
 take_whole (x ∷ xs) zero h = absurd (omega arith)
 take_whole (x ∷ xs) (suc n) h = ap (λ z. x ∷ z) (take_whole xs n (omega arith))
 
-rows_cut : (edges : List Edge) (seen : List Input) (rows rows' : List Row) (n : ℕ) → n < length rows → rows' ≡ take (n + 1) rows → AreRows edges seen rows → AreRows edges (take n seen) rows'
+pub rows_cut : (edges : List Edge) (seen : List Input) (rows rows' : List Row) (n : ℕ) → n < length rows → rows' ≡ take (n + 1) rows → AreRows edges seen rows → AreRows edges (take n seen) rows'
 rows_cut edges seen rows rows' n lt e live =
     let c : length rows ≡ length seen + 1 = live.count in
     let long : length (take (n + 1) rows) ≡ n + 1 = length-take-le (n + 1) rows (omega arith) in
@@ -223,7 +223,7 @@ rows_cut edges seen rows rows' n lt e live =
           subst (λ (z : List Input). IsRow edges z row) (sym (take_taken seen n k (omega arith))) (live.each k row g.0);
     }
 
-rows_whole : (edges : List Edge) (seen : List Input) (rows : List Row) (n : ℕ) → length rows ≤ n + 1 → AreRows edges seen rows → AreRows edges (take n seen) rows
+pub rows_whole : (edges : List Edge) (seen : List Input) (rows : List Row) (n : ℕ) → length rows ≤ n + 1 → AreRows edges seen rows → AreRows edges (take n seen) rows
 rows_whole edges seen rows n le live =
     let c : length rows ≡ length seen + 1 = live.count in
     subst (λ (z : List Input). AreRows edges z rows) (sym (take_whole seen n (omega arith))) live

@@ -1,9 +1,10 @@
-use Rattle.std.specs.Prelude.{◌≡◌, ◌↔◌, ℕ, ◌+◌, Bool, IsTrue, List, [], ◌∷◌, ◌++◌, Option, Some, None, slice_get, length, take}
+use Rattle.std.specs.Prelude.{◌≡◌, ◌↔◌, ℕ, ◌+◌, ◌-◌, Bool, IsTrue, List, [], ◌∷◌, ◌++◌, Option, Some, None, slice_get, length, take}
 use Rattle.ap_fst.specs.Lists.{IsIn}
 use Rattle.ap_fst.specs.Machines.{Machine}
 use Rattle.ap_fst.specs.declared.label.Edge.{Edge}
 use Rattle.ap_live.specs.Fitting.{Input}
 use Rattle.ap_live.specs.Spreads.{Picked, Spread, Closed}
+use Rattle.ap_live.specs.declared.known.Link.{Link}
 use Rattle.ap_live.specs.declared.rows.Row.{Row}
 
 -- these inputs lead from the start to a state
@@ -36,12 +37,54 @@ pub record IsNext (edges : List Edge) (pick : Option Input) (last : List ℕ) (r
   pub taken : Spread edges pick last [] [] base links
   pub closed : Closed edges base links row.states.items row.links.items
 
--- what is seen of a live set: its rows, and whether the transducer has no final state
+-- One known row leads to another by an input.
+pub record Leads (edges : List Edge) (known : List Row) (link : Link) : Type 0 where
+  pub last : Row
+  pub row : Row
+  pub last_at : slice_get known link.from ≡ Some last
+  pub row_at : slice_get known link.to ≡ Some row
+  pub next : IsNext edges (Some (let input : Input = record { symbol = link.symbol; sensitive = link.sensitive } in input)) last.states.items row
+
+-- a known row is the one after so many inputs
+pub record Stands (rows known : List Row) (at number : ℕ) : Type 0 where
+  pub row : Row
+  pub there : slice_get rows at ≡ Some row
+  pub as_known : slice_get known number ≡ Some row
+
+-- Links between known rows lead as they say, and the path has the numbers of the first rows.
+pub record IsKnown (edges : List Edge) (rows known : List Row) (links : List Link) (path : List ℕ) : Type 0 where
+  pub leads : (link : Link) → IsIn link links → Leads edges known link
+  pub stands : (at number : ℕ) → slice_get path at ≡ Some number → Stands rows known at number
+
+-- one of the links is from this number to the other, by this input
+pub record IsLinked (links : List Link) (from : ℕ) (input : Input) (to : ℕ) : Type 0 where
+  pub link : Link
+  pub listed : IsIn link links
+  pub from_is : link.from ≡ from
+  pub to_is : link.to ≡ to
+  pub symbol_is : link.symbol ≡ input.symbol
+  pub sensitive_is : link.sensitive ≡ input.sensitive
+
+-- The known row with this number comes after the last row by this input. All rows so far are known.
+pub record Follows (edges : List Edge) (rows known : List Row) (path : List ℕ) (input : Input) (to : ℕ) : Type 0 where
+  pub last : Row
+  pub row : Row
+  pub count : length path ≡ length rows
+  pub last_at : slice_get rows (length rows - 1) ≡ Some last
+  pub row_at : slice_get known to ≡ Some row
+  pub next : IsNext edges (Some input) last.states.items row
+
+-- what is seen of a live set: its rows, the known rows with their links and the numbers of the first rows among them, and
+-- whether the transducer has no final state
 pub record Lives : Type 0 where
   pub rows : List Row
+  pub known : List Row
+  pub links : List Link
+  pub path : List ℕ
   pub is_void : Bool
 
 -- the live set of a transducer after these inputs
 pub record IsLive (m : Machine) (seen : List Input) (l : Lives) : Type 0 where
   pub rows_are : AreRows m.edges seen l.rows
+  pub known_is : IsKnown m.edges l.rows l.known l.links l.path
   pub void_is : IsTrue l.is_void ↔ (m.finals ≡ [])

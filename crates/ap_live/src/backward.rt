@@ -10,7 +10,7 @@ ghost use Rattle.std.specs.List.{list_all};
 ghost use Rattle.ap_symbol.specs.Words.{is_word_symbol};
 ghost use Rattle.ap_symbol.specs.declared.symbol.Symbol.{Symbol};
 
-use crate::rows::Row;
+use crate::rows::SharedRow;
 use ap_fst::{Edge, Fst, empty_cycle_law};
 use ap_symbol::{Memory, Sequence, Symbol};
 use std::alloc::Global;
@@ -201,7 +201,7 @@ fn at_start(alloc: Global, items: Vec<Item>) -> Result<Vec<Symbols>, Memory>
 }
 
 /// The outputs of these rows, each last symbol first.
-fn outputs_back(alloc: Global, fst: &Fst, rows: &[Row]) -> Result<Vec<Symbols>, Memory>
+fn outputs_back(alloc: Global, fst: &Fst, rows: &[SharedRow]) -> Result<Vec<Symbols>, Memory>
     requires no_cycle { HasNoEmptyCycle fst.now }
     requires writes { WritesWords fst.now }
     requires some { 0 < length rows.now }
@@ -211,20 +211,20 @@ fn outputs_back(alloc: Global, fst: &Fst, rows: &[Row]) -> Result<Vec<Symbols>, 
     let _ = fst.states();
     let mut at = rows.len() - 1;
     let last = &rows[at];
-    let base = final_items(alloc, fst, last.states.as_slice())?;
-    let mut items = close_back(alloc, fst, last.links.as_slice(), base)?;
+    let base = final_items(alloc, fst, last.states())?;
+    let mut items = close_back(alloc, fst, last.links(), base)?;
     while at > 0 {
         let row = &rows[at];
-        let base = backward(alloc, fst, row.links.as_slice(), items.as_slice(), false)?;
+        let base = backward(alloc, fst, row.links(), items.as_slice(), false)?;
         at -= 1;
         let earlier = &rows[at];
-        items = close_back(alloc, fst, earlier.links.as_slice(), base)?;
+        items = close_back(alloc, fst, earlier.links(), base)?;
     }
     at_start(alloc, items)
 }
 
 /// The same, and none where there is no row.
-pub(crate) fn backs_of(alloc: Global, fst: &Fst, rows: &[Row]) -> Result<Vec<Symbols>, Memory>
+pub(crate) fn backs_of(alloc: Global, fst: &Fst, rows: &[SharedRow]) -> Result<Vec<Symbols>, Memory>
     requires no_cycle { HasNoEmptyCycle fst.now }
     requires writes { WritesWords fst.now }
     ensures outputs { IfOk result (λ backs. (seen : List Input) → AreRows fst.now.edges seen rows.now → AreBacks fst.now seen backs.items) }

@@ -3,6 +3,7 @@
 #![tactic(auto)]
 
 mod backward;
+mod known;
 mod laws;
 mod live;
 mod picking;

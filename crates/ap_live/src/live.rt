@@ -8,7 +8,8 @@ ghost use Rattle.ap_fst.specs.Silence.{HasNoEmptyCycle};
 ghost use Rattle.ap_fst.specs.Trimming.{IsTrimmed};
 
 use crate::backward::backs_of;
-use crate::rows::{Row, add_row, cut_rows, ends_finally, first_rows, reaches_none};
+use crate::known::{Known, add_row, cut_rows, nothing_known};
+use crate::rows::{SharedRow, ends_finally, first_rows, reaches_none};
 use crate::wording::ordered_words;
 use ap_fst::Fst;
 use ap_symbol::{Memory, Symbol, Words};
@@ -22,12 +23,12 @@ use std::marker::Model;
 /// A transducer reads its left sides. Its symbols fit the inputs one by one, each under the flag
 /// for case of its own step.
 ///
-/// Rows that `cut` drops are kept as spare ones, whose memory later steps take; contracts don't see
-/// them.
+/// Rows that were computed are kept, and taken again where the same inputs come again. Where they
+/// have become too many, `cut` to no input lets them go.
 #[derive(Debug, Drop)]
 pub struct Live {
-    rows: Vec<Row>,
-    spare: Vec<Row>,
+    rows: Vec<SharedRow>,
+    known: Known,
     is_void: bool,
 }
 
@@ -36,7 +37,7 @@ impl Model for Live {
 
     ghost Value = { Lives };
 
-    ghost view = { λ l. record { rows = l.rows.items; is_void = l.is_void } };
+    ghost view = { λ l. record { rows = l.rows.items; known = l.known.rows.items; links = l.known.links.items; path = l.known.path.items; is_void = l.is_void } };
 }
 
 fn has_no_final(fst: &Fst) -> bool
@@ -59,7 +60,7 @@ impl Live {
         let is_void = has_no_final(fst);
         Ok(Live {
             rows,
-            spare: Vec::new(alloc),
+            known: nothing_known(alloc),
             is_void,
         })
     }
@@ -71,7 +72,7 @@ impl Live {
         ensures ok { OnOk result ((seen : List Input) → IsLive fst.now seen self.old → IsLive fst.now (seen ++ record { symbol = input.now; sensitive = sensitive } ∷ []) self.new) }
         ensures err { OnErr result (self.new ≡ self.old) }
     {
-        add_row(&mut self.rows, &mut self.spare, fst, input, sensitive)
+        add_row(&mut self.rows, &mut self.known, fst, input, sensitive)
     }
 
     /// The outputs of the inputs so far, for the same transducer, which has no cycle of edges with
@@ -113,7 +114,7 @@ impl Live {
     pub fn cut(&mut self, len: usize)
         ensures { (m : Machine) (seen : List Input) → IsLive m seen self.old → IsLive m (take len seen) self.new }
     {
-        cut_rows(&mut self.rows, &mut self.spare, len);
+        cut_rows(&mut self.rows, &mut self.known, len);
     }
 
     /// Whether the inputs fit no beginning of the left word of an accepted label list. This is exact

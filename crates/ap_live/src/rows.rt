@@ -11,6 +11,8 @@ use crate::picking::{Pick, other_symbol};
 use ap_fst::Fst;
 use ap_symbol::{Memory, Symbol};
 use std::alloc::Global;
+use std::marker::Model;
+use std::rc::Rc;
 
 fn add_state(states: &mut Vec<usize>, state: usize) -> Result<(), Memory>
     ensures { OnOk result (states.new.items ≡ with_state states.old.items state) }
@@ -160,52 +162,68 @@ pub struct Row {
     pub links: Vec<usize>,
 }
 
-fn no_row(alloc: Global) -> Row
-    ensures states { result.states.items ≡ [] }
-    ensures links { result.links.items ≡ [] }
-{
-    Row {
-        states: Vec::new(alloc),
-        links: Vec::new(alloc),
+/// A row that is shared, so that a copy takes no memory. Contracts see the row.
+#[derive(Debug, Drop)]
+pub struct SharedRow {
+    row: Rc<Row>,
+}
+
+impl Model for SharedRow {
+    ghost use Rattle.ap_live.specs.declared.rows.Row.{Row};
+
+    ghost Value = { Row };
+
+    ghost view = { λ s. s.row.value };
+}
+
+impl SharedRow {
+    pub(crate) fn states(&self) -> &[usize]
+        ensures { result.now ≡ self.now.states.items }
+    {
+        self.row.states.as_slice()
+    }
+
+    pub(crate) fn links(&self) -> &[usize]
+        ensures { result.now ≡ self.now.links.items }
+    {
+        self.row.links.as_slice()
+    }
+
+    /// An equal row, which shares the memory.
+    pub(crate) fn copy(&self) -> Result<SharedRow, Memory>
+        ensures { IfOk result (λ made. made ≡ self.now) }
+    {
+        Ok(SharedRow {
+            row: self.row.clone()?,
+        })
+    }
+
+    /// How many states and links it holds.
+    pub(crate) fn held(&self) -> usize {
+        self.states().len().saturating_add(self.links().len())
     }
 }
 
-/// The row with nothing in it, and with its memory.
-fn emptied(row: Row) -> Row
-    ensures states { result.states.items ≡ [] }
-    ensures links { result.links.items ≡ [] }
+pub(crate) fn share(alloc: Global, row: Row) -> Result<SharedRow, Memory>
+    ensures { IfOk result (λ made. made ≡ row) }
 {
-    let Row {
-        mut states,
-        mut links,
-    } = row;
-    states.clear();
-    links.clear();
-    Row { states, links }
+    Ok(SharedRow {
+        row: Rc::new(alloc, row)?,
+    })
 }
 
-/// A row with nothing in it, and with the memory of a spare row, if there is one.
-fn blank_row(alloc: Global, spare: &mut Vec<Row>) -> Row
-    ensures states { result.states.items ≡ [] }
-    ensures links { result.links.items ≡ [] }
-{
-    match spare.pop() {
-        None => no_row(alloc),
-        Some(row) => emptied(row),
-    }
-}
-
-/// The row after one input more, in place of a blank one.
-fn next_row(fst: &Fst, last: &[usize], pick: Pick<'_>, blank: Row) -> Result<Row, Memory>
-    requires states { blank.states.items ≡ [] }
-    requires links { blank.links.items ≡ [] }
+/// The row after one input more.
+pub(crate) fn next_row(
+    alloc: Global,
+    fst: &Fst,
+    last: &[usize],
+    pick: Pick<'_>,
+) -> Result<Row, Memory>
     ensures { IfOk result (λ row. IsNext fst.now.edges (pick_of pick.entry) last.now row) }
 {
     let _ = fst.states();
-    let Row {
-        mut states,
-        mut links,
-    } = blank;
+    let mut states = Vec::new(alloc);
+    let mut links = Vec::new(alloc);
     let other = other_symbol(pick);
     spread(fst, last, pick, other.as_ref(), &mut states, &mut links)?;
     sort_states(&mut states);
@@ -225,49 +243,22 @@ fn first_row(alloc: Global, fst: &Fst) -> Result<Row, Memory>
 }
 
 /// The rows before any input.
-pub(crate) fn first_rows(alloc: Global, fst: &Fst) -> Result<Vec<Row>, Memory>
+pub(crate) fn first_rows(alloc: Global, fst: &Fst) -> Result<Vec<SharedRow>, Memory>
     ensures { IfOk result (λ rows. AreRows fst.now.edges [] rows.items) }
 {
     let mut rows = Vec::new(alloc);
-    rows.push(first_row(alloc, fst)?)?;
+    let row = first_row(alloc, fst)?;
+    rows.push(share(alloc, row)?)?;
     Ok(rows)
 }
 
-/// Adds the row after one input more. After a refusal the rows are unchanged. There is room for all
-/// rows but the first among the spare ones then.
-pub(crate) fn add_row(
-    rows: &mut Vec<Row>,
-    spare: &mut Vec<Row>,
-    fst: &Fst,
-    input: &Symbol,
-    sensitive: bool,
-) -> Result<(), Memory>
-    ensures ok { OnOk result ((seen : List Input) → AreRows fst.now.edges seen rows.old.items → AreRows fst.now.edges (seen ++ record { symbol = input.now; sensitive = sensitive } ∷ []) rows.new.items) }
-    ensures err { OnErr result (rows.new.items ≡ rows.old.items) }
-{
-    let alloc = *rows.allocator();
-    let Some(last) = rows.last() else {
-        return Ok(());
-    };
-    spare.reserve(rows.len())?;
-    let blank = blank_row(alloc, spare);
-    let row = next_row(
-        fst,
-        last.states.as_slice(),
-        Pick::Fitting(input, sensitive),
-        blank,
-    )?;
-    rows.push(row)?;
-    Ok(())
-}
-
 /// Whether the last row has no state.
-pub(crate) fn reaches_none(rows: &[Row]) -> bool
+pub(crate) fn reaches_none(rows: &[SharedRow]) -> bool
     ensures { (edges : List Edge) (seen : List Input) → AreRows edges seen rows.now → (IsTrue result ↔ ((s : ℕ) → Reach edges seen s → ⊥)) }
 {
     match rows.last() {
         None => true,
-        Some(last) => last.states.as_slice().is_empty(),
+        Some(last) => last.states().is_empty(),
     }
 }
 
@@ -283,29 +274,11 @@ fn holds_final(fst: &Fst, states: &[usize]) -> bool
 }
 
 /// Whether the last row has a final state.
-pub(crate) fn ends_finally(fst: &Fst, rows: &[Row]) -> bool
+pub(crate) fn ends_finally(fst: &Fst, rows: &[SharedRow]) -> bool
     ensures { (seen : List Input) → AreRows fst.now.edges seen rows.now → (IsTrue result ↔ ((s : ℕ) × (Reach fst.now.edges seen s × IsIn s fst.now.finals))) }
 {
     match rows.last() {
         None => false,
-        Some(last) => holds_final(fst, last.states.as_slice()),
-    }
-}
-
-/// Takes away the last row, which is kept as a spare one. There is room for it.
-fn drop_row(rows: &mut Vec<Row>, spare: &mut Vec<Row>)
-    ensures { rows.new.items ≡ take (length rows.old.items - 1) rows.old.items }
-{
-    if let Some(row) = rows.pop() {
-        let _ = spare.push(row);
-    }
-}
-
-/// Goes back to the rows of the first so many inputs.
-pub(crate) fn cut_rows(rows: &mut Vec<Row>, spare: &mut Vec<Row>, len: usize)
-    ensures { (edges : List Edge) (seen : List Input) → AreRows edges seen rows.old.items → AreRows edges (take len seen) rows.new.items }
-{
-    'cut: while len < rows.as_slice().len().saturating_sub(1) {
-        drop_row(rows, spare);
+        Some(last) => holds_final(fst, last.states()),
     }
 }

@@ -101,3 +101,31 @@ fn a_transducer_that_accepts_nothing_is_dead_at_once(rt: HostRuntime) -> Result<
     assert!(rt; live.is_dead());
     Ok(())
 }
+
+#[test]
+fn the_same_inputs_give_the_same_outputs_again(rt: HostRuntime) -> Result<(), Fail> {
+    let alloc = rt.alloc();
+    let fst = transducer(alloc)?;
+    let mut live = Live::start(alloc, &fst)?;
+    for _ in 0..3 {
+        for (first, second, sensitive, want) in [
+            ('A', 'b', false, "xz/yz/"),
+            ('A', 'b', true, "xz/"),
+            ('a', 'b', false, "yz/"),
+            ('A', 'C', false, "yz/"),
+            ('A', 'C', true, ""),
+            ('b', 'b', false, ""),
+        ] {
+            live.step(&fst, &Symbol::Letter(first), sensitive)?;
+            live.step(&fst, &Symbol::Letter('q'), sensitive)?;
+            assert!(rt; live.is_dead());
+            live.cut(1);
+            live.step(&fst, &Symbol::Letter(second), sensitive)?;
+            assert_eq!(rt; live.len(), 2);
+            let text = outputs(alloc, &fst, &live)?;
+            assert_eq!(rt; text.as_slice(), want.as_bytes());
+            live.cut(0);
+        }
+    }
+    Ok(())
+}

@@ -8,7 +8,7 @@ use Rattle.ap_live.proofs.Backing.{clean_back, clean_many, clean_finals}
 use Rattle.ap_live.proofs.backward.outputs_back.Goals as goal
 
 pub close_back-requires-clause-below : goal.close_back-requires-clause-below
-close_back-requires-clause-below c = λ x i. finals_below c.args.fst.now c.as_slice.result.now c.in_ok-base.base.items x c.states-at.ensures.sound.finals_in c.in_ok-base.ensures i
+close_back-requires-clause-below c = λ x i. finals_below c.args.fst.now c.states.result.now c.in_ok-base.base.items x c.states-at.ensures.sound.finals_in c.in_ok-base.ensures i
 
 pub loop-at-init : goal.loop-at-init
 loop-at-init c =
@@ -18,9 +18,9 @@ loop-at-init c =
       in_range = at;
       items = λ seen live. items_last c.args.fst.now seen c.args.rows.now c.index-rows-at.result (length c.args.rows.now - 1) c.in_ok-base.base.items c.in_ok-items.items.items live (omega arith)
           (row_read c.args.rows.now (length c.args.rows.now - 1) c.index-rows-at.result at c.index-rows-at.is)
-          (subst (λ (z : List ℕ). AreFinals c.args.fst.now z c.in_ok-base.base.items) c.as_slice.ensures.value c.in_ok-base.ensures)
-          (subst (λ (z : List ℕ). IsBackMany c.args.fst.now.edges z c.in_ok-base.base.items c.in_ok-items.items.items) c.as_slice-2.ensures.value c.in_ok-items.ensures);
-      clean = clean_many c.args.fst.now c.as_slice-2.result.now c.in_ok-base.base.items c.in_ok-items.items.items c.requires.writes c.in_ok-items.ensures (clean_finals c.args.fst.now c.as_slice.result.now c.in_ok-base.base.items c.in_ok-base.ensures);
+          (subst (λ (z : List ℕ). AreFinals c.args.fst.now z c.in_ok-base.base.items) c.states.ensures c.in_ok-base.ensures)
+          (subst (λ (z : List ℕ). IsBackMany c.args.fst.now.edges z c.in_ok-base.base.items c.in_ok-items.items.items) c.links.ensures c.in_ok-items.ensures);
+      clean = clean_many c.args.fst.now c.links.result.now c.in_ok-base.base.items c.in_ok-items.items.items c.requires.writes c.in_ok-items.ensures (clean_finals c.args.fst.now c.states.result.now c.in_ok-base.base.items c.in_ok-base.ensures);
     }
 
 pub close_back-requires-in-loop-at-clause-below : goal.close_back-requires-in-loop-at-clause-below
@@ -38,12 +38,12 @@ loop-at-preserved c =
           (ap (λ z. slice_get c.args.rows.now z) one ∙ row_read c.args.rows.now c.loop-at.at c.index-rows-at-in-loop-at.result rng c.index-rows-at-in-loop-at.is)
           (row_read c.args.rows.now (c.loop-at.at - 1) c.index-rows-at-in-loop-at-2.result (omega arith) c.index-rows-at-in-loop-at-2.is)
           (subst (λ (z : ℕ). AreItems c.args.fst.now (take z seen) (drop z seen) c.loop-at.items.items) (sym one) (c.loop-at.invariant.items seen live))
-          (subst (λ (z : List ℕ). IsBack c.args.fst.now.edges false z c.loop-at.items.items c.in_ok-base-2.base.items) c.as_slice-in-loop-at.ensures.value
-          (subst (λ (z : List Item). IsBack c.args.fst.now.edges false c.as_slice-in-loop-at.result.now z c.in_ok-base-2.base.items) c.as_slice-in-loop-at-2.ensures.value c.in_ok-base-2.ensures))
-          (subst (λ (z : List ℕ). IsBackMany c.args.fst.now.edges z c.in_ok-base-2.base.items c.in_ok-items-2.items.items) c.as_slice-in-loop-at-3.ensures.value c.in_ok-items-2.ensures);
-      clean = clean_many c.args.fst.now c.as_slice-in-loop-at-3.result.now c.in_ok-base-2.base.items c.in_ok-items-2.items.items c.requires.writes c.in_ok-items-2.ensures
-          (clean_back c.args.fst.now false c.as_slice-in-loop-at.result.now c.as_slice-in-loop-at-2.result.now c.in_ok-base-2.base.items c.requires.writes c.in_ok-base-2.ensures
-          (λ z i. c.loop-at.invariant.clean z (subst (λ (w : List Item). IsIn z w) c.as_slice-in-loop-at-2.ensures.value i)));
+          (subst (λ (z : List ℕ). IsBack c.args.fst.now.edges false z c.loop-at.items.items c.in_ok-base-2.base.items) c.links-in-loop-at.ensures
+          (subst (λ (z : List Item). IsBack c.args.fst.now.edges false c.links-in-loop-at.result.now z c.in_ok-base-2.base.items) c.as_slice.ensures.value c.in_ok-base-2.ensures))
+          (subst (λ (z : List ℕ). IsBackMany c.args.fst.now.edges z c.in_ok-base-2.base.items c.in_ok-items-2.items.items) c.links-in-loop-at-2.ensures c.in_ok-items-2.ensures);
+      clean = clean_many c.args.fst.now c.links-in-loop-at-2.result.now c.in_ok-base-2.base.items c.in_ok-items-2.items.items c.requires.writes c.in_ok-items-2.ensures
+          (clean_back c.args.fst.now false c.links-in-loop-at.result.now c.as_slice.result.now c.in_ok-base-2.base.items c.requires.writes c.in_ok-base-2.ensures
+          (λ z i. c.loop-at.invariant.clean z (subst (λ (w : List Item). IsIn z w) c.as_slice.ensures.value i)));
     }
 
 pub returns-clause-words : goal.returns-clause-words

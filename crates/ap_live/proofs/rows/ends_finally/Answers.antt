@@ -7,4 +7,4 @@ use Rattle.ap_live.proofs.rows.ends_finally.Goals as goal
 pub returns-in-Some : goal.returns-in-Some
 returns-in-Some c = λ seen live. final_law c.args.fst.now seen c.in-Some.last.now c.holds_final.result
     (last_read c.args.fst.now.edges seen c.args.rows.now c.args.rows.now c.args.rows.now c.in-Some.last.now live refl refl c.in-Some.ensures.value)
-    (subst (λ (z : List ℕ). IsTrue c.holds_final.result ↔ ((s : ℕ) × (IsIn s z × IsIn s c.args.fst.now.finals))) c.as_slice.ensures.value c.holds_final.ensures)
+    (subst (λ (z : List ℕ). IsTrue c.holds_final.result ↔ ((s : ℕ) × (IsIn s z × IsIn s c.args.fst.now.finals))) c.states.ensures c.holds_final.ensures)

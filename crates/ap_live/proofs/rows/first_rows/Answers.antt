@@ -1,5 +1,9 @@
+use Rattle.std.proofs.Common.{subst, sym, [], ◌∷◌}
+use Rattle.ap_live.specs.Spreads.{Closed}
+use Rattle.ap_live.specs.declared.rows.Row.{Row}
 use Rattle.ap_live.proofs.RowLaws.{live_first}
 use Rattle.ap_live.proofs.rows.first_rows.Goals as goal
 
 pub returns : goal.returns
-returns c = live_first c.args.fst.now.edges c.push.new.self.items c.new-rows.result.items c.in_ok-first_row.field-0 c.in_ok-first_row.ensures c.new-rows.ensures.items c.in_ok-push.ensures.items
+returns c = live_first c.args.fst.now.edges c.push.new.self.items c.new-rows.result.items c.in_ok-share.field-0
+    (subst (λ (z : Row). Closed c.args.fst.now.edges (0 ∷ []) [] z.states.items z.links.items) (sym c.in_ok-share.ensures) c.in_ok-row.ensures) c.new-rows.ensures.items c.in_ok-push.ensures.items

@@ -1,0 +1,294 @@
+ghost use Rattle.std.specs.Prelude.{◌≡◌, ◌++◌, take, ◌∷◌, ◌-◌, ℕ, [], List, IfOk, OnOk, OnErr, IsTrue, length, slice_get, Some};
+ghost use Rattle.std.specs.Option.{option_copied};
+ghost use Rattle.ap_fst.specs.Lists.{IsIn};
+ghost use Rattle.ap_fst.specs.declared.label.Edge.{Edge};
+ghost use Rattle.ap_live.specs.Fitting.{Input};
+ghost use Rattle.ap_live.specs.Rows.{IsNext, AreRows, IsKnown, Follows, IsLinked};
+ghost use Rattle.ap_live.specs.declared.rows.Row.{Row};
+
+use crate::picking::Pick;
+use crate::rows::{SharedRow, next_row, share};
+use ap_fst::Fst;
+use ap_symbol::{Memory, Symbol, fits};
+use std::alloc::Global;
+
+/// At so many known rows no more are kept.
+const MOST_ROWS: usize = 131_072;
+
+/// At so many states and links in known rows no more are kept.
+const MOST_HELD: usize = 8_000_000;
+
+/// From one known row an input leads to another, under a flag for case. Rows are numbered in the
+/// order in which they were kept. `earlier` is one more than the place of an earlier link from the
+/// same row, or 0.
+#[derive(Debug, Drop)]
+pub struct Link {
+    from: usize,
+    symbol: Symbol,
+    sensitive: bool,
+    to: usize,
+    earlier: usize,
+}
+
+/// Rows that were computed, and which leads to which: so much of the transducer as a deterministic
+/// one as inputs have asked for.
+///
+/// `path` has the numbers of the rows so far, as long as these are known. `heads` has for each known
+/// row one more than the place of its last link, or 0; links are checked when they are found by it.
+/// `held` counts the states and links of known rows.
+#[derive(Debug, Drop)]
+pub struct Known {
+    pub rows: Vec<SharedRow>,
+    pub links: Vec<Link>,
+    pub path: Vec<usize>,
+    heads: Vec<usize>,
+    held: usize,
+}
+
+pub(crate) fn nothing_known(alloc: Global) -> Known
+    ensures rows { result.rows.items ≡ [] }
+    ensures links { result.links.items ≡ [] }
+    ensures path { result.path.items ≡ [] }
+{
+    Known {
+        rows: Vec::new(alloc),
+        links: Vec::new(alloc),
+        path: Vec::new(alloc),
+        heads: Vec::new(alloc),
+        held: 0,
+    }
+}
+
+fn is_symbol(a: &Symbol, b: &Symbol) -> bool
+    ensures { IsTrue result → a.now ≡ b.now }
+{
+    fits(a, b, true)
+}
+
+fn is_link(link: &Link, from: usize, input: &Symbol, sensitive: bool) -> bool
+    ensures { IsTrue result → (link.now.from ≡ from) × (link.now.sensitive ≡ sensitive) × (link.now.symbol ≡ input.now) }
+{
+    link.from == from && link.sensitive == sensitive && is_symbol(&link.symbol, input)
+}
+
+/// Where this input leads from this row, among the links from the one before this place on.
+fn linked(
+    links: &[Link],
+    head: usize,
+    from: usize,
+    input: &Symbol,
+    sensitive: bool,
+) -> Option<usize>
+    ensures { (to : ℕ) → result ≡ Some to → IsLinked links.now from (record { symbol = input.now; sensitive = sensitive }) to }
+{
+    let mut at = head;
+    'chain: while 0 < at && at <= links.len() {
+        let link = &links[at - 1];
+        if is_link(link, from, input, sensitive) {
+            return Some(link.to);
+        }
+        if at <= link.earlier {
+            return None;
+        }
+        at = link.earlier;
+    }
+    None
+}
+
+fn head_of(heads: &[usize], from: usize) -> usize {
+    match heads.get(from) {
+        None => 0,
+        Some(head) => *head,
+    }
+}
+
+/// The number of the known row that this input leads to from the last of so many rows.
+fn find(known: &Known, count: usize, input: &Symbol, sensitive: bool) -> Option<usize>
+    ensures { (edges : List Edge) (rows : List Row) (to : ℕ) → result ≡ Some to → count ≡ length rows → IsKnown edges rows known.now.rows.items known.now.links.items known.now.path.items
+        → Follows edges rows known.now.rows.items known.now.path.items (record { symbol = input.now; sensitive = sensitive }) to }
+{
+    if known.path.as_slice().len() != count {
+        return None;
+    }
+    let Some(from) = known.path.last() else {
+        return None;
+    };
+    let head = head_of(known.heads.as_slice(), *from);
+    linked(known.links.as_slice(), head, *from, input, sensitive)
+}
+
+fn row_at(rows: &[SharedRow], at: usize) -> Option<&SharedRow>
+    ensures { option_copied result ≡ slice_get rows.now at }
+{
+    rows.get(at)
+}
+
+/// Adds a known row. After a refusal nothing is changed.
+fn add_known(rows: &mut Vec<SharedRow>, known: &mut Known, to: usize) -> Result<(), Memory>
+    ensures ok { OnOk result ((edges : List Edge) (seen : List Input) (input : Input) → AreRows edges seen rows.old.items → IsKnown edges rows.old.items known.old.rows.items known.old.links.items known.old.path.items
+        → Follows edges rows.old.items known.old.rows.items known.old.path.items input to
+        → AreRows edges (seen ++ input ∷ []) rows.new.items × IsKnown edges rows.new.items known.new.rows.items known.new.links.items known.new.path.items) }
+    ensures err { OnErr result ((rows.new.items ≡ rows.old.items) × (known.new.rows.items ≡ known.old.rows.items) × (known.new.links.items ≡ known.old.links.items) × (known.new.path.items ≡ known.old.path.items)) }
+{
+    let Some(row) = row_at(known.rows.as_slice(), to) else {
+        return Ok(());
+    };
+    rows.push(row.copy()?)?;
+    let _ = known.path.push(to);
+    Ok(())
+}
+
+fn is_full(known: &Known) -> bool {
+    MOST_ROWS <= known.rows.as_slice().len() || MOST_HELD <= known.held
+}
+
+/// Begins with the first row, where nothing is known.
+fn plant(known: &mut Known, alloc: Global, rows: &[SharedRow]) -> Result<(), Memory>
+    ensures { (edges : List Edge) → IsKnown edges rows.now known.old.rows.items known.old.links.items known.old.path.items → IsKnown edges rows.now known.new.rows.items known.new.links.items known.new.path.items }
+{
+    if !known.rows.as_slice().is_empty() || !known.path.as_slice().is_empty() {
+        return Ok(());
+    }
+    let Some(first) = row_at(rows, 0) else {
+        return Ok(());
+    };
+    known.rows.push(first.copy()?)?;
+    known.path.push(0)?;
+    known.heads.push(0)?;
+    Ok(())
+}
+
+fn set_head(heads: &mut Vec<usize>, from: usize, head: usize) {
+    if let Some(slot) = heads.as_mut_slice().get_mut(from) {
+        *slot = head;
+    }
+}
+
+/// Keeps a row that this input leads to from a known one, as far as there is memory.
+fn keep(
+    known: &mut Known,
+    alloc: Global,
+    from: usize,
+    row: SharedRow,
+    input: &Symbol,
+    sensitive: bool,
+) -> Result<(), Memory>
+    ensures { (edges : List Edge) (rows : List Row) (last : Row) → slice_get known.old.rows.items from ≡ Some last → slice_get rows (length known.old.path.items) ≡ Some row
+        → IsNext edges (Some (record { symbol = input.now; sensitive = sensitive })) last.states.items row
+        → IsKnown edges rows known.old.rows.items known.old.links.items known.old.path.items → IsKnown edges rows known.new.rows.items known.new.links.items known.new.path.items }
+{
+    let to = known.rows.as_slice().len();
+    let held = row.held();
+    let symbol = input.copy(alloc)?;
+    known.heads.push(0)?;
+    known.rows.push(row)?;
+    known.held = known.held.saturating_add(held);
+    let earlier = head_of(known.heads.as_slice(), from);
+    known.links.push(Link {
+        from,
+        symbol,
+        sensitive,
+        to,
+        earlier,
+    })?;
+    set_head(&mut known.heads, from, known.links.as_slice().len());
+    known.path.push(to)?;
+    Ok(())
+}
+
+/// Keeps the row after one input more, if that after one less is known and there is room.
+fn remember(
+    known: &mut Known,
+    alloc: Global,
+    rows: &[SharedRow],
+    input: &Symbol,
+    sensitive: bool,
+) -> Result<(), Memory>
+    ensures { (edges : List Edge) (before : List Row) (last row : Row) → rows.now ≡ before ++ row ∷ [] → slice_get before (length before - 1) ≡ Some last
+        → IsNext edges (Some (record { symbol = input.now; sensitive = sensitive })) last.states.items row
+        → IsKnown edges rows.now known.old.rows.items known.old.links.items known.old.path.items → IsKnown edges rows.now known.new.rows.items known.new.links.items known.new.path.items }
+{
+    if is_full(known) || known.path.as_slice().len() != rows.len().saturating_sub(1) {
+        return Ok(());
+    }
+    let Some(from) = known.path.last() else {
+        return Ok(());
+    };
+    let from = *from;
+    let Some(row) = rows.last() else {
+        return Ok(());
+    };
+    let row = row.copy()?;
+    keep(known, alloc, from, row, input, sensitive)
+}
+
+/// Adds a row that is computed. After a refusal nothing is changed.
+fn add_new(
+    rows: &mut Vec<SharedRow>,
+    known: &mut Known,
+    fst: &Fst,
+    input: &Symbol,
+    sensitive: bool,
+) -> Result<(), Memory>
+    ensures ok { OnOk result ((seen : List Input) → AreRows fst.now.edges seen rows.old.items → IsKnown fst.now.edges rows.old.items known.old.rows.items known.old.links.items known.old.path.items
+        → AreRows fst.now.edges (seen ++ record { symbol = input.now; sensitive = sensitive } ∷ []) rows.new.items × IsKnown fst.now.edges rows.new.items known.new.rows.items known.new.links.items known.new.path.items) }
+    ensures err { OnErr result ((rows.new.items ≡ rows.old.items) × (known.new.rows.items ≡ known.old.rows.items) × (known.new.links.items ≡ known.old.links.items) × (known.new.path.items ≡ known.old.path.items)) }
+{
+    let alloc = *rows.allocator();
+    let Some(last) = rows.last() else {
+        return Ok(());
+    };
+    let row = next_row(alloc, fst, last.states(), Pick::Fitting(input, sensitive))?;
+    rows.push(share(alloc, row)?)?;
+    let _ = plant(known, alloc, rows.as_slice());
+    let _ = remember(known, alloc, rows.as_slice(), input, sensitive);
+    Ok(())
+}
+
+/// Adds the row after one input more: a known one, or else one that is computed. After a refusal
+/// nothing is changed.
+pub(crate) fn add_row(
+    rows: &mut Vec<SharedRow>,
+    known: &mut Known,
+    fst: &Fst,
+    input: &Symbol,
+    sensitive: bool,
+) -> Result<(), Memory>
+    ensures ok { OnOk result ((seen : List Input) → AreRows fst.now.edges seen rows.old.items → IsKnown fst.now.edges rows.old.items known.old.rows.items known.old.links.items known.old.path.items
+        → AreRows fst.now.edges (seen ++ record { symbol = input.now; sensitive = sensitive } ∷ []) rows.new.items × IsKnown fst.now.edges rows.new.items known.new.rows.items known.new.links.items known.new.path.items) }
+    ensures err { OnErr result ((rows.new.items ≡ rows.old.items) × (known.new.rows.items ≡ known.old.rows.items) × (known.new.links.items ≡ known.old.links.items) × (known.new.path.items ≡ known.old.path.items)) }
+{
+    match find(known, rows.as_slice().len(), input, sensitive) {
+        None => add_new(rows, known, fst, input, sensitive),
+        Some(to) => add_known(rows, known, to),
+    }
+}
+
+/// Forgets the known rows.
+fn forget(known: &mut Known)
+    ensures rows { known.new.rows.items ≡ [] }
+    ensures links { known.new.links.items ≡ [] }
+    ensures path { known.new.path.items ≡ [] }
+{
+    known.rows.clear();
+    known.links.clear();
+    known.path.clear();
+    known.heads.clear();
+    known.held = 0;
+}
+
+/// Goes back to the rows of the first so many inputs. At none of them known rows are forgotten where
+/// these are too many.
+pub(crate) fn cut_rows(rows: &mut Vec<SharedRow>, known: &mut Known, len: usize)
+    ensures { (edges : List Edge) (seen : List Input) → AreRows edges seen rows.old.items → IsKnown edges rows.old.items known.old.rows.items known.old.links.items known.old.path.items
+        → AreRows edges (take len seen) rows.new.items × IsKnown edges rows.new.items known.new.rows.items known.new.links.items known.new.path.items }
+{
+    if rows.as_slice().len() <= len {
+        return;
+    }
+    rows.truncate(len + 1);
+    known.path.truncate(len + 1);
+    if len == 0 && is_full(known) {
+        forget(known);
+    }
+}
