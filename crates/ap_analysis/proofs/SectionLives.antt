@@ -1,19 +1,18 @@
 -- What the live sets of the four sections say, in the words of the lexicon.
-use Rattle.std.specs.Prelude.{◌≡◌, ℕ, ◌≤◌, Bool, true, false, not, ◌&&◌, ◌||◌, List, [], ◌∷◌, ◌++◌, map, length, take, IfOk, Result}
-use Rattle.std.proofs.Common.{refl, ap, sym, ◌∙◌, subst, arith}
+use Rattle.std.specs.Prelude.{◌≡◌, ℕ, Bool, true, false, not, ◌&&◌, ◌||◌, List, [], ◌∷◌, ◌++◌, length, take}
+use Rattle.std.proofs.Common.{refl, ap, sym, ◌∙◌, subst}
 use Rattle.std.proofs.Math.Seq.{take-append_seam, take-length}
 use Rattle.std.proofs.lemmas.List.{take-map, map-append}
-use Rattle.std.proofs.lemmas.Result.{IfOk-weaker}
 use Rattle.ap_symbol.specs.declared.symbol.Symbol.{Symbol}
 use Rattle.ap_fst.specs.Machines.{Machine}
 use Rattle.ap_fst.specs.Sections.{Parts, IsCompiled, section_of}
 use Rattle.ap_fst.specs.Silence.{HasNoEmptyCycle}
 use Rattle.ap_fst.specs.declared.compiled.Kind2.{Kind2}
 use Rattle.ap_live.specs.Fitting.{Input}
-use Rattle.ap_live.specs.Found.{outputs, has_words, has_output, is_viable}
+use Rattle.ap_live.specs.Found.{outputs, has_words, has_output}
 use Rattle.ap_live.specs.Outputs.{WritesWords}
 use Rattle.ap_live.specs.Rows.{Lives, IsLive}
-use Rattle.ap_analysis.specs.Lexicon.{inputs_of, viable_in}
+use Rattle.ap_analysis.specs.Lexicon.{inputs_of}
 use Rattle.ap_analysis.specs.Licence.{is_some_word}
 use Rattle.ap_analysis.proofs.Coherence.{section_is, section_writes}
 

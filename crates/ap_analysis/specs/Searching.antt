@@ -1,16 +1,13 @@
 -- What the search for the length at the front of the held items knows.
-use Rattle.std.specs.Prelude.{◌≡◌, ◌⊎◌, ℕ, suc, ◌<◌, ◌≤◌, Bool, true, false, List, [], length, take, IsTrue, max, slice_index_or}
+use Rattle.std.specs.Prelude.{◌≡◌, ◌⊎◌, ℕ, suc, ◌<◌, ◌≤◌, Bool, true, false, List, length, take, IsTrue, max, slice_index_or}
 use Rattle.std.specs.List.{list_all}
 use Rattle.ap_symbol.specs.declared.symbol.Symbol.{Symbol}
 use Rattle.ap_fst.specs.Sections.{Parts}
-use Rattle.ap_fst.specs.declared.compiled.Kind2.{Kind2}
-use Rattle.ap_fst.specs.declared.compiled.Kind2.TheVariants.{Standard, Inconditional, Postblank, Preblank}
-use Rattle.ap_live.specs.Rows.{Lives, IsLive}
+use Rattle.ap_live.specs.Rows.{IsLive}
 use Rattle.ap_stream.specs.declared.item.Read.{Read}
 use Rattle.ap_analysis.specs.Items.{front}
 use Rattle.ap_analysis.specs.Lexicon.{Lexicon, lexicon_of, inputs_of}
 use Rattle.ap_analysis.specs.Licence.{surface, is_alphabetic, is_licensed, greatest, licence, run_length, unknown_length, span}
-use Rattle.ap_analysis.specs.Analysis.{Step, Gives, Stops}
 use Rattle.ap_analysis.specs.declared.live_sections.LiveSections.{LiveSections}
 use Rattle.ap_analysis.specs.declared.search.Phase.{Phase}
 use Rattle.ap_analysis.specs.declared.search.Phase.TheVariants.{Stepping, Unmatched}

@@ -17,6 +17,3 @@ pub use laws::{
     one_lexicon, same_relation_same_lexicon, sides_are_proper,
 };
 pub use work::AnalysisWork;
-
-#[cfg(test)]
-mod tests;

@@ -1,4 +1,4 @@
-use Rattle.std.proofs.Common.{subst, List, []}
+use Rattle.std.proofs.Common.{subst, List}
 use Rattle.ap_symbol.specs.Lists.{IsIn}
 use Rattle.ap_symbol.specs.declared.symbol.Symbol.{Symbol}
 use Rattle.ap_analysis.proofs.readings.readings.Goals as goal

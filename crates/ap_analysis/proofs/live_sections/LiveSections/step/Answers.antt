@@ -1,4 +1,3 @@
-use Rattle.std.proofs.Common.{sym, ◌∙◌}
 use Rattle.ap_analysis.proofs.SectionLives.{live_back}
 use Rattle.ap_analysis.proofs.live_sections.LiveSections.step.Goals as goal
 

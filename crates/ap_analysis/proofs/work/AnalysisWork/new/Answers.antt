@@ -1,4 +1,4 @@
-use Rattle.std.proofs.Common.{sym, subst, List, ◌≡◌, []}
+use Rattle.std.proofs.Common.{sym, subst, List}
 use Rattle.std.specs.List.{AllByRecursion}
 use Rattle.ap_stream.specs.Reading.{IsRead}
 use Rattle.ap_stream.specs.declared.dialect.Dialect.TheVariants.{Raw}
