@@ -1,10 +1,10 @@
 -- The pieces of a text, step by step and by the grammar.
-use Rattle.std.proofs.Common.{◌≡◌, ◌⊎◌, inl, inr, ℕ, Bool, true, false, List, [], ◌∷◌, ◌++◌, refl, sym, ◌∙◌, ap, subst, append_assoc, Option, Some, None, arith}
+use Rattle.std.proofs.Common.{◌≡◌, inl, inr, ℕ, Bool, true, false, List, [], ◌∷◌, ◌++◌, refl, sym, ◌∙◌, ap, subst, append_assoc, Some, None}
 use Rattle.std.specs.Prelude.{if◌then◌else◌, IsTrue, not, ◌==◌}
 use Rattle.std.proofs.lemmas.Bool.{cases_eq, not-true, eqb-true, ne_eqb, false≢true}
 use Rattle.ap_symbol.specs.Words.{is_white}
 use Rattle.ap_dix.specs.Grammar.{IsPieces, nothing, skipped, itself, escaped, piece, is_skipped}
-use Rattle.ap_dix.specs.Machines.{Cut, cut_step, cut_end, pieces_of, run, on_some}
+use Rattle.ap_dix.specs.Machines.{Cut, cut_step, cut_end, pieces_of, run}
 use Rattle.ap_dix.specs.declared.pieces.Piece.{Piece}
 use Rattle.ap_dix.proofs.Runs.{run_then, run_keeps, none_else, one_of_two, taken, left_out, CameFrom, came_from, goes_on}
 

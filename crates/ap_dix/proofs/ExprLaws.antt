@@ -1,12 +1,12 @@
 -- The expression that a text is, by its steps and by the grammar.
-use Rattle.std.proofs.Common.{◌≡◌, ℕ, List, refl, sym, ◌∙◌, ap, Option, Some, None}
+use Rattle.std.proofs.Common.{◌≡◌, ℕ, List, sym, ◌∙◌, ap, Some, None}
 use Rattle.std.specs.Prelude.{◌↔◌}
 use Rattle.ap_dix.specs.Forms.{Form, either, forms_of}
 use Rattle.ap_dix.specs.Grammar.{SpellsExpr}
 use Rattle.ap_dix.specs.Machines.{pieces_of, tokens_of, choices_of, expression, on_some}
 use Rattle.ap_dix.specs.declared.pieces.Piece.{Piece}
 use Rattle.ap_dix.specs.declared.tokens.Token.{Token}
-use Rattle.ap_dix.proofs.Runs.{CameFrom, came_from, goes_on}
+use Rattle.ap_dix.proofs.Runs.{came_from, goes_on}
 use Rattle.ap_dix.proofs.CutLaws.{pieces-sound, pieces-complete}
 use Rattle.ap_dix.proofs.TokenLaws.{tokens-sound, tokens-complete}
 use Rattle.ap_dix.proofs.StackLaws.{choices-sound, choices-complete}

@@ -1,20 +1,20 @@
 -- The symbols of an expression that a text spells are blanks and letters that are no white space.
-use Rattle.std.proofs.Common.{◌≡◌, ℕ, suc, Bool, true, false, not, ◌&&◌, ◌==◌, cond, List, [], ◌∷◌, ◌++◌, refl, sym, ◌∙◌, ap, subst, Option, Some, None}
+use Rattle.std.proofs.Common.{◌≡◌, ℕ, suc, Bool, true, false, not, ◌&&◌, ◌==◌, cond, List, [], ◌∷◌, ◌++◌, refl, sym, ◌∙◌, ap, subst, Some, None}
 use Rattle.std.specs.List.{list_all}
-use Rattle.std.proofs.lemmas.Bool.{and_parts, and_from, not-true, false≢true}
+use Rattle.std.proofs.lemmas.Bool.{and_parts, and_from, not-true}
 use Rattle.std.proofs.lemmas.List.Folds.{list_all-append}
 use Rattle.ap_symbol.specs.Words.{is_white}
 use Rattle.ap_symbol.specs.declared.symbol.Symbol.{Symbol}
 use Rattle.ap_symbol.specs.declared.symbol.Symbol.TheVariants.{Letter, Blank}
-use Rattle.ap_dix.specs.Forms.{Form, Forms, sequence, forms_of}
-use Rattle.ap_dix.specs.Grammar.{IsPieces, nothing, skipped, itself, escaped, piece, is_skipped, IsToken, alone, classed, AreTokens, none, another, plain_token, token_of, is_reserved, symbol_of, repeated, IsAtom, character, of_class, group, IsFactor, once, more_often, IsSequence, only, with_factor, IsChoice, lone, with_sequence, SpellsExpr}
+use Rattle.ap_dix.specs.Forms.{Form, sequence, forms_of}
+use Rattle.ap_dix.specs.Grammar.{IsPieces, nothing, skipped, itself, escaped, piece, is_skipped, IsToken, alone, classed, AreTokens, none, another, token_of, is_reserved, repeated, IsAtom, character, of_class, group, IsFactor, once, more_often, IsSequence, only, with_factor, IsChoice, lone, with_sequence, SpellsExpr}
 use Rattle.ap_dix.specs.Machines.{expression}
 use Rattle.ap_dix.specs.Soundness.{is_one_symbol, is_sound_form, are_sound_forms}
 use Rattle.ap_dix.specs.declared.pieces.Piece.{Piece}
 use Rattle.ap_dix.specs.declared.tokens.Repetition.{Repetition}
 use Rattle.ap_dix.specs.declared.tokens.Repetition.TheVariants.{AnyNumber, AtLeastOnce, AtMostOnce}
 use Rattle.ap_dix.specs.declared.tokens.Token.{Token}
-use Rattle.ap_dix.specs.declared.tokens.Token.TheVariants.{Character, Class, Open, Close, Bar, Repeat}
+use Rattle.ap_dix.specs.declared.tokens.Token.TheVariants.{Character, Open, Close, Bar, Repeat}
 use Rattle.ap_dix.proofs.ExprLaws.{expression_exact}
 
 -- a space or no white space

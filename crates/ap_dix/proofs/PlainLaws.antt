@@ -1,10 +1,9 @@
 -- What the expressions of the code stand for, by their parts as lists.
 use Rattle.std.proofs.Common.{◌≡◌, List, [], ◌∷◌, ◌++◌, map, reverse, refl, sym, ap, ◌∙◌, Option, Some, None, false, Vec, Global}
 use mathlib.Core.Former.{Count}
-use Rattle.std.specs.Option.{option_map}
 use Rattle.std.proofs.lemmas.List.{map-append, reverse-append}
-use Rattle.ap_dix.specs.Forms.{Form, Forms, sequence, either, then_form, forms_of}
-use Rattle.ap_dix.specs.Machines.{Stage, Stack, flushed, closed, is_nil, with_atom, stack, close_step}
+use Rattle.ap_dix.specs.Forms.{Form, sequence, either, then_form, forms_of}
+use Rattle.ap_dix.specs.Machines.{Stage, flushed, closed, is_nil, with_atom, stack, close_step}
 use Rattle.ap_dix.specs.Plain.{plain, row_forms}
 use Rattle.ap_dix.specs.declared.expr.Expr.{Expr, Sequence, Sequence', Either, Either', Row_of-Expr, end_of-Expr, more_of-Expr, items-the_row-Expr, items_hidden-the_row-Expr-0}
 use Rattle.ap_dix.proofs.Runs.{left_out}

@@ -1,11 +1,11 @@
 -- The expression of some tokens, step by step and by the grammar.
-use Rattle.std.proofs.Common.{◌≡◌, ◌⊎◌, ◌<◌, inl, inr, ℕ, suc, Bool, true, false, List, [], ◌∷◌, ◌++◌, refl, sym, ◌∙◌, ap, subst, append_assoc, append-nil, Option, Some, None, length, add-one, arith}
+use Rattle.std.proofs.Common.{◌≡◌, ◌⊎◌, ◌<◌, inl, inr, ℕ, suc, false, List, [], ◌∷◌, ◌++◌, refl, sym, ◌∙◌, ap, subst, append_assoc, append-nil, Option, Some, None, length}
 use Rattle.std.specs.Prelude.{if◌then◌else◌, nat_lt}
 use Rattle.std.specs.Option.{option_to_list}
 use Rattle.std.proofs.lemmas.Bool.{false≢true, ltb-true, lt-ltb}
 use Rattle.ap_dix.specs.Forms.{Form, one, class, sequence, either, forms_of}
 use Rattle.ap_dix.specs.Grammar.{IsAtom, character, of_class, group, IsFactor, once, more_often, IsSequence, only, with_factor, IsChoice, lone, with_sequence, symbol_of, repeated}
-use Rattle.ap_dix.specs.Machines.{Stage, stage, flushed, with_atom, closed, Stack, stack, repeat_step, close_step, bar_step, stack_step, stack_end, is_nil, choices_of, run, on_some}
+use Rattle.ap_dix.specs.Machines.{Stage, stage, flushed, with_atom, closed, Stack, stack, repeat_step, close_step, bar_step, stack_step, stack_end, is_nil, choices_of, run}
 use Rattle.ap_dix.specs.declared.tokens.Repetition.{Repetition}
 use Rattle.ap_dix.specs.declared.tokens.Token.{Token}
 use Rattle.ap_dix.specs.declared.tokens.Token.TheVariants.{Character, Class, Open, Close, Bar, Repeat}

@@ -1,9 +1,9 @@
 -- The tokens of some pieces, step by step and by the grammar.
-use Rattle.std.proofs.Common.{◌≡◌, ◌⊎◌, ◌≤◌, inl, inr, ℕ, Bool, true, false, List, [], ◌∷◌, ◌++◌, refl, sym, ◌∙◌, ap, subst, append_assoc, append-nil, Option, Some, None, arith}
+use Rattle.std.proofs.Common.{◌≡◌, ◌⊎◌, ◌≤◌, inl, inr, ℕ, Bool, true, false, List, [], ◌∷◌, ◌++◌, refl, sym, ◌∙◌, ap, subst, append_assoc, append-nil, Option, Some, None}
 use Rattle.std.specs.Prelude.{if◌then◌else◌, IsTrue, not, ◌&&◌, ◌==◌, nat_le}
 use Rattle.std.proofs.lemmas.Bool.{not-true, eqb-true, ne_eqb, false≢true, and_parts, and_from, leb-true, le-leb, cases_eq, eq-eqb, and_right}
 use Rattle.ap_dix.specs.Grammar.{IsMember, single, ranged, AreMembers, first, further, IsToken, alone, classed, AreTokens, none, another, is_sign, is_member, is_reserved, range, token_of}
-use Rattle.ap_dix.specs.Machines.{Telling, outside, inside, telling_step, choose_step, class_step, member_step, dash_step, outside_step, with_token, telling_end, is_closed, is_nil, tokens_of, run, on_some}
+use Rattle.ap_dix.specs.Machines.{Telling, outside, inside, telling_step, choose_step, class_step, member_step, outside_step, with_token, telling_end, is_closed, is_nil, tokens_of, run}
 use Rattle.ap_dix.specs.declared.expr.Range.{Range}
 use Rattle.ap_dix.specs.declared.pieces.Piece.{Piece}
 use Rattle.ap_dix.specs.declared.tokens.Member.{Member}

@@ -1,5 +1,5 @@
 -- The reading of an expression, step by step: each reading takes its input from the front and keeps what it needs.
-use Rattle.std.specs.Prelude.{ℕ, Bool, true, false, not, ◌&&◌, ◌==◌, nat_le, nat_lt, List, [], ◌∷◌, ◌++◌, Option, Some, None, if◌then◌else◌, length}
+use Rattle.std.specs.Prelude.{ℕ, Bool, true, false, ◌&&◌, ◌==◌, nat_le, nat_lt, List, [], ◌∷◌, ◌++◌, Option, Some, None, if◌then◌else◌, length}
 use Rattle.std.specs.Option.{option_to_list}
 use Rattle.ap_symbol.specs.Words.{is_white}
 use Rattle.ap_dix.specs.Forms.{Form, one, class, sequence, either, forms_of}

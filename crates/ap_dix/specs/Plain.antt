@@ -1,5 +1,4 @@
 -- What an expression of the code stands for.
-use Rattle.std.specs.Prelude.{List, [], ◌∷◌}
 use Rattle.ap_dix.specs.Forms.{Form, Forms, one, class, sequence, either, star, plus, opt, no_forms, then_form}
 use Rattle.ap_dix.specs.declared.expr.Expr.{Expr, One, Class, Sequence', Either', Star', Plus', Opt', Row_of-Expr, end_of-Expr, more_of-Expr}
 

@@ -1,5 +1,5 @@
 -- What the states of the reading of an expression stand for.
-use Rattle.std.specs.Prelude.{List, map, reverse, Option}
+use Rattle.std.specs.Prelude.{map, reverse}
 use Rattle.std.specs.Option.{option_map}
 use Rattle.ap_dix.specs.Machines.{Cut, Telling, Stage, Stack}
 use Rattle.ap_dix.specs.Plain.{plain}

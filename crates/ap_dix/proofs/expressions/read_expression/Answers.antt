@@ -1,7 +1,6 @@
-use Rattle.std.proofs.Common.{◌≡◌, List, map, sym, ◌∙◌, ap, Some, None}
+use Rattle.std.proofs.Common.{map, sym, ◌∙◌, ap, Some}
 use Rattle.std.specs.Option.{option_map}
-use Rattle.ap_dix.specs.Forms.{Form, either, forms_of}
-use Rattle.ap_dix.specs.Machines.{pieces_of, tokens_of, choices_of}
+use Rattle.ap_dix.specs.Machines.{tokens_of}
 use Rattle.ap_dix.specs.Plain.{plain}
 use Rattle.ap_dix.proofs.ExprLaws.{no_pieces, no_tokens, no_choices, has_choices}
 use Rattle.ap_dix.proofs.PlainLaws.{plain-Either}

@@ -1,4 +1,4 @@
-use Rattle.std.proofs.Common.{◌≡◌, [], false, sym, ◌∙◌, ap, Some, None}
+use Rattle.std.proofs.Common.{[], false, sym, ◌∙◌, ap, Some}
 use Rattle.std.specs.Option.{option_map}
 use Rattle.ap_dix.specs.Machines.{cut_step, cut_end, pieces_of, run, on_some}
 use Rattle.ap_dix.specs.Views.{cut_of}

@@ -1,4 +1,4 @@
-use Rattle.std.proofs.Common.{◌≡◌, ℕ, true, false, length, [], eqb, vec_len, refl, sym, ◌∙◌, ap}
+use Rattle.std.proofs.Common.{◌≡◌, true, length, eqb, vec_len, refl, ◌∙◌, ap}
 use Rattle.std.proofs.lemmas.Bool.{false≢true}
 use Rattle.ap_dix.specs.Views.{stage_of}
 use Rattle.ap_dix.proofs.PlainLaws.{closed_by}

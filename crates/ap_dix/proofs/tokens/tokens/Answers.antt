@@ -1,4 +1,4 @@
-use Rattle.std.proofs.Common.{◌≡◌, [], false, get_or, refl, sym, ◌∙◌, ap, Some, None}
+use Rattle.std.proofs.Common.{[], false, get_or, refl, sym, ◌∙◌, ap, Some}
 use Rattle.std.specs.Option.{option_map}
 use Rattle.ap_dix.specs.Machines.{telling_step, telling_end, outside, tokens_of, run, on_some}
 use Rattle.ap_dix.specs.Views.{telling_of}
