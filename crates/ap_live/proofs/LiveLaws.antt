@@ -18,7 +18,7 @@ use Rattle.ap_fst.proofs.WalkLaws.{walk_then}
 use Rattle.ap_fst.proofs.SilenceLaws.{left_word_then}
 use Rattle.ap_live.specs.Fitting.{Input, fits_inputs, fits_side, is_empty_side}
 use Rattle.ap_live.specs.Spreads.{Picked}
-use Rattle.ap_live.specs.Rows.{Reach, begin, silent, taken, AreRows, IsKnown, Lives, IsLive}
+use Rattle.ap_live.specs.Rows.{Reach, begin, silent, taken, AreRows, IsKnown, Tells, Lives, IsLive}
 use Rattle.ap_live.specs.Tails.{AreBacks}
 use Rattle.ap_live.specs.Outputs.{IsOutput, FitBeginning}
 use Rattle.ap_live.specs.declared.rows.Row.{Row}
@@ -166,6 +166,9 @@ accepts_law m seen l rows answer live r h =
       (λ (output, o). k.1 (o.accepted.last, (arrive m.edges [] seen 0 o.accepted.last o.labels o.accepted.walk (begin refl refl) o.fit, o.accepted.final))),
     )
 
+pub told_rows : (m : Machine) (seen : List Input) (l : Lives) (rows : List Row) → IsLive m seen l → rows ≡ l.rows → (at : ℕ) (row : Row) → slice_get rows at ≡ Some row → Tells m.finals row
+told_rows m seen l rows live r at row h = live.known_is.told at row (ap (λ (z : List Row). slice_get z at) (sym r) ∙ h)
+
 pub dead_law : (m : Machine) (seen : List Input) (l : Lives) (rows : List Row) (void none : Bool) → IsMachine m → IsTrimmed m → IsLive m seen l → rows ≡ l.rows → void ≡ l.is_void → void ≡ false
     → ((edges : List Edge) (s : List Input) → AreRows edges s rows → (IsTrue none ↔ ((t : ℕ) → Reach edges s t → ⊥))) → IsTrue none ↔ (FitBeginning m seen → ⊥)
 dead_law m seen l rows void none ok trimmed live r v not_void h =
@@ -184,12 +187,12 @@ outputs_law m seen l rows backs words r live h k output =
       (λ o. (k output).1 (subst (λ (z : List Symbol). IsIn z (map reverse backs)) (reverse-reverse output) (in_map reverse (reverse output) backs (are.complete (reverse output) (tail_from_output m seen output o))))),
     )
 
-pub start_law : (m : Machine) (l : Lives) → AreRows m.edges [] l.rows → l.links ≡ [] → l.path ≡ [] → (IsTrue l.is_void ↔ (m.finals ≡ [])) → IsLive m [] l
-start_law m l are links path void = record { rows_are = are; known_is = nothing_known m.edges l.rows l.known l.links l.path links path; void_is = void }
+pub start_law : (m : Machine) (l : Lives) → AreRows m.edges [] l.rows → ((at : ℕ) (row : Row) → slice_get l.rows at ≡ Some row → Tells m.finals row) → l.known ≡ [] → l.links ≡ [] → l.path ≡ [] → (IsTrue l.is_void ↔ (m.finals ≡ [])) → IsLive m [] l
+start_law m l are told known links path void = record { rows_are = are; known_is = nothing_known m.edges m.finals l.rows l.known l.links l.path told known links path; void_is = void }
 
 pub live_on : (m : Machine) (seen seen' : List Input) (l old new : Lives) → IsLive m seen l → old ≡ l
-    → (AreRows m.edges seen old.rows → IsKnown m.edges old.rows old.known old.links old.path → AreRows m.edges seen' new.rows × IsKnown m.edges new.rows new.known new.links new.path) → new.is_void ≡ old.is_void → IsLive m seen' new
+    → (AreRows m.edges seen old.rows → IsKnown m.edges m.finals old.rows old.known old.links old.path → AreRows m.edges seen' new.rows × IsKnown m.edges m.finals new.rows new.known new.links new.path) → new.is_void ≡ old.is_void → IsLive m seen' new
 live_on m seen seen' l old new live o h v =
     let live' : IsLive m seen old = subst (λ (z : Lives). IsLive m seen z) (sym o) live in
-    let both : AreRows m.edges seen' new.rows × IsKnown m.edges new.rows new.known new.links new.path = h live'.rows_are live'.known_is in
+    let both : AreRows m.edges seen' new.rows × IsKnown m.edges m.finals new.rows new.known new.links new.path = h live'.rows_are live'.known_is in
     record { rows_are = both.0; known_is = both.1; void_is = subst (λ (z : Bool). IsTrue z ↔ (m.finals ≡ [])) (sym v) live'.void_is }

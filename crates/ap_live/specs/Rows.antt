@@ -51,10 +51,16 @@ pub record Stands (rows known : List Row) (at number : ℕ) : Type 0 where
   pub there : slice_get rows at ≡ Some row
   pub as_known : slice_get known number ≡ Some row
 
--- Links between known rows lead as they say, and the path has the numbers of the first rows.
-pub record IsKnown (edges : List Edge) (rows known : List Row) (links : List Link) (path : List ℕ) : Type 0 where
+-- The row says whether one of its states is final.
+abbrev pub Tells : List ℕ → Row → Type 0
+Tells finals row = IsTrue row.ends ↔ ((s : ℕ) × (IsIn s row.states.items × IsIn s finals))
+
+-- Links between known rows lead as they say, the path has the numbers of the first rows, and rows say whether they end.
+pub record IsKnown (edges : List Edge) (finals : List ℕ) (rows known : List Row) (links : List Link) (path : List ℕ) : Type 0 where
   pub leads : (link : Link) → IsIn link links → Leads edges known link
   pub stands : (at number : ℕ) → slice_get path at ≡ Some number → Stands rows known at number
+  pub told : (at : ℕ) (row : Row) → slice_get rows at ≡ Some row → Tells finals row
+  pub known_told : (at : ℕ) (row : Row) → slice_get known at ≡ Some row → Tells finals row
 
 -- one of the links is from this number to the other, by this input
 pub record IsLinked (links : List Link) (from : ℕ) (input : Input) (to : ℕ) : Type 0 where
@@ -86,5 +92,5 @@ pub record Lives : Type 0 where
 -- the live set of a transducer after these inputs
 pub record IsLive (m : Machine) (seen : List Input) (l : Lives) : Type 0 where
   pub rows_are : AreRows m.edges seen l.rows
-  pub known_is : IsKnown m.edges l.rows l.known l.links l.path
+  pub known_is : IsKnown m.edges m.finals l.rows l.known l.links l.path
   pub void_is : IsTrue l.is_void ↔ (m.finals ≡ [])

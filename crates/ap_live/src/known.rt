@@ -104,7 +104,7 @@ fn head_of(heads: &[usize], from: usize) -> usize {
 
 /// The number of the known row that this input leads to from the last of so many rows.
 fn find(known: &Known, count: usize, input: &Symbol, sensitive: bool) -> Option<usize>
-    ensures { (edges : List Edge) (rows : List Row) (to : ℕ) → result ≡ Some to → count ≡ length rows → IsKnown edges rows known.now.rows.items known.now.links.items known.now.path.items
+    ensures { (edges : List Edge) (finals : List ℕ) (rows : List Row) (to : ℕ) → result ≡ Some to → count ≡ length rows → IsKnown edges finals rows known.now.rows.items known.now.links.items known.now.path.items
         → Follows edges rows known.now.rows.items known.now.path.items (record { symbol = input.now; sensitive = sensitive }) to }
 {
     if known.path.as_slice().len() != count {
@@ -125,9 +125,9 @@ fn row_at(rows: &[SharedRow], at: usize) -> Option<&SharedRow>
 
 /// Adds a known row. After a refusal nothing is changed.
 fn add_known(rows: &mut Vec<SharedRow>, known: &mut Known, to: usize) -> Result<(), Memory>
-    ensures ok { OnOk result ((edges : List Edge) (seen : List Input) (input : Input) → AreRows edges seen rows.old.items → IsKnown edges rows.old.items known.old.rows.items known.old.links.items known.old.path.items
+    ensures ok { OnOk result ((edges : List Edge) (finals : List ℕ) (seen : List Input) (input : Input) → AreRows edges seen rows.old.items → IsKnown edges finals rows.old.items known.old.rows.items known.old.links.items known.old.path.items
         → Follows edges rows.old.items known.old.rows.items known.old.path.items input to
-        → AreRows edges (seen ++ input ∷ []) rows.new.items × IsKnown edges rows.new.items known.new.rows.items known.new.links.items known.new.path.items) }
+        → AreRows edges (seen ++ input ∷ []) rows.new.items × IsKnown edges finals rows.new.items known.new.rows.items known.new.links.items known.new.path.items) }
     ensures err { OnErr result ((rows.new.items ≡ rows.old.items) × (known.new.rows.items ≡ known.old.rows.items) × (known.new.links.items ≡ known.old.links.items) × (known.new.path.items ≡ known.old.path.items)) }
 {
     let Some(row) = row_at(known.rows.as_slice(), to) else {
@@ -144,7 +144,7 @@ fn is_full(known: &Known) -> bool {
 
 /// Begins with the first row, where nothing is known.
 fn plant(known: &mut Known, alloc: Global, rows: &[SharedRow]) -> Result<(), Memory>
-    ensures { (edges : List Edge) → IsKnown edges rows.now known.old.rows.items known.old.links.items known.old.path.items → IsKnown edges rows.now known.new.rows.items known.new.links.items known.new.path.items }
+    ensures { (edges : List Edge) (finals : List ℕ) → IsKnown edges finals rows.now known.old.rows.items known.old.links.items known.old.path.items → IsKnown edges finals rows.now known.new.rows.items known.new.links.items known.new.path.items }
 {
     if !known.rows.as_slice().is_empty() || !known.path.as_slice().is_empty() {
         return Ok(());
@@ -173,9 +173,9 @@ fn keep(
     input: &Symbol,
     sensitive: bool,
 ) -> Result<(), Memory>
-    ensures { (edges : List Edge) (rows : List Row) (last : Row) → slice_get known.old.rows.items from ≡ Some last → slice_get rows (length known.old.path.items) ≡ Some row
+    ensures { (edges : List Edge) (finals : List ℕ) (rows : List Row) (last : Row) → slice_get known.old.rows.items from ≡ Some last → slice_get rows (length known.old.path.items) ≡ Some row
         → IsNext edges (Some (record { symbol = input.now; sensitive = sensitive })) last.states.items row
-        → IsKnown edges rows known.old.rows.items known.old.links.items known.old.path.items → IsKnown edges rows known.new.rows.items known.new.links.items known.new.path.items }
+        → IsKnown edges finals rows known.old.rows.items known.old.links.items known.old.path.items → IsKnown edges finals rows known.new.rows.items known.new.links.items known.new.path.items }
 {
     let to = known.rows.as_slice().len();
     let held = row.held();
@@ -204,9 +204,9 @@ fn remember(
     input: &Symbol,
     sensitive: bool,
 ) -> Result<(), Memory>
-    ensures { (edges : List Edge) (before : List Row) (last row : Row) → rows.now ≡ before ++ row ∷ [] → slice_get before (length before - 1) ≡ Some last
+    ensures { (edges : List Edge) (finals : List ℕ) (before : List Row) (last row : Row) → rows.now ≡ before ++ row ∷ [] → slice_get before (length before - 1) ≡ Some last
         → IsNext edges (Some (record { symbol = input.now; sensitive = sensitive })) last.states.items row
-        → IsKnown edges rows.now known.old.rows.items known.old.links.items known.old.path.items → IsKnown edges rows.now known.new.rows.items known.new.links.items known.new.path.items }
+        → IsKnown edges finals rows.now known.old.rows.items known.old.links.items known.old.path.items → IsKnown edges finals rows.now known.new.rows.items known.new.links.items known.new.path.items }
 {
     if is_full(known) || known.path.as_slice().len() != rows.len().saturating_sub(1) {
         return Ok(());
@@ -230,8 +230,8 @@ fn add_new(
     input: &Symbol,
     sensitive: bool,
 ) -> Result<(), Memory>
-    ensures ok { OnOk result ((seen : List Input) → AreRows fst.now.edges seen rows.old.items → IsKnown fst.now.edges rows.old.items known.old.rows.items known.old.links.items known.old.path.items
-        → AreRows fst.now.edges (seen ++ record { symbol = input.now; sensitive = sensitive } ∷ []) rows.new.items × IsKnown fst.now.edges rows.new.items known.new.rows.items known.new.links.items known.new.path.items) }
+    ensures ok { OnOk result ((seen : List Input) → AreRows fst.now.edges seen rows.old.items → IsKnown fst.now.edges fst.now.finals rows.old.items known.old.rows.items known.old.links.items known.old.path.items
+        → AreRows fst.now.edges (seen ++ record { symbol = input.now; sensitive = sensitive } ∷ []) rows.new.items × IsKnown fst.now.edges fst.now.finals rows.new.items known.new.rows.items known.new.links.items known.new.path.items) }
     ensures err { OnErr result ((rows.new.items ≡ rows.old.items) × (known.new.rows.items ≡ known.old.rows.items) × (known.new.links.items ≡ known.old.links.items) × (known.new.path.items ≡ known.old.path.items)) }
 {
     let alloc = *rows.allocator();
@@ -254,8 +254,8 @@ pub(crate) fn add_row(
     input: &Symbol,
     sensitive: bool,
 ) -> Result<(), Memory>
-    ensures ok { OnOk result ((seen : List Input) → AreRows fst.now.edges seen rows.old.items → IsKnown fst.now.edges rows.old.items known.old.rows.items known.old.links.items known.old.path.items
-        → AreRows fst.now.edges (seen ++ record { symbol = input.now; sensitive = sensitive } ∷ []) rows.new.items × IsKnown fst.now.edges rows.new.items known.new.rows.items known.new.links.items known.new.path.items) }
+    ensures ok { OnOk result ((seen : List Input) → AreRows fst.now.edges seen rows.old.items → IsKnown fst.now.edges fst.now.finals rows.old.items known.old.rows.items known.old.links.items known.old.path.items
+        → AreRows fst.now.edges (seen ++ record { symbol = input.now; sensitive = sensitive } ∷ []) rows.new.items × IsKnown fst.now.edges fst.now.finals rows.new.items known.new.rows.items known.new.links.items known.new.path.items) }
     ensures err { OnErr result ((rows.new.items ≡ rows.old.items) × (known.new.rows.items ≡ known.old.rows.items) × (known.new.links.items ≡ known.old.links.items) × (known.new.path.items ≡ known.old.path.items)) }
 {
     match find(known, rows.as_slice().len(), input, sensitive) {
@@ -280,8 +280,8 @@ fn forget(known: &mut Known)
 /// Goes back to the rows of the first so many inputs. At none of them known rows are forgotten where
 /// these are too many.
 pub(crate) fn cut_rows(rows: &mut Vec<SharedRow>, known: &mut Known, len: usize)
-    ensures { (edges : List Edge) (seen : List Input) → AreRows edges seen rows.old.items → IsKnown edges rows.old.items known.old.rows.items known.old.links.items known.old.path.items
-        → AreRows edges (take len seen) rows.new.items × IsKnown edges rows.new.items known.new.rows.items known.new.links.items known.new.path.items }
+    ensures { (edges : List Edge) (finals : List ℕ) (seen : List Input) → AreRows edges seen rows.old.items → IsKnown edges finals rows.old.items known.old.rows.items known.old.links.items known.old.path.items
+        → AreRows edges (take len seen) rows.new.items × IsKnown edges finals rows.new.items known.new.rows.items known.new.links.items known.new.path.items }
 {
     if rows.as_slice().len() <= len {
         return;

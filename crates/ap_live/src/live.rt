@@ -99,7 +99,7 @@ impl Live {
         ensures found { (seen : List Input) → HasNoEmptyCycle fst.now → IsLive fst.now seen self.now → result ≡ has_output fst.now seen }
     {
         let _ = fst.states();
-        ends_finally(fst, self.rows.as_slice())
+        ends_finally(self.rows.as_slice())
     }
 
     /// The number of inputs so far.

@@ -1,9 +1,11 @@
-ghost use Rattle.std.specs.Prelude.{◌≡◌, ◌^◌, ◌<◌, ◌≤◌, ◌++◌, ◌-◌, ℕ, [], ◌∷◌, List, IfOk, OnOk, OnErr, IsTrue, ◌↔◌, nat_eq, length, take, true, Some};
+ghost use Rattle.std.specs.Prelude.{◌≡◌, ◌^◌, ◌<◌, ◌≤◌, ◌++◌, ◌-◌, ℕ, [], ◌∷◌, List, IfOk, OnOk, OnErr, IsTrue, ◌↔◌, nat_eq, length, take, true, Some, slice_get};
 ghost use Rattle.std.specs.List.{IsDistinct};
 ghost use Rattle.std.specs.Option.{option_copied};
 ghost use Rattle.ap_fst.specs.declared.label.Edge.{Edge};
 ghost use Rattle.ap_fst.specs.Lists.{IsIn};
-ghost use Rattle.ap_live.specs.Rows.{IsNext, Reach, AreRows};
+ghost use Rattle.ap_live.specs.Rows.{IsNext, Reach, AreRows, Tells};
+ghost use Rattle.ap_fst.specs.Machines.{Machine};
+ghost use Rattle.ap_live.specs.declared.rows.Row.{Row};
 ghost use Rattle.ap_live.specs.Fitting.{Input, pick_of, picks};
 ghost use Rattle.ap_live.specs.Spreads.{Adds, with_state, SpreadOne, Spread, Closed, AnyPlace, HasLeft, IsOther};
 
@@ -154,12 +156,24 @@ fn close(fst: &Fst, states: &mut Vec<usize>, links: &mut Vec<usize>) -> Result<(
     Ok(())
 }
 
-/// The states reached after so many inputs, each once, and the places of the edges by which each
-/// was reached.
+/// The states reached after so many inputs, each once, the places of the edges by which each was
+/// reached, and whether one of the states is final.
 #[derive(Debug, Drop)]
 pub struct Row {
     pub states: Vec<usize>,
     pub links: Vec<usize>,
+    pub ends: bool,
+}
+
+fn holds_final(fst: &Fst, states: &[usize]) -> bool
+    ensures { IsTrue result ↔ ((s : ℕ) × (IsIn s states.now × IsIn s fst.now.finals)) }
+{
+    for state in states {
+        if fst.is_final(*state) {
+            return true;
+        }
+    }
+    false
 }
 
 /// A row that is shared, so that a copy takes no memory. Contracts see the row.
@@ -187,6 +201,12 @@ impl SharedRow {
         ensures { result.now ≡ self.now.links.items }
     {
         self.row.links.as_slice()
+    }
+
+    pub(crate) fn ends(&self) -> bool
+        ensures { result ≡ self.now.ends }
+    {
+        self.row.ends
     }
 
     /// An equal row, which shares the memory.
@@ -219,7 +239,8 @@ pub(crate) fn next_row(
     last: &[usize],
     pick: Pick<'_>,
 ) -> Result<Row, Memory>
-    ensures { IfOk result (λ row. IsNext fst.now.edges (pick_of pick.entry) last.now row) }
+    ensures next { IfOk result (λ row. IsNext fst.now.edges (pick_of pick.entry) last.now row) }
+    ensures told { IfOk result (λ row. Tells fst.now.finals row) }
 {
     let _ = fst.states();
     let mut states = Vec::new(alloc);
@@ -228,23 +249,35 @@ pub(crate) fn next_row(
     spread(fst, last, pick, other.as_ref(), &mut states, &mut links)?;
     sort_states(&mut states);
     close(fst, &mut states, &mut links)?;
-    Ok(Row { states, links })
+    let ends = holds_final(fst, states.as_slice());
+    Ok(Row {
+        states,
+        links,
+        ends,
+    })
 }
 
 fn first_row(alloc: Global, fst: &Fst) -> Result<Row, Memory>
-    ensures { IfOk result (λ row. Closed fst.now.edges (0 ∷ []) [] row.states.items row.links.items) }
+    ensures closed { IfOk result (λ row. Closed fst.now.edges (0 ∷ []) [] row.states.items row.links.items) }
+    ensures told { IfOk result (λ row. Tells fst.now.finals row) }
 {
     let _ = fst.states();
     let mut states = Vec::new(alloc);
     let mut links = Vec::new(alloc);
     states.push(0)?;
     close(fst, &mut states, &mut links)?;
-    Ok(Row { states, links })
+    let ends = holds_final(fst, states.as_slice());
+    Ok(Row {
+        states,
+        links,
+        ends,
+    })
 }
 
 /// The rows before any input.
 pub(crate) fn first_rows(alloc: Global, fst: &Fst) -> Result<Vec<SharedRow>, Memory>
-    ensures { IfOk result (λ rows. AreRows fst.now.edges [] rows.items) }
+    ensures rows { IfOk result (λ rows. AreRows fst.now.edges [] rows.items) }
+    ensures told { IfOk result (λ rows. (at : ℕ) (row : Row) → slice_get rows.items at ≡ Some row → Tells fst.now.finals row) }
 {
     let mut rows = Vec::new(alloc);
     let row = first_row(alloc, fst)?;
@@ -262,23 +295,12 @@ pub(crate) fn reaches_none(rows: &[SharedRow]) -> bool
     }
 }
 
-fn holds_final(fst: &Fst, states: &[usize]) -> bool
-    ensures { IsTrue result ↔ ((s : ℕ) × (IsIn s states.now × IsIn s fst.now.finals)) }
-{
-    for state in states {
-        if fst.is_final(*state) {
-            return true;
-        }
-    }
-    false
-}
-
 /// Whether the last row has a final state.
-pub(crate) fn ends_finally(fst: &Fst, rows: &[SharedRow]) -> bool
-    ensures { (seen : List Input) → AreRows fst.now.edges seen rows.now → (IsTrue result ↔ ((s : ℕ) × (Reach fst.now.edges seen s × IsIn s fst.now.finals))) }
+pub(crate) fn ends_finally(rows: &[SharedRow]) -> bool
+    ensures { (m : Machine) (seen : List Input) → AreRows m.edges seen rows.now → ((at : ℕ) (row : Row) → slice_get rows.now at ≡ Some row → Tells m.finals row) → (IsTrue result ↔ ((s : ℕ) × (Reach m.edges seen s × IsIn s m.finals))) }
 {
     match rows.last() {
         None => false,
-        Some(last) => holds_final(fst, last.states()),
+        Some(last) => last.ends(),
     }
 }

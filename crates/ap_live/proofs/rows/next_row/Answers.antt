@@ -5,8 +5,8 @@ pub close-requires-clause-below : goal.close-requires-clause-below
 close-requires-clause-below c = spread_below _ _ _ _ _ _ (to_in c.args.fst.now c.states.ensures.sound)
     (spread_sorted _ _ _ _ _ _ c.sort_states.ensures.members c.sort_states.ensures.distinct (spread_fresh _ _ _ _ _ _ _ c.new-states.ensures.items c.new-links.ensures.items c.in_ok-spread.ensures))
 
-pub returns : goal.returns
-returns c = record {
+pub returns-clause-next : goal.returns-clause-next
+returns-clause-next c = record {
   base = c.sort_states.new.states.items;
   links = c.spread.new.links.items;
   taken = spread_sorted _ _ _ _ _ _ c.sort_states.ensures.members c.sort_states.ensures.distinct (spread_fresh _ _ _ _ _ _ _ c.new-states.ensures.items c.new-links.ensures.items c.in_ok-spread.ensures);
