@@ -1,17 +1,17 @@
-use Rattle.std.proofs.Common.{◌≡◌, ◌≢◌, ℕ, ◌-◌, ◌^◌, ◌<◌, List, Bool, arith, subst, sym, ap, ◌∙◌, refl, inl, inr, Option, Some, None, Result, Ok, Err, length}
+use Rattle.std.proofs.Common.{◌≡◌, ◌≢◌, ℕ, ◌+◌, ◌-◌, ◌^◌, ◌<◌, ◌≤◌, min, List, [], ◌∷◌, ◌++◌, Bool, true, false, arith, subst, sym, ap, ◌∙◌, refl, inl, inr, ◌⊎◌, Option, Some, None, Result, Ok, Err, length}
 use Rattle.std.specs.Prelude.{◌↔◌}
-use Rattle.std.specs.Option.{IfSome}
+use Rattle.std.specs.Option.{IfSome, option_map}
 use Rattle.ap_outside.specs.Causes.{Rose}
-use Rattle.ap_dix.specs.declared.dictionary.Dictionary.{Dictionary}
-use Rattle.ap_dix.specs.declared.dictionary.Direction.TheVariants.{Lr}
-use Rattle.ap_compile.specs.Empties.{IsFirstEmpty, section_entries}
-use Rattle.ap_stream.specs.Told.{ends_in}
+use Rattle.ap_outside.specs.Told.{Takes, IsEnd, Puts}
+use Rattle.ap_stream.specs.Told.{Told, ends_in}
 use Rattle.ap_stream.specs.declared.fault.StreamFault.{StreamFault}
 use Rattle.ap_stream.specs.declared.fault.StreamFault.TheVariants as fault
 use Rattle.ap_analysis.specs.Lexicon.{Lexicon}
 use Rattle.ap_analysis.specs.Whole.{analysis}
+use Rattle.ap_tool.specs.declared.content.Content.{Content}
+use Rattle.ap_tool.specs.declared.content.Content.TheVariants.{Entries}
 use Rattle.ap_tool.specs.declared.status.Status.{Status}
-use Rattle.ap_tool.specs.declared.status.Status.TheVariants.{Done, Usage, FileFault, ReadFault, WriteFault, BadDictionary, Malformed, Limit, Memory}
+use Rattle.ap_tool.specs.declared.status.Status.TheVariants.{Done, Usage, FileFault, ReadFault, WriteFault, BadDictionary, BadRules, BadCompiled, Malformed, Limit, Memory}
 use Rattle.ap_tool.specs.declared.intake.Ending.{Ending}
 use Rattle.ap_tool.specs.declared.intake.Ending.TheVariants.{Clean, Failed, TooLong}
 use Rattle.ap_tool.specs.declared.driving.Stop.{Stop}
@@ -24,12 +24,12 @@ use Rattle.ap_tool.specs.Listing.{IsListed, RunsOut, listing}
 use Rattle.ap_tool.specs.Messages.{name_at}
 use Rattle.ap_tool.specs.Standing.{Standing, PutsAll, PutsSome}
 use Rattle.ap_tool.specs.Intake.{IsIntake, input_max}
-use Rattle.ap_tool.specs.Driving.{whole, Completes, Halts, Drives, text_ending}
+use Rattle.ap_tool.specs.Driving.{whole, Completes, Halts, Fails, Drives, text_ending}
 use Rattle.ap_tool.specs.Output.{IsLexicon}
-use Rattle.ap_tool.specs.Stream.{status_of_ending, status_of_fault, status_of_driving, HasLeftSides, StreamsOrStops}
-use Rattle.ap_tool.specs.Opening.{FilesStanding, IsFileRefusal, HasText, IsAccepted, IsFaultOf, file_max}
-use Rattle.ap_tool.specs.Answer.{Outside, IsAnswer, IsAnswerTo, Refuses, Proceeds, Expands}
-use Rattle.ap_tool.specs.Clauses.{IsCalm, IsBadDictionary, HasFaultOf, IsFaultFor, IsFileTooLong, Holds, TakesNothing, IsFileFault, IsProc, GivesAll, GivesFault, IsReadFault, IsMalformed, IsLimit, IsInputTooLong, IsDone}
+use Rattle.ap_tool.specs.Stream.{status_of_ending, status_of_fault, status_of_driving, HasLeftSides, IsFirstEmptyLeft, Runs, Streams, IsEmptySide, IsIdle, StreamsOrStops}
+use Rattle.ap_tool.specs.Opening.{FilesStanding, IsFileRefusal, HasText, Opens, IsAccepted, Flaw, OfDictionary, OfCompiled, IsFaultOf, file_max}
+use Rattle.ap_tool.specs.Answer.{Outside, IsAnswer, IsAnswerTo, IsCommandAnswer, Refuses, Proceeds, Expands}
+use Rattle.ap_tool.specs.Clauses.{IsCalm, IsBadDictionary, IsBadCompiled, HasFaultOf, IsEmptySideOf, IsFaultFor, IsFileTooLong, Holds, IsFileOf, TakesNothing, IsFileFault, IsProc, GivesAll, GivesFault, IsReadFault, IsMalformed, IsLimit, IsInputTooLong, IsDone}
 use Rattle.ap_tool.proofs.Meaning.{completes-output, halts-outputs, fails-rose}
 
 -- the ways in which a command ends, told apart by its status
@@ -87,6 +87,9 @@ no-file file i = elim i [ ]
 no-dictionary : (file number line : ℕ) → IsStreamStatus (BadDictionary file number line) → ⊥
 no-dictionary file number line i = elim i [ ]
 
+no-compiled : (file number line : ℕ) → IsStreamStatus (BadCompiled file number line) → ⊥
+no-compiled file number line i = elim i [ ]
+
 no-write : IsStreamStatus WriteFault → ⊥
 no-write i = elim i [ ]
 
@@ -131,10 +134,15 @@ fault-malformed (fault.Malformed k p) stage kind place e = cc
 fault-malformed (fault.Limit k p) stage kind place e = cc
 fault-malformed fault.Memory stage kind place e = cc
 
+-- whether a command takes compiled files
+abbrev pub takes_compiled : Command → Bool
+takes_compiled (Proc sensitive file) = true
+takes_compiled (Expand file) = false
+
 -- an answer, by its cases
 by-cases : (words : List (List ℕ)) (old new : Outside) (status : Status) (P : Type 0) (r : Result Command UsageFault) → IsAnswerTo words old new status r
     → (status ≡ Usage → new ≡ old → P)
-    → ((file : ℕ) (command : Command) → r ≡ Ok command → file_of command ≡ file → Refuses (name_at words file) file old new status → P)
+    → ((file : ℕ) (command : Command) → r ≡ Ok command → file_of command ≡ file → Refuses (takes_compiled command) (name_at words file) file old new status → P)
     → ((sensitive : Bool) (file : ℕ) → r ≡ Ok (Proc sensitive file) → Proceeds (name_at words file) file sensitive old new status → P)
     → ((file : ℕ) → r ≡ Ok (Expand file) → Expands (name_at words file) old new status → P) → P
 by-cases words old new status P (Err fault) a f g h k = f a.0 a.1
@@ -151,8 +159,8 @@ listed-so old new text status t P (inr (inl l)) e f g h = g (sym l.1 ∙ e) l.0
 listed-so old new text status t P (inr (inr l)) e f g h = h (sym l.memory ∙ e) l
 
 -- no refusal of a file has the status of a stream or of the sink
-not-refused : (words : List (List ℕ)) (old new : Outside) (status : Status) (file : ℕ) (t : Status) → Refuses (name_at words file) file old new status → status ≡ t → IsFileRefusal old.files new.files (name_at words file) file t
-not-refused words old new status file t r e = subst (λ s. IsFileRefusal old.files new.files (name_at words file) file s) e r.refusal
+not-refused : (takes : Bool) (words : List (List ℕ)) (old new : Outside) (status : Status) (file : ℕ) (t : Status) → Refuses takes (name_at words file) file old new status → status ≡ t → IsFileRefusal takes old.files new.files (name_at words file) file t
+not-refused takes words old new status file t r e = subst (λ s. IsFileRefusal takes old.files new.files (name_at words file) file s) e r.refusal
 
 malformed-other : (kind : _) (place : ℕ) → fault.Malformed kind place ≢ fault.Memory
 malformed-other kind place e = cc
@@ -172,26 +180,26 @@ driven-so meaning old new status t P (Err (Fault (fault.Malformed kind place))) 
 driven-so meaning old new status t P (Err (Fault (fault.Limit kind place))) d s e f g h k = k (fault.Limit kind place) d (limit-other kind place) (sym s ∙ e)
 
 -- a stream, by how it was driven
-streamed-so : (d : Dictionary) (file : ℕ) (sensitive : Bool) (old new : Outside) (status t : Status) (P : Type 0) → StreamsOrStops d file sensitive old.source new.source old.sink new.sink status → status ≡ t
+streamed-so : (d : Content) (file : ℕ) (sensitive : Bool) (old new : Outside) (status t : Status) (P : Type 0) → StreamsOrStops d file sensitive old.source new.source old.sink new.sink status → status ≡ t
     → (Memory ≡ t → new.sink.faults ≡ old.sink.faults → P)
     → (WriteFault ≡ t → Rose old.sink.faults new.sink.faults → P)
-    → ((line : ℕ) → IsFirstEmpty d Lr (section_entries d.sections) line → BadDictionary file 13 line ≡ t → new.source ≡ old.source → new.sink ≡ old.sink → P)
+    → ((line : ℕ) → IsFirstEmptyLeft d line → BadDictionary file 13 line ≡ t → new.source ≡ old.source → new.sink ≡ old.sink → P)
     → (HasLeftSides d → (lexicon : Lexicon) → IsLexicon d sensitive lexicon → (ending : Ending) → Completes (analysis lexicon sensitive) old.source new.source old.sink new.sink ending → status_of_ending ending ≡ t → P)
     → (HasLeftSides d → (lexicon : Lexicon) → IsLexicon d sensitive lexicon → (f : StreamFault) → Halts (analysis lexicon sensitive) old.source new.source old.sink new.sink f → f ≢ fault.Memory → status_of_fault f ≡ t → P) → P
 streamed-so d file sensitive old new status t P (inl s) e f g h k l =
-    driven-so (analysis s.lexicon sensitive) old new status t P s.runs.driving s.runs.driven s.runs.status_is e f g (k s.sides s.lexicon s.of_entries) (l s.sides s.lexicon s.of_entries)
+    driven-so (analysis s.lexicon sensitive) old new status t P s.runs.driving s.runs.driven s.runs.status_is e f g (k s.sides s.lexicon s.of_content) (l s.sides s.lexicon s.of_content)
 streamed-so d file sensitive old new status t P (inr (inl i)) e f g h k l = h i.line i.empty (sym i.status_is ∙ e) i.untaken i.unwritten
 streamed-so d file sensitive old new status t P (inr (inr i)) e f g h k l = f (sym i.memory ∙ e) (ap (λ (s : Standing). s.faults) i.unwritten)
 
--- a command with a stream, whose dictionary was opened and has left sides
-proc : (words : List (List ℕ)) (old new : Outside) (status : Status) (sensitive : Bool) (file : ℕ) → command_of words ≡ Ok (Proc sensitive file) → (p : Proceeds (name_at words file) file sensitive old new status) → HasLeftSides p.dictionary → IsProc words old sensitive p.dictionary
+-- a command with a stream, whose file was opened and has left sides
+proc : (words : List (List ℕ)) (old new : Outside) (status : Status) (sensitive : Bool) (file : ℕ) → command_of words ≡ Ok (Proc sensitive file) → (p : Proceeds (name_at words file) file sensitive old new status) → HasLeftSides p.content → IsProc words old sensitive p.content
 proc words old new status sensitive file c p s = record { file = file; command = c; opened = p.opened; sides = s }
 
-gives-all : (words : List (List ℕ)) (old new : Outside) (sensitive : Bool) (d : Dictionary) (lexicon : Lexicon) (ending : Ending) → IsProc words old sensitive d → IsLexicon d sensitive lexicon
+gives-all : (words : List (List ℕ)) (old new : Outside) (sensitive : Bool) (d : Content) (lexicon : Lexicon) (ending : Ending) → IsProc words old sensitive d → IsLexicon d sensitive lexicon
     → (c : Completes (analysis lexicon sensitive) old.source new.source old.sink new.sink ending) → GivesAll words old new c.input (text_ending ending)
 gives-all words old new sensitive d lexicon ending p i c = record {
   sensitive = sensitive;
-  dictionary = d;
+  content = d;
   of_command = p;
   told = whole c.text;
   meant = completes-output d sensitive lexicon old.source new.source old.sink new.sink ending i c;
@@ -199,11 +207,11 @@ gives-all words old new sensitive d lexicon ending p i c = record {
   put = c.put;
 }
 
-gives-fault : (words : List (List ℕ)) (old new : Outside) (status : Status) (sensitive : Bool) (d : Dictionary) (lexicon : Lexicon) (f : StreamFault) → IsProc words old sensitive d → IsLexicon d sensitive lexicon
+gives-fault : (words : List (List ℕ)) (old new : Outside) (status : Status) (sensitive : Bool) (d : Content) (lexicon : Lexicon) (f : StreamFault) → IsProc words old sensitive d → IsLexicon d sensitive lexicon
     → Halts (analysis lexicon sensitive) old.source new.source old.sink new.sink f → f ≢ fault.Memory → status ≡ status_of_fault f → GivesFault words old new status
 gives-fault words old new status sensitive d lexicon f p i h other e = record {
   sensitive = sensitive;
-  dictionary = d;
+  content = d;
   of_command = p;
   input = h.input;
   course = h.course;
@@ -217,7 +225,7 @@ gives-fault words old new status sensitive d lexicon f p i h other e = record {
 }
 
 -- an input that ended so, all of it put
-completed : (words : List (List ℕ)) (old new : Outside) (sensitive : Bool) (d : Dictionary) (lexicon : Lexicon) (ending end : Ending) → IsProc words old sensitive d → IsLexicon d sensitive lexicon
+completed : (words : List (List ℕ)) (old new : Outside) (sensitive : Bool) (d : Content) (lexicon : Lexicon) (ending end : Ending) → IsProc words old sensitive d → IsLexicon d sensitive lexicon
     → Completes (analysis lexicon sensitive) old.source new.source old.sink new.sink ending → ending ≡ end → (input : List ℕ) × IsIntake old.source new.source input end × GivesAll words old new input (text_ending end)
 completed words old new sensitive d lexicon ending end p i c e =
     let c' = subst (λ (x : Ending). Completes (analysis lexicon sensitive) old.source new.source old.sink new.sink x) e c in
@@ -225,12 +233,12 @@ completed words old new sensitive d lexicon ending end p i c e =
 
 usage-by : (words : List (List ℕ)) (old new : Outside) (status : Status) (r : Result Command UsageFault) → IsAnswerTo words old new status r → (status ≡ Usage) ↔ (r ≡ usage)
 usage-by words old new status (Err fault) a = ((λ e. refl), (λ e. a.0))
-usage-by words old new status (Ok (Proc sensitive file)) (inl r) = ((λ e. absurd (not-refused words old new status file Usage r e)), (λ e. cc))
-usage-by words old new status (Ok (Expand file)) (inl r) = ((λ e. absurd (not-refused words old new status file Usage r e)), (λ e. cc))
+usage-by words old new status (Ok (Proc sensitive file)) (inl r) = ((λ e. absurd (not-refused _ words old new status file Usage r e)), (λ e. cc))
+usage-by words old new status (Ok (Expand file)) (inl r) = ((λ e. absurd (not-refused _ words old new status file Usage r e)), (λ e. cc))
 usage-by words old new status (Ok (Expand file)) (inr p) =
     ((λ e. listed-so old.sink new.sink (listing p.dictionary) status Usage _ p.listed e (λ x w. cc) (λ x w. cc) (λ x w. cc)), (λ e. cc))
 usage-by words old new status (Ok (Proc sensitive file)) (inr p) = (
-  (λ e. absurd (streamed-so p.dictionary file sensitive old new status Usage ⊥ p.stream e (λ x w. cc) (λ x w. cc) (λ line i x t w. cc)
+  (λ e. absurd (streamed-so p.content file sensitive old new status Usage ⊥ p.stream e (λ x w. cc) (λ x w. cc) (λ line i x t w. cc)
       (λ s l i ending c x. no-usage (ending-is ending Usage x)) (λ s l i f h other x. no-usage (fault-is f Usage x)))),
   (λ e. cc),
 )
@@ -241,17 +249,17 @@ usage-from words old new status a = usage-by words old new status (command_of wo
 pub file-fault-from : (words : List (List ℕ)) (old new : Outside) (status : Status) → IsAnswer words old new status → IsFileFault words old new status
 file-fault-from words old new status a = λ file e. by-cases words old new status _ (command_of words) a.by_words
     (λ u same. (let x : Usage ≡ FileFault file = sym u ∙ e in cc))
-    (λ f k c i r. (let t = not-refused words old new status f (FileFault file) r e in
+    (λ f k c i r. (let t = not-refused _ words old new status f (FileFault file) r e in
     (record { command = k; by_words = c; file_is = i ∙ sym t.0 }, subst (λ k. Rose (old.files.load_faults (name_at words k)) (new.files.load_faults (name_at words k))) (sym t.0) t.1, r.source, r.sink)))
-    (λ sensitive f c p. streamed-so p.dictionary f sensitive old new status (FileFault file) _ p.stream e (λ x w. cc) (λ x w. cc) (λ line i x t w. cc)
+    (λ sensitive f c p. streamed-so p.content f sensitive old new status (FileFault file) _ p.stream e (λ x w. cc) (λ x w. cc) (λ line i x t w. cc)
     (λ s l i ending q x. absurd (no-file file (ending-is ending (FileFault file) x))) (λ s l i g h other x. absurd (no-file file (fault-is g (FileFault file) x))))
     (λ f c p. listed-so old.sink new.sink (listing p.dictionary) status (FileFault file) _ p.listed e (λ x w. cc) (λ x w. cc) (λ x w. cc))
 
 pub write-fault-from : (words : List (List ℕ)) (old new : Outside) (status : Status) → IsAnswer words old new status → status ≡ WriteFault → Rose old.sink.faults new.sink.faults
 write-fault-from words old new status a e = by-cases words old new status _ (command_of words) a.by_words
     (λ u same. (let x : Usage ≡ WriteFault = sym u ∙ e in cc))
-    (λ f k c i r. absurd (not-refused words old new status f WriteFault r e))
-    (λ sensitive f c p. streamed-so p.dictionary f sensitive old new status WriteFault _ p.stream e (λ x w. cc) (λ x w. w) (λ line i x t w. cc)
+    (λ f k c i r. absurd (not-refused _ words old new status f WriteFault r e))
+    (λ sensitive f c p. streamed-so p.content f sensitive old new status WriteFault _ p.stream e (λ x w. cc) (λ x w. w) (λ line i x t w. cc)
     (λ s l i ending q x. absurd (no-write (ending-is ending WriteFault x))) (λ s l i g h other x. absurd (no-write (fault-is g WriteFault x))))
     (λ f c p. listed-so old.sink new.sink (listing p.dictionary) status WriteFault _ p.listed e (λ x w. cc) (λ x w. w.rose) (λ x w. cc))
 
@@ -259,43 +267,43 @@ pub no-write-fault-from : (words : List (List ℕ)) (old new : Outside) (status 
 no-write-fault-from words old new status a n = by-cases words old new status _ (command_of words) a.by_words
     (λ u same. ap (λ (o : Outside). o.sink.faults) same)
     (λ f k c i r. ap (λ (s : Standing). s.faults) r.sink)
-    (λ sensitive f c p. streamed-so p.dictionary f sensitive old new status status _ p.stream refl (λ x w. w) (λ x w. absurd (n (sym x))) (λ line i x t w. ap (λ (s : Standing). s.faults) w)
+    (λ sensitive f c p. streamed-so p.content f sensitive old new status status _ p.stream refl (λ x w. w) (λ x w. absurd (n (sym x))) (λ line i x t w. ap (λ (s : Standing). s.faults) w)
     (λ s l i ending q x. q.put.calm) (λ s l i g h other x. h.put.calm))
     (λ f c p. listed-so old.sink new.sink (listing p.dictionary) status status _ p.listed refl (λ x w. w.calm) (λ x w. absurd (n (sym x))) (λ x w. w.calm))
 
 pub read-fault-from : (words : List (List ℕ)) (old new : Outside) (status : Status) → IsAnswer words old new status → IsReadFault words old new status
 read-fault-from words old new status a = λ e. by-cases words old new status _ (command_of words) a.by_words
     (λ u same. (let x : Usage ≡ ReadFault = sym u ∙ e in cc))
-    (λ f k c i r. absurd (not-refused words old new status f ReadFault r e))
-    (λ sensitive f c p. streamed-so p.dictionary f sensitive old new status ReadFault _ p.stream e (λ x w. cc) (λ x w. cc) (λ line i x t w. cc)
-    (λ s l i ending q x. completed words old new sensitive p.dictionary l ending Failed (proc words old new status sensitive f c p s) i q (ending-read ending x))
+    (λ f k c i r. absurd (not-refused _ words old new status f ReadFault r e))
+    (λ sensitive f c p. streamed-so p.content f sensitive old new status ReadFault _ p.stream e (λ x w. cc) (λ x w. cc) (λ line i x t w. cc)
+    (λ s l i ending q x. completed words old new sensitive p.content l ending Failed (proc words old new status sensitive f c p s) i q (ending-read ending x))
     (λ s l i g h other x. absurd (fault-read g x)))
     (λ f c p. listed-so old.sink new.sink (listing p.dictionary) status ReadFault _ p.listed e (λ x w. cc) (λ x w. cc) (λ x w. cc))
 
 pub malformed-from : (words : List (List ℕ)) (old new : Outside) (status : Status) → IsAnswer words old new status → IsMalformed words old new status
 malformed-from words old new status a = λ stage kind place e. by-cases words old new status _ (command_of words) a.by_words
     (λ u same. (let x : Usage ≡ Malformed stage kind place = sym u ∙ e in cc))
-    (λ f k c i r. absurd (not-refused words old new status f (Malformed stage kind place) r e))
-    (λ sensitive f c p. streamed-so p.dictionary f sensitive old new status (Malformed stage kind place) _ p.stream e (λ x w. cc) (λ x w. cc) (λ line i x t w. cc)
+    (λ f k c i r. absurd (not-refused _ words old new status f (Malformed stage kind place) r e))
+    (λ sensitive f c p. streamed-so p.content f sensitive old new status (Malformed stage kind place) _ p.stream e (λ x w. cc) (λ x w. cc) (λ line i x t w. cc)
     (λ s l i ending q x. absurd (ending-malformed ending stage kind place x))
-    (λ s l i g h other x. (fault-malformed g stage kind place x, gives-fault words old new status sensitive p.dictionary l g (proc words old new status sensitive f c p s) i h other (e ∙ sym x))))
+    (λ s l i g h other x. (fault-malformed g stage kind place x, gives-fault words old new status sensitive p.content l g (proc words old new status sensitive f c p s) i h other (e ∙ sym x))))
     (λ f c p. listed-so old.sink new.sink (listing p.dictionary) status (Malformed stage kind place) _ p.listed e (λ x w. cc) (λ x w. cc) (λ x w. cc))
 
 pub limit-from : (words : List (List ℕ)) (old new : Outside) (status : Status) → IsAnswer words old new status → IsLimit words old new status
 limit-from words old new status a = λ stage kind place some e. by-cases words old new status _ (command_of words) a.by_words
     (λ u same. (let x : Usage ≡ Limit stage kind place = sym u ∙ e in cc))
-    (λ f k c i r. (let t = not-refused words old new status f (Limit stage kind place) r e in let z : stage ≡ 0 = t.0 in absurd (omega arith)))
-    (λ sensitive f c p. streamed-so p.dictionary f sensitive old new status (Limit stage kind place) _ p.stream e (λ x w. cc) (λ x w. cc) (λ line i x t w. cc)
+    (λ f k c i r. (let t = not-refused _ words old new status f (Limit stage kind place) r e in let z : stage ≡ 0 = t.0 in absurd (omega arith)))
+    (λ sensitive f c p. streamed-so p.content f sensitive old new status (Limit stage kind place) _ p.stream e (λ x w. cc) (λ x w. cc) (λ line i x t w. cc)
     (λ s l i ending q x. (let z : stage ≡ 0 = (ending-limit ending stage kind place x).1 in absurd (omega arith)))
-    (λ s l i g h other x. (fault-limit g stage kind place x, gives-fault words old new status sensitive p.dictionary l g (proc words old new status sensitive f c p s) i h other (e ∙ sym x))))
+    (λ s l i g h other x. (fault-limit g stage kind place x, gives-fault words old new status sensitive p.content l g (proc words old new status sensitive f c p s) i h other (e ∙ sym x))))
     (λ f c p. listed-so old.sink new.sink (listing p.dictionary) status (Limit stage kind place) _ p.listed e (λ x w. cc) (λ x w. cc) (λ x w. cc))
 
 pub input-too-long-from : (words : List (List ℕ)) (old new : Outside) (status : Status) → IsAnswer words old new status → IsInputTooLong words old new status
 input-too-long-from words old new status a = λ e. by-cases words old new status _ (command_of words) a.by_words
     (λ u same. (let x : Usage ≡ Limit 0 7 input_max = sym u ∙ e in cc))
-    (λ f k c i r. absurd (let t = not-refused words old new status f (Limit 0 7 input_max) r e in let k : 7 ≡ 6 = t.1 in omega arith))
-    (λ sensitive f c p. streamed-so p.dictionary f sensitive old new status (Limit 0 7 input_max) _ p.stream e (λ x w. cc) (λ x w. cc) (λ line i x t w. cc)
-    (λ s l i ending q x. completed words old new sensitive p.dictionary l ending TooLong (proc words old new status sensitive f c p s) i q (ending-limit ending 0 7 input_max x).0)
+    (λ f k c i r. absurd (let t = not-refused _ words old new status f (Limit 0 7 input_max) r e in let k : 7 ≡ 6 = t.1 in omega arith))
+    (λ sensitive f c p. streamed-so p.content f sensitive old new status (Limit 0 7 input_max) _ p.stream e (λ x w. cc) (λ x w. cc) (λ line i x t w. cc)
+    (λ s l i ending q x. completed words old new sensitive p.content l ending TooLong (proc words old new status sensitive f c p s) i q (ending-limit ending 0 7 input_max x).0)
     (λ s l i g h other x. absurd (let z : 0 ≡ 1 = fault-limit g 0 7 input_max x in omega arith)))
     (λ f c p. listed-so old.sink new.sink (listing p.dictionary) status (Limit 0 7 input_max) _ p.listed e (λ x w. cc) (λ x w. cc) (λ x w. cc))
 
@@ -305,9 +313,9 @@ same-proc r file file' sensitive e f = let x : Ok (Expand file) ≡ Ok (Proc sen
 pub done-from : (words : List (List ℕ)) (old new : Outside) (status : Status) → IsAnswer words old new status → IsDone words old new status
 done-from words old new status a = λ e. by-cases words old new status _ (command_of words) a.by_words
     (λ u same. (let x : Usage ≡ Done = sym u ∙ e in cc))
-    (λ f k c i r. absurd (not-refused words old new status f Done r e))
-    (λ sensitive f c p. streamed-so p.dictionary f sensitive old new status Done _ p.stream e (λ x w. cc) (λ x w. cc) (λ line i x t w. cc)
-    (λ s l i ending q x. (q.put.calm, λ sensitive' g y. completed words old new sensitive p.dictionary l ending Clean (proc words old new status sensitive f c p s) i q (ending-done ending x)))
+    (λ f k c i r. absurd (not-refused _ words old new status f Done r e))
+    (λ sensitive f c p. streamed-so p.content f sensitive old new status Done _ p.stream e (λ x w. cc) (λ x w. cc) (λ line i x t w. cc)
+    (λ s l i ending q x. (q.put.calm, λ sensitive' g y. completed words old new sensitive p.content l ending Clean (proc words old new status sensitive f c p s) i q (ending-done ending x)))
     (λ s l i g h other x. absurd (fault-done g x)))
     (λ f c p. listed-so old.sink new.sink (listing p.dictionary) status Done _ p.listed e
     (λ x w. (w.calm, λ sensitive g h. same-proc (command_of words) f g sensitive c h)) (λ x w. cc) (λ x w. cc))
@@ -319,37 +327,48 @@ nothing-from words old new status a = λ file h. by-cases words old new status _
     (λ sensitive f c p. same-proc (command_of words) file f sensitive h c)
     (λ f c p. p.source)
 
-fault-for : (command : Command) (text : List ℕ) (number line : ℕ) → IsFaultOf text number line → IsFaultFor command text number line
-fault-for (Proc sensitive file) text number line f = inl f
-fault-for (Expand file) text number line f = f
+fault-for : (command : Command) (text : List ℕ) (flaw : Flaw) → IsFaultOf (takes_compiled command) text flaw → IsFaultFor command text flaw
+fault-for (Proc sensitive file) text flaw f = inl f
+fault-for (Expand file) text flaw f = f
 
-empty-bad : (name : List ℕ) (old new : Outside) (status : Status) (sensitive : Bool) (f file number l line : ℕ) → (p : Proceeds name f sensitive old new status) → IsFirstEmpty p.dictionary Lr (section_entries p.dictionary.sections) l → BadDictionary f 13 l ≡ BadDictionary file number line
-    → (f ≡ file) × HasText old.files name (λ text. IsFaultFor (Proc sensitive file) text number line)
-empty-bad name old new status sensitive f file number l line p i e =
-    let same : l ≡ line = cc in (
-      cc,
-      text-more old.files name (λ text. IsAccepted text p.dictionary) (λ text. IsFaultFor (Proc sensitive file) text number line)
-          (λ text accepted. inr (record { dictionary = p.dictionary; accepted = accepted; number_is = cc; empty = subst (λ n. IsFirstEmpty p.dictionary Lr (section_entries p.dictionary.sections) n) same i })) p.opened,
-    )
+empty-bad : (name : List ℕ) (old new : Outside) (status : Status) (sensitive : Bool) (f file number l line : ℕ) → (p : Proceeds name f sensitive old new status) → IsFirstEmptyLeft p.content l → BadDictionary f 13 l ≡ BadDictionary file number line
+    → (f ≡ file) × HasText old.files name (λ text. IsFaultFor (Proc sensitive file) text (OfDictionary number line))
+empty-bad name old new status sensitive f file number l line p i e = (
+  cc,
+  text-more old.files name (λ text. IsAccepted true text p.content) (λ text. IsFaultFor (Proc sensitive file) text (OfDictionary number line))
+      (λ text accepted. inr (record { content = p.content; accepted = accepted; line = l; empty = i; flaw_is = cc })) p.opened,
+)
 
-refused-bad : (words : List (List ℕ)) (old : Outside) (f file number line : ℕ) (k : Command) → command_of words ≡ Ok k → file_of k ≡ f → f ≡ file → HasText old.files (name_at words f) (λ text. IsFaultFor k text number line) → HasFaultOf words old file number line
-refused-bad words old f file number line k c i e t = record { of_command = record { command = k; by_words = c; file_is = i ∙ e }; faulty = subst (λ n. HasText old.files (name_at words n) (λ text. IsFaultFor k text number line)) e t }
+refused-bad : (words : List (List ℕ)) (old : Outside) (f file : ℕ) (flaw : Flaw) (k : Command) → command_of words ≡ Ok k → file_of k ≡ f → f ≡ file → HasText old.files (name_at words f) (λ text. IsFaultFor k text flaw) → HasFaultOf words old file flaw
+refused-bad words old f file flaw k c i e t = record { of_command = record { command = k; by_words = c; file_is = i ∙ e }; faulty = subst (λ n. HasText old.files (name_at words n) (λ text. IsFaultFor k text flaw)) e t }
+
+-- a file that was refused has the fault
+has-bad : (words : List (List ℕ)) (old : Outside) (f file : ℕ) (flaw : Flaw) (k : Command) → command_of words ≡ Ok k → file_of k ≡ f → file ≡ f → HasText old.files (name_at words f) (λ text. IsFaultOf (takes_compiled k) text flaw) → HasFaultOf words old file flaw
+has-bad words old f file flaw k c i e t =
+    refused-bad words old f file flaw k c i (sym e) (text-more old.files (name_at words f) (λ text. IsFaultOf (takes_compiled k) text flaw) (λ text. IsFaultFor k text flaw) (λ text. fault-for k text flaw) t)
 
 pub bad-dictionary-from : (words : List (List ℕ)) (old new : Outside) (status : Status) → IsAnswer words old new status → IsBadDictionary words old status
 bad-dictionary-from words old new status a = λ file number line e. by-cases words old new status _ (command_of words) a.by_words
     (λ u same. (let x : Usage ≡ BadDictionary file number line = sym u ∙ e in cc))
-    (λ f k c i r. (let t = not-refused words old new status f (BadDictionary file number line) r e in
-    refused-bad words old f file number line k c i (sym t.0) (text-more old.files (name_at words f) (λ text. IsFaultOf text number line) (λ text. IsFaultFor k text number line) (λ text. fault-for k text number line) t.1)))
-    (λ sensitive f c p. streamed-so p.dictionary f sensitive old new status (BadDictionary file number line) _ p.stream e (λ x w. cc) (λ x w. cc)
-    (λ l i x t w. (let b = empty-bad (name_at words f) old new status sensitive f file number l line p i x in refused-bad words old f file number line (Proc sensitive file) (c ∙ ap (λ n. Ok (Proc sensitive n)) b.0) (sym b.0) b.0 b.1))
+    (λ f k c i r. (let t = not-refused _ words old new status f (BadDictionary file number line) r e in has-bad words old f file (OfDictionary number line) k c i t.0 t.1))
+    (λ sensitive f c p. streamed-so p.content f sensitive old new status (BadDictionary file number line) _ p.stream e (λ x w. cc) (λ x w. cc)
+    (λ l i x t w. (let b = empty-bad (name_at words f) old new status sensitive f file number l line p i x in refused-bad words old f file (OfDictionary number line) (Proc sensitive file) (c ∙ ap (λ n. Ok (Proc sensitive n)) b.0) (sym b.0) b.0 b.1))
     (λ s l i ending q x. absurd (no-dictionary file number line (ending-is ending (BadDictionary file number line) x))) (λ s l i g h other x. absurd (no-dictionary file number line (fault-is g (BadDictionary file number line) x))))
     (λ f c p. listed-so old.sink new.sink (listing p.dictionary) status (BadDictionary file number line) _ p.listed e (λ x w. cc) (λ x w. cc) (λ x w. cc))
+
+pub bad-compiled-from : (words : List (List ℕ)) (old new : Outside) (status : Status) → IsAnswer words old new status → IsBadCompiled words old status
+bad-compiled-from words old new status a = λ file number line e. by-cases words old new status _ (command_of words) a.by_words
+    (λ u same. (let x : Usage ≡ BadCompiled file number line = sym u ∙ e in cc))
+    (λ f k c i r. (let t = not-refused _ words old new status f (BadCompiled file number line) r e in has-bad words old f file (OfCompiled number line) k c i t.0 t.1))
+    (λ sensitive f c p. streamed-so p.content f sensitive old new status (BadCompiled file number line) _ p.stream e (λ x w. cc) (λ x w. cc) (λ l i x t w. cc)
+    (λ s l i ending q x. absurd (no-compiled file number line (ending-is ending (BadCompiled file number line) x))) (λ s l i g h other x. absurd (no-compiled file number line (fault-is g (BadCompiled file number line) x))))
+    (λ f c p. listed-so old.sink new.sink (listing p.dictionary) status (BadCompiled file number line) _ p.listed e (λ x w. cc) (λ x w. cc) (λ x w. cc))
 
 pub file-too-long-from : (words : List (List ℕ)) (old new : Outside) (status : Status) → IsAnswer words old new status → IsFileTooLong words old status
 file-too-long-from words old new status a = λ file e. by-cases words old new status _ (command_of words) a.by_words
     (λ u same. (let x : Usage ≡ Limit 0 6 file = sym u ∙ e in cc))
-    (λ f k c i r. (let t = not-refused words old new status f (Limit 0 6 file) r e in
+    (λ f k c i r. (let t = not-refused _ words old new status f (Limit 0 6 file) r e in
     (record { command = k; by_words = c; file_is = i ∙ sym t.2 }, subst (λ n. HasText old.files (name_at words n) (λ text. file_max < length text)) (sym t.2) t.3)))
-    (λ sensitive f c p. streamed-so p.dictionary f sensitive old new status (Limit 0 6 file) _ p.stream e (λ x w. cc) (λ x w. cc) (λ line i x t w. cc)
+    (λ sensitive f c p. streamed-so p.content f sensitive old new status (Limit 0 6 file) _ p.stream e (λ x w. cc) (λ x w. cc) (λ line i x t w. cc)
     (λ s l i ending q x. (let z : 6 ≡ 7 = (ending-limit ending 0 6 file x).2 in absurd (omega arith))) (λ s l i g h other x. (let z : 0 ≡ 1 = fault-limit g 0 6 file x in absurd (omega arith))))
     (λ f c p. listed-so old.sink new.sink (listing p.dictionary) status (Limit 0 6 file) _ p.listed e (λ x w. cc) (λ x w. cc) (λ x w. cc))

@@ -15,14 +15,17 @@ use Rattle.ap_fst.specs.declared.compiled.Kind2.{Kind2}
 use Rattle.ap_fst.specs.declared.compiled.Kind2.TheVariants.{Standard, Inconditional, Postblank, Preblank}
 use Rattle.ap_fst.specs.declared.label.Label.{Label}
 use Rattle.ap_compile.specs.Compiling.{AcceptsStrings, IsCompiledFrom}
-use Rattle.ap_compile.specs.Empties.{HasEmptyEntry, IsEmptyEntry, IsFirstEmpty}
-use Rattle.ap_compile.specs.Labels.{derived_labels}
+use Rattle.ap_compile.specs.Empties.{HasEmptyEntry, IsEmptyEntry, IsFirstEmpty, section_entries}
+use Rattle.ap_compile.specs.Labels.{derived_label, derived_labels}
 use Rattle.ap_stream.specs.Told.{Told, Ending}
 use Rattle.ap_analysis.specs.Lexicon.{Lexicon, IsLexiconOf, Spelled, lexicon_of}
 use Rattle.ap_analysis.specs.Laws.{relation_of}
 use Rattle.ap_analysis.specs.Whole.{analysis}
 use Rattle.ap_analysis.proofs.Lexicons.{one_lexicon, lexicon_same}
-use Rattle.ap_tool.specs.Output.{kind_of, relation, IsLexicon, IsOutput}
+use Rattle.ap_tool.specs.declared.content.Content.{Content}
+use Rattle.ap_tool.specs.declared.content.Content.TheVariants.{Entries, Sections}
+use Rattle.ap_tool.specs.Output.{kind_of, entries_relation, relation, letters_of, IsLexicon, IsOutput}
+use Rattle.ap_tool.specs.Stream.{HasEmptyLeft, IsFirstEmptyLeft}
 
 left-same : (w : List Label) → entry_left (derived_labels w) ≡ left_word w
 left-same [] = refl
@@ -62,14 +65,14 @@ related-spelled d p c kind left right r = record {
 }
 
 -- what the sections accept is what the entries relate, so that they have the same lexicon
-pub dictionary-lexicon : (d : Dictionary) (p : Parts) (sensitive : Bool) → IsCompiledFrom d Lr p → IsLexiconOf (lexicon_of p sensitive) sensitive (has_letter p.alphabet) (relation_of p) → IsLexicon d sensitive (lexicon_of p sensitive)
+pub dictionary-lexicon : (d : Dictionary) (p : Parts) (sensitive : Bool) → IsCompiledFrom d Lr p → IsLexiconOf (lexicon_of p sensitive) sensitive (has_letter p.alphabet) (relation_of p) → IsLexicon (Entries d) sensitive (lexicon_of p sensitive)
 dictionary-lexicon d p sensitive c i =
-    lexicon_same (lexicon_of p sensitive) sensitive (has_letter p.alphabet) (is_in_closure d.alphabet) (relation_of p) (relation d) (λ kind left right. (spelled-related d p c kind left right, related-spelled d p c kind left right)) c.alphabet i
+    lexicon_same (lexicon_of p sensitive) sensitive (has_letter p.alphabet) (is_in_closure d.alphabet) (relation_of p) (entries_relation d) (λ kind left right. (spelled-related d p c kind left right, related-spelled d p c kind left right)) c.alphabet i
 
-pub one-output : (d : Dictionary) (sensitive : Bool) (input : List ℕ) (ending : Ending) (a b : Told) → IsOutput d sensitive input ending a → IsOutput d sensitive input ending b → a ≡ b
+pub one-output : (d : Content) (sensitive : Bool) (input : List ℕ) (ending : Ending) (a b : Told) → IsOutput d sensitive input ending a → IsOutput d sensitive input ending b → a ≡ b
 one-output d sensitive input ending a b p q =
     p.told_is
-    ∙ ap (λ (l : Lexicon). analysis l sensitive input ending) (one_lexicon sensitive (is_in_closure d.alphabet) (relation d) p.lexicon q.lexicon p.of_entries q.of_entries)
+    ∙ ap (λ (l : Lexicon). analysis l sensitive input ending) (one_lexicon sensitive (letters_of d) (relation d) p.lexicon q.lexicon p.of_content q.of_content)
     ∙ sym q.told_is
 
 listed : (before after : List Entry) (entry : Entry) → IsIn entry (before ++ entry ∷ after)
@@ -77,7 +80,7 @@ listed [] after entry = inl refl
 listed (x ∷ before) after entry = inr (listed before after entry)
 
 -- a first empty entry is one
-pub first-has : (d : Dictionary) (direction : Direction) (entries : List Entry) (line : ℕ) → IsFirstEmpty d direction entries line → HasEmptyEntry d direction entries
+first-has : (d : Dictionary) (direction : Direction) (entries : List Entry) (line : ℕ) → IsFirstEmpty d direction entries line → HasEmptyEntry d direction entries
 first-has d direction entries line f = record { entry = f.entry; listed = subst (λ (xs : List Entry). IsIn f.entry xs) (sym f.whole) (listed f.before f.after f.entry); empty = f.empty }
 
 here : (d : Dictionary) (direction : Direction) (x : Entry) (xs : List Entry) → IsEmptyEntry d direction x → HasEmptyEntry d direction (x ∷ xs)
@@ -98,6 +101,16 @@ same-first d direction (x ∷ before) (y ∷ before') after after' entry entry' 
     same-first d direction before before' after after' entry entry' e e' (λ h. n (later d direction x before h)) (λ h. n' (later d direction y before' h)) rest
 
 -- the first empty entry has one line
-pub one-first : (d : Dictionary) (direction : Direction) (entries : List Entry) (line line' : ℕ) → IsFirstEmpty d direction entries line → IsFirstEmpty d direction entries line' → line ≡ line'
+one-first : (d : Dictionary) (direction : Direction) (entries : List Entry) (line line' : ℕ) → IsFirstEmpty d direction entries line → IsFirstEmpty d direction entries line' → line ≡ line'
 one-first d direction entries line line' f g =
     f.line_is ∙ ap (λ (e : Entry). e.line) (same-first d direction f.before g.before f.after g.after f.entry g.entry f.empty g.empty f.first g.first (sym f.whole ∙ g.whole)) ∙ sym g.line_is
+
+-- a first empty left side is one
+pub first-left : (content : Content) (line : ℕ) → IsFirstEmptyLeft content line → HasEmptyLeft content
+first-left (Entries d) line f = first-has d Lr (section_entries d.sections) line f
+first-left (Sections p) line f = f
+
+-- and has one line
+pub one-left : (content : Content) (line line' : ℕ) → IsFirstEmptyLeft content line → IsFirstEmptyLeft content line' → line ≡ line'
+one-left (Entries d) line line' f g = one-first d Lr (section_entries d.sections) line line' f g
+one-left (Sections p) line line' f g = absurd f

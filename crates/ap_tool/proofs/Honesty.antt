@@ -1,20 +1,25 @@
-use Rattle.std.proofs.Common.{◌≡◌, ◌≢◌, ℕ, ◌+◌, ◌-◌, ◌<◌, ◌≤◌, Bool, List, ◌++◌, arith, subst, sym, ap, ◌∙◌, refl, inl, inr, ◌⊎◌, Option, Some, None, Result, Ok, Err, length, append-nil, length-append, append_assoc, take}
-use Rattle.std.specs.Option.{option_map}
+use Rattle.std.proofs.Common.{◌≡◌, ◌≢◌, ℕ, ◌+◌, ◌-◌, ◌^◌, ◌<◌, ◌≤◌, ◌&&◌, Bool, true, false, List, [], ◌∷◌, ◌++◌, arith, subst, sym, ap, ◌∙◌, refl, inl, inr, ◌⊎◌, Option, Some, None, Result, Ok, Err, length, append-nil, length-append, append_assoc, take}
+use Rattle.std.specs.Option.{IfSome, option_map}
 use Rattle.std.proofs.lemmas.Bool.{le-ltb, lt-ltb}
 use Rattle.std.proofs.lemmas.List.{take_all}
 use Rattle.std.proofs.Math.Seq.{take-append-add}
+use Rattle.ap_outside.specs.Causes.{Rose}
 use Rattle.ap_outside.specs.Told.{Takes, IsEnd, Puts}
 use Rattle.ap_dix.specs.declared.dictionary.Dictionary.{Dictionary}
-use Rattle.ap_dix.specs.declared.dictionary.Direction.TheVariants.{Lr}
 use Rattle.ap_dix.specs.declared.refusal.DixFault.{DixFault}
 use Rattle.ap_dix.specs.Spelling.{Spells, IsFirstFault}
 use Rattle.ap_dix.specs.Refusals.{kind_number}
-use Rattle.ap_compile.specs.Empties.{IsFirstEmpty, section_entries}
-use Rattle.ap_stream.specs.Told.{Told, Ending as TextEnding, Clean as Whole, ends_in}
+use Rattle.ap_fst.specs.Sections.{Parts}
+use Rattle.ap_binary.specs.declared.refusal.BinaryFault.{BinaryFault}
+use Rattle.ap_binary.specs.Refusals.{kind_number as compiled_number}
+use Rattle.ap_binary.proofs.Once.{one_spelled, one_fault as one_compiled_fault, never_both}
+use Rattle.ap_stream.specs.Told.{Told, Ending as TextEnding, Clean as Whole, Cut, ends_in}
 use Rattle.ap_stream.specs.declared.fault.StreamFault.{StreamFault}
 use Rattle.ap_stream.specs.declared.fault.StreamFault.TheVariants as fault
 use Rattle.ap_analysis.specs.Lexicon.{Lexicon}
 use Rattle.ap_analysis.specs.Whole.{analysis}
+use Rattle.ap_tool.specs.declared.content.Content.{Content}
+use Rattle.ap_tool.specs.declared.content.Content.TheVariants.{Entries, Sections}
 use Rattle.ap_tool.specs.declared.status.Status.{Status}
 use Rattle.ap_tool.specs.declared.status.Status.TheVariants.{Done, Usage, FileFault, ReadFault, WriteFault, BadDictionary, BadRules, BadCompiled, Malformed, Limit, Memory}
 use Rattle.ap_tool.specs.declared.intake.Ending.{Ending}
@@ -23,47 +28,95 @@ use Rattle.ap_tool.specs.declared.driving.Stop.{Stop}
 use Rattle.ap_tool.specs.declared.driving.Stop.TheVariants.{Write, Fault}
 use Rattle.ap_tool.specs.declared.words.Command.{Command}
 use Rattle.ap_tool.specs.declared.words.Command.TheVariants.{Proc, Expand}
-use Rattle.ap_tool.specs.Words.{file_of}
-use Rattle.ap_tool.specs.Listing.{IsListed, listing}
+use Rattle.ap_tool.specs.declared.words.UsageFault.{UsageFault}
+use Rattle.ap_tool.specs.Words.{command_of, file_of}
+use Rattle.ap_tool.specs.Listing.{IsListed, RunsOut, listing}
 use Rattle.ap_tool.specs.Messages.{name_at}
-use Rattle.ap_tool.specs.Standing.{Standing}
+use Rattle.ap_tool.specs.Standing.{Standing, PutsAll, PutsSome}
 use Rattle.ap_tool.specs.Intake.{TakesCalmly, IsIntake, input_max}
 use Rattle.ap_tool.specs.Driving.{whole, Course, Onward, Ended, IsTaken, text_ending, Completes, Halts, Drives}
 use Rattle.ap_tool.specs.Output.{IsLexicon, IsOutput}
-use Rattle.ap_tool.specs.Stream.{status_of_ending, status_of_fault, status_of_driving, stream_status, StreamsOrStops}
-use Rattle.ap_tool.specs.Opening.{IsFileRefusal, Opens, IsAccepted, IsFaultOf, file_max}
+use Rattle.ap_tool.specs.Stream.{status_of_ending, status_of_fault, status_of_driving, stream_status, IsFirstEmptyLeft, Streams, StreamsOrStops}
+use Rattle.ap_tool.specs.Opening.{FilesStanding, IsFileRefusal, HasText, Opens, is_compiled_file, SpellsAs, IsAccepted, Flaw, OfDictionary, OfCompiled, status_of_flaw, IsFlawAs, IsFaultOf, file_max}
 use Rattle.ap_tool.specs.Answer.{Outside, IsAnswer, IsAnswerTo, IsCommandAnswer, Refuses, Proceeds, Expands}
-use Rattle.ap_tool.specs.Clauses.{IsCalm, cut_input, ending_of, Holds, IsFileOf, IsListedExactly, IsHonest, IsExact, IsComplete, AreOutputs, GivesUp, IsEmptySideOf, IsFaultFor, RefusesFaulty, RefusesLong}
-use Rattle.ap_tool.proofs.Entries.{first-has, one-first}
+use Rattle.ap_tool.specs.Clauses.{IsCalm, cut_input, ending_of, Holds, IsFileOf, IsHonestListing, IsListedExactly, IsHonest, IsExact, IsComplete, AreOutputs, GivesUp, Reads, IsEmptySideOf, IsFaultFor, RefusesFaulty, RefusesLong}
+use Rattle.ap_tool.proofs.Entries.{first-left, one-left}
 use Rattle.ap_tool.proofs.Listings.{take-front}
 use Rattle.ap_tool.proofs.Meaning.{completes-output, halts-outputs, fails-rose}
-use Rattle.ap_tool.proofs.Endings.{calm-not-rose, text-told}
+use Rattle.ap_tool.proofs.Endings.{calm-not-rose, text-told, takes_compiled}
 
--- the laws of the dictionary's text and of the output that the clauses below rest on
+-- the laws of the texts of files and of the output that the clauses below rest on
 pub record Laws : Type 0 where
-  pub one : (text : List ℕ) (c d : Dictionary) → Spells text c → Spells text d → c ≡ d
-  pub one_fault : (text : List ℕ) (e f : DixFault) → IsFirstFault text e → IsFirstFault text f → e ≡ f
-  pub no_fault : (text : List ℕ) (d : Dictionary) (f : DixFault) → Spells text d → IsFirstFault text f → ⊥
-  pub output : (d : Dictionary) (sensitive : Bool) (input : List ℕ) (ending : TextEnding) (a b : Told) → IsOutput d sensitive input ending a → IsOutput d sensitive input ending b → a ≡ b
+  pub one : (compiled : Bool) (text : List ℕ) (c d : Content) → SpellsAs compiled text c → SpellsAs compiled text d → c ≡ d
+  pub one_fault : (compiled : Bool) (text : List ℕ) (e f : Flaw) → IsFlawAs compiled text e → IsFlawAs compiled text f → e ≡ f
+  pub no_fault : (compiled : Bool) (text : List ℕ) (c : Content) (f : Flaw) → SpellsAs compiled text c → IsFlawAs compiled text f → ⊥
+  pub output : (content : Content) (sensitive : Bool) (input : List ℕ) (ending : TextEnding) (a b : Told) → IsOutput content sensitive input ending a → IsOutput content sensitive input ending b → a ≡ b
+
+abbrev SpellsOne : Type 0
+SpellsOne = (text : List ℕ) (c d : Dictionary) → Spells text c → Spells text d → c ≡ d
+
+abbrev HasOneFault : Type 0
+HasOneFault = (text : List ℕ) (e f : DixFault) → IsFirstFault text e → IsFirstFault text f → e ≡ f
+
+abbrev SpellsWithoutFault : Type 0
+SpellsWithoutFault = (text : List ℕ) (d : Dictionary) (f : DixFault) → Spells text d → IsFirstFault text f → ⊥
+
+one-content : SpellsOne → (compiled : Bool) (text : List ℕ) (c d : Content) → SpellsAs compiled text c → SpellsAs compiled text d → c ≡ d
+one-content one true text (Entries c) d p q = absurd p
+one-content one true text (Sections c) (Entries d) p q = absurd q
+one-content one true text (Sections c) (Sections d) p q = ap Sections (one_spelled text c d p q)
+one-content one false text (Sections c) d p q = absurd p
+one-content one false text (Entries c) (Sections d) p q = absurd q
+one-content one false text (Entries c) (Entries d) p q = ap Entries (one text c d p q)
+
+one-flaw : HasOneFault → (compiled : Bool) (text : List ℕ) (e f : Flaw) → IsFlawAs compiled text e → IsFlawAs compiled text f → e ≡ f
+one-flaw one true text (OfDictionary n l) f p q = absurd p
+one-flaw one true text (OfCompiled n l) (OfDictionary m k) p q = absurd q
+one-flaw one true text (OfCompiled n l) (OfCompiled m k) p q =
+    let same : p.fault ≡ q.fault = one_compiled_fault text p.fault q.fault p.first q.first in
+    let numbers : n ≡ m = sym p.number_is ∙ ap (λ (x : BinaryFault). compiled_number x.kind) same ∙ q.number_is in
+    let lines : l ≡ k = sym p.line_is ∙ ap (λ (x : BinaryFault). x.line) same ∙ q.line_is in
+    cc
+one-flaw one false text (OfCompiled n l) f p q = absurd p
+one-flaw one false text (OfDictionary n l) (OfCompiled m k) p q = absurd q
+one-flaw one false text (OfDictionary n l) (OfDictionary m k) p q =
+    let same : p.fault ≡ q.fault = one text p.fault q.fault p.first q.first in
+    let numbers : n ≡ m = sym p.number_is ∙ ap (λ (x : DixFault). kind_number x.kind) same ∙ q.number_is in
+    let lines : l ≡ k = sym p.line_is ∙ ap (λ (x : DixFault). x.line) same ∙ q.line_is in
+    cc
+
+no-flaw : SpellsWithoutFault → (compiled : Bool) (text : List ℕ) (c : Content) (f : Flaw) → SpellsAs compiled text c → IsFlawAs compiled text f → ⊥
+no-flaw none true text (Entries c) f p q = p
+no-flaw none true text (Sections c) (OfDictionary n l) p q = q
+no-flaw none true text (Sections c) (OfCompiled n l) p q = never_both text c q.fault p q.first
+no-flaw none false text (Sections c) f p q = p
+no-flaw none false text (Entries c) (OfCompiled n l) p q = q
+no-flaw none false text (Entries c) (OfDictionary n l) p q = none text c q.fault p q.first
+
+-- the laws of both kinds of files
+pub laws-of : SpellsOne → HasOneFault → SpellsWithoutFault → ((content : Content) (sensitive : Bool) (input : List ℕ) (ending : TextEnding) (a b : Told) → IsOutput content sensitive input ending a → IsOutput content sensitive input ending b → a ≡ b) → Laws
+laws-of one fault none output = record { one = one-content one; one_fault = one-flaw fault; no_fault = no-flaw none; output = output }
 
 -- a file that is accepted and whose loads are calm is refused for want of memory alone
-refused : Laws → (words : List (List ℕ)) (file : ℕ) (old new : Outside) (d : Dictionary) (text : List ℕ) (status : Status) → Holds old.files (name_at words file) text → IsAccepted text d
-    → IsCalm (old.files.load_faults (name_at words file)) (new.files.load_faults (name_at words file)) → IsFileRefusal old.files new.files (name_at words file) file status → status ≡ Memory
-refused laws words file old new d text (FileFault f) h c k r = absurd (calm-not-rose _ _ k r.1)
-refused laws words file old new d text (BadDictionary f number line) h c k r =
-    let t = text-told old.files (name_at words file) text (λ text. IsFaultOf text number line) h r.1 in
-    absurd (laws.no_fault text d t.fault c.spelled t.first)
-refused laws words file old new d text (Limit stage kind place) h c k r =
+refused : Laws → (takes : Bool) (words : List (List ℕ)) (file : ℕ) (old new : Outside) (d : Content) (text : List ℕ) (status : Status) → Holds old.files (name_at words file) text → IsAccepted takes text d
+    → IsCalm (old.files.load_faults (name_at words file)) (new.files.load_faults (name_at words file)) → IsFileRefusal takes old.files new.files (name_at words file) file status → status ≡ Memory
+refused laws takes words file old new d text (FileFault f) h c k r = absurd (calm-not-rose _ _ k r.1)
+refused laws takes words file old new d text (BadDictionary f number line) h c k r =
+    let t = text-told old.files (name_at words file) text (λ text. IsFaultOf takes text (OfDictionary number line)) h r.1 in
+    absurd (laws.no_fault (takes && is_compiled_file text) text d (OfDictionary number line) c.spelled t.first)
+refused laws takes words file old new d text (BadCompiled f number line) h c k r =
+    let t = text-told old.files (name_at words file) text (λ text. IsFaultOf takes text (OfCompiled number line)) h r.1 in
+    absurd (laws.no_fault (takes && is_compiled_file text) text d (OfCompiled number line) c.spelled t.first)
+refused laws takes words file old new d text (Limit stage kind place) h c k r =
     let t = text-told old.files (name_at words file) text (λ text. file_max < length text) h r.3 in
     absurd (let s : length text ≤ file_max = c.short in let l : file_max < length text = t in omega arith)
-refused laws words file old new d text Memory h c k r = refl
-refused laws words file old new d text Done h c k r = absurd r
-refused laws words file old new d text Usage h c k r = absurd r
-refused laws words file old new d text ReadFault h c k r = absurd r
-refused laws words file old new d text WriteFault h c k r = absurd r
-refused laws words file old new d text (BadRules f number line) h c k r = absurd r
-refused laws words file old new d text (BadCompiled f number line) h c k r = absurd r
-refused laws words file old new d text (Malformed stage kind place) h c k r = absurd r
+refused laws takes words file old new d text Memory h c k r = refl
+refused laws takes words file old new d text Done h c k r = absurd r
+refused laws takes words file old new d text Usage h c k r = absurd r
+refused laws takes words file old new d text ReadFault h c k r = absurd r
+refused laws takes words file old new d text WriteFault h c k r = absurd r
+refused laws takes words file old new d text (BadRules f number line) h c k r = absurd r
+refused laws takes words file old new d text (Malformed stage kind place) h c k r = absurd r
 
 whole-taken : (old new : Option (List ℕ)) (input taken : List ℕ) → old ≡ Some input → Takes old new taken → IsEnd new → taken ≡ input
 whole-taken old None input taken e t n = absurd (let x : Some input ≡ None = sym e ∙ t in cc)
@@ -137,13 +190,13 @@ cut-more old new input taken e t =
     (take (input_max - length taken) r.0, ap (take input_max) r.1 ∙ take-more input_max taken r.0 t.within)
 
 -- The stream of an honest run ran out of memory, or went as it should with the output of its input.
-pub record WentWell (old new : Outside) (d : Dictionary) (sensitive : Bool) (input : List ℕ) (status : Status) : Type 0 where
+pub record WentWell (old new : Outside) (d : Content) (sensitive : Bool) (input : List ℕ) (status : Status) : Type 0 where
   pub told : Told
   pub output : IsOutput d sensitive (cut_input input) (text_ending (ending_of input)) told
   pub status_is : status ≡ stream_status told (ending_of input)
   pub put : Puts old.sink.bytes new.sink.bytes told.text
 
-completed : (old new : Outside) (d : Dictionary) (sensitive : Bool) (input : List ℕ) (status : Status) (lexicon : Lexicon) (ending : Ending) → old.source.bytes ≡ Some input → IsCalm old.source.faults new.source.faults → IsLexicon d sensitive lexicon
+completed : (old new : Outside) (d : Content) (sensitive : Bool) (input : List ℕ) (status : Status) (lexicon : Lexicon) (ending : Ending) → old.source.bytes ≡ Some input → IsCalm old.source.faults new.source.faults → IsLexicon d sensitive lexicon
     → Completes (analysis lexicon sensitive) old.source new.source old.sink new.sink ending → status ≡ status_of_ending ending → WentWell old new d sensitive input status
 completed old new d sensitive input status lexicon ending told calm l c e =
     let i = intake old.source new.source input c.input ending told calm c.intake in
@@ -155,7 +208,7 @@ completed old new d sensitive input status lexicon ending told calm l c e =
     }
 
 -- what is given however the input goes on, or as it has ended, is given for the input
-given : (old new : Standing) (d : Dictionary) (sensitive : Bool) (input taken : List ℕ) (told : Told) (course : Course) → old.bytes ≡ Some input → IsCalm old.faults new.faults → IsTaken old new taken course → AreOutputs d sensitive taken course told
+given : (old new : Standing) (d : Content) (sensitive : Bool) (input taken : List ℕ) (told : Told) (course : Course) → old.bytes ≡ Some input → IsCalm old.faults new.faults → IsTaken old new taken course → AreOutputs d sensitive taken course told
     → IsOutput d sensitive (cut_input input) (text_ending (ending_of input)) told
 given old new d sensitive input taken told Onward e calm t o =
     let more = cut-more old new input taken e t in
@@ -164,7 +217,7 @@ given old new d sensitive input taken told (Ended ending) e calm t o =
     let i = intake old new input taken ending e calm t in
     subst (λ (x : Ending). IsOutput d sensitive (cut_input input) (text_ending x) told) i.1 (subst (λ x. IsOutput d sensitive x (text_ending ending) told) i.0 o)
 
-halted : (old new : Outside) (d : Dictionary) (sensitive : Bool) (input : List ℕ) (status : Status) (lexicon : Lexicon) (f : StreamFault) → old.source.bytes ≡ Some input → IsCalm old.source.faults new.source.faults → IsLexicon d sensitive lexicon
+halted : (old new : Outside) (d : Content) (sensitive : Bool) (input : List ℕ) (status : Status) (lexicon : Lexicon) (f : StreamFault) → old.source.bytes ≡ Some input → IsCalm old.source.faults new.source.faults → IsLexicon d sensitive lexicon
     → Halts (analysis lexicon sensitive) old.source new.source old.sink new.sink f → f ≢ fault.Memory → status ≡ status_of_fault f → WentWell old new d sensitive input status
 halted old new d sensitive input status lexicon f told calm l h other e = record {
   told = ends_in h.text f;
@@ -173,7 +226,7 @@ halted old new d sensitive input status lexicon f told calm l h other e = record
   put = h.put.put;
 }
 
-driven : (old new : Outside) (d : Dictionary) (sensitive : Bool) (input : List ℕ) (status : Status) (lexicon : Lexicon) (driving : Result Ending Stop) → old.source.bytes ≡ Some input → IsCalm old.source.faults new.source.faults → IsCalm old.sink.faults new.sink.faults
+driven : (old new : Outside) (d : Content) (sensitive : Bool) (input : List ℕ) (status : Status) (lexicon : Lexicon) (driving : Result Ending Stop) → old.source.bytes ≡ Some input → IsCalm old.source.faults new.source.faults → IsCalm old.sink.faults new.sink.faults
     → IsLexicon d sensitive lexicon → Drives (analysis lexicon sensitive) old.source new.source old.sink new.sink driving → status ≡ status_of_driving driving → (status ≡ Memory) ⊎ WentWell old new d sensitive input status
 driven old new d sensitive input status lexicon (Ok ending) told takes puts l r e = inr (completed old new d sensitive input status lexicon ending told takes l r e)
 driven old new d sensitive input status lexicon (Err Write) told takes puts l r e = absurd (calm-not-rose _ _ puts (fails-rose (analysis lexicon sensitive) old.source new.source old.sink new.sink r).1.rose)
@@ -181,19 +234,19 @@ driven old new d sensitive input status lexicon (Err (Fault fault.Memory)) told 
 driven old new d sensitive input status lexicon (Err (Fault (fault.Malformed kind place))) told takes puts l r e = inr (halted old new d sensitive input status lexicon (fault.Malformed kind place) told takes l r (λ x. cc) e)
 driven old new d sensitive input status lexicon (Err (Fault (fault.Limit kind place))) told takes puts l r e = inr (halted old new d sensitive input status lexicon (fault.Limit kind place) told takes l r (λ x. cc) e)
 
-streamed : (words : List (List ℕ)) (sensitive : Bool) (file : ℕ) (old new : Outside) (d : Dictionary) (input : List ℕ) (status : Status) → IsHonest words sensitive file old new d input
+streamed : (words : List (List ℕ)) (sensitive : Bool) (file : ℕ) (old new : Outside) (d : Content) (input : List ℕ) (status : Status) → IsHonest words sensitive file old new d input
     → StreamsOrStops d file sensitive old.source new.source old.sink new.sink status → (status ≡ Memory) ⊎ WentWell old new d sensitive input status
-streamed words sensitive file old new d input status h (inl s) = driven old new d sensitive input status s.lexicon s.runs.driving h.input_told h.takes h.puts s.of_entries s.runs.driven s.runs.status_is
-streamed words sensitive file old new d input status h (inr (inl i)) = absurd (h.sides (first-has d Lr (section_entries d.sections) i.line i.empty))
+streamed words sensitive file old new d input status h (inl s) = driven old new d sensitive input status s.lexicon s.runs.driving h.input_told h.takes h.puts s.of_content s.runs.driven s.runs.status_is
+streamed words sensitive file old new d input status h (inr (inl i)) = absurd (h.sides (first-left d i.line i.empty))
 streamed words sensitive file old new d input status h (inr (inr i)) = inl i.memory
 
-ran : Laws → (words : List (List ℕ)) (sensitive : Bool) (file : ℕ) (old new : Outside) (d : Dictionary) (input : List ℕ) (status : Status) → IsHonest words sensitive file old new d input
+ran : Laws → (words : List (List ℕ)) (sensitive : Bool) (file : ℕ) (old new : Outside) (d : Content) (input : List ℕ) (status : Status) → IsHonest words sensitive file old new d input
     → IsAnswer words old new status → (status ≡ Memory) ⊎ WentWell old new d sensitive input status
 ran laws words sensitive file old new d input status h a =
     elim (subst (λ r. IsAnswerTo words old new status r) h.command a.by_words) [
-      | inl r ↦ inl (refused laws words file old new d h.text status h.there h.accepted h.loads r.refusal)
-      | inr p ↦ (let t = text-told old.files (name_at words file) h.text (λ text. IsAccepted text p.dictionary) h.there p.opened in
-          let same : p.dictionary ≡ d = laws.one h.text p.dictionary d t.spelled h.accepted.spelled in
+      | inl r ↦ inl (refused laws true words file old new d h.text status h.there h.accepted h.loads r.refusal)
+      | inr p ↦ (let t = text-told old.files (name_at words file) h.text (λ text. IsAccepted true text p.content) h.there p.opened in
+          let same : p.content ≡ d = laws.one (true && is_compiled_file h.text) h.text p.content d t.spelled h.accepted.spelled in
           streamed words sensitive file old new d input status h (subst (λ e. StreamsOrStops e file sensitive old.source new.source old.sink new.sink status) same p.stream))
     ]
 
@@ -219,12 +272,15 @@ complete-from laws words old new status a = λ sensitive file d input told h sho
           inl (w.status_is ∙ ap (stream_status w.told) clean ∙ ap (λ (t : Told). stream_status t Clean) same ∙ faultless told none))
     ]
 
+same-entries : (c d : Dictionary) → Entries c ≡ Entries d → c ≡ d
+same-entries c d e = cc
+
 pub listed-from : Laws → (words : List (List ℕ)) (old new : Outside) (status : Status) → IsAnswer words old new status → IsListedExactly words old new status
 listed-from laws words old new status a = λ file d h.
     elim (subst (λ r. IsAnswerTo words old new status r) h.command a.by_words) [
-      | inl r ↦ inl (refused laws words file old new d h.text status h.there h.accepted h.loads r.refusal)
-      | inr p ↦ (let t = text-told old.files (name_at words file) h.text (λ text. IsAccepted text p.dictionary) h.there p.opened in
-          let same : p.dictionary ≡ d = laws.one h.text p.dictionary d t.spelled h.accepted.spelled in
+      | inl r ↦ inl (refused laws false words file old new (Entries d) h.text status h.there h.accepted h.loads r.refusal)
+      | inr p ↦ (let t = text-told old.files (name_at words file) h.text (λ text. IsAccepted false text (Entries p.dictionary)) h.there p.opened in
+          let same : p.dictionary ≡ d = same-entries p.dictionary d (laws.one (false && is_compiled_file h.text) h.text (Entries p.dictionary) (Entries d) t.spelled h.accepted.spelled) in
           elim (subst (λ e. IsListed old.sink new.sink (listing e) status) same p.listed) [
             | inl w ↦ inr (w.1, w.0.put)
             | inr m ↦ elim m [
@@ -235,130 +291,133 @@ listed-from laws words old new status a = λ file d h.
     ]
 
 by-command : (words : List (List ℕ)) (file : ℕ) (old new : Outside) (status : Status) (P : Command → Type 0) (command : Command) → file_of command ≡ file → IsCommandAnswer words old new status command
-    → (Refuses (name_at words file) file old new status → P command) → ((sensitive : Bool) → Proceeds (name_at words file) file sensitive old new status → P (Proc sensitive file)) → (Expands (name_at words file) old new status → P (Expand file)) → P command
-by-command words file old new status P (Proc sensitive k) e (inl r) f g h = f (subst (λ n. Refuses (name_at words n) n old new status) e r)
+    → (Refuses (takes_compiled command) (name_at words file) file old new status → P command) → ((sensitive : Bool) → Proceeds (name_at words file) file sensitive old new status → P (Proc sensitive file)) → (Expands (name_at words file) old new status → P (Expand file)) → P command
+by-command words file old new status P (Proc sensitive k) e (inl r) f g h = f (subst (λ n. Refuses true (name_at words n) n old new status) e r)
 by-command words file old new status P (Proc sensitive k) e (inr p) f g h = subst (λ n. P (Proc sensitive n)) (sym e) (g sensitive (subst (λ n. Proceeds (name_at words n) n sensitive old new status) e p))
-by-command words file old new status P (Expand k) e (inl r) f g h = f (subst (λ n. Refuses (name_at words n) n old new status) e r)
+by-command words file old new status P (Expand k) e (inl r) f g h = f (subst (λ n. Refuses false (name_at words n) n old new status) e r)
 by-command words file old new status P (Expand k) e (inr p) f g h = subst (λ n. P (Expand n)) (sym e) (h (subst (λ n. Expands (name_at words n) old new status) e p))
 
 -- whatever the command, its file was refused or accepted
 of-file : (words : List (List ℕ)) (file : ℕ) (old new : Outside) (status : Status) (P : Command → Type 0) → IsAnswer words old new status → (i : IsFileOf words file)
-    → (Refuses (name_at words file) file old new status → P i.command) → ((sensitive : Bool) → Proceeds (name_at words file) file sensitive old new status → P (Proc sensitive file)) → (Expands (name_at words file) old new status → P (Expand file)) → P i.command
+    → (Refuses (takes_compiled i.command) (name_at words file) file old new status → P i.command) → ((sensitive : Bool) → Proceeds (name_at words file) file sensitive old new status → P (Proc sensitive file)) → (Expands (name_at words file) old new status → P (Expand file)) → P i.command
 of-file words file old new status P a i f g h = by-command words file old new status P i.command i.file_is (subst (λ r. IsAnswerTo words old new status r) i.by_words a.by_words) f g h
 
 -- the file was refused with the fault that it has
-faulty-refused : Laws → (words : List (List ℕ)) (old new : Outside) (status : Status) (file number line : ℕ) (text : List ℕ) → Holds old.files (name_at words file) text → IsFaultOf text number line
-    → IsFileRefusal old.files new.files (name_at words file) file status → (status ≡ BadDictionary file number line) ⊎ GivesUp words file old new status
-faulty-refused laws words old new (FileFault f) file number line text h t r = inr (inr (ap FileFault r.0, r.1))
-faulty-refused laws words old new (BadDictionary f n l) file number line text h t r =
-    let u = text-told old.files (name_at words file) text (λ text. IsFaultOf text n l) h r.1 in
-    let same : u.fault ≡ t.fault = laws.one_fault text u.fault t.fault u.first t.first in
-    let numbers : n ≡ number = sym u.number_is ∙ ap (λ (x : DixFault). kind_number x.kind) same ∙ t.number_is in
-    let lines : l ≡ line = sym u.line_is ∙ ap (λ (x : DixFault). x.line) same ∙ t.line_is in
-    let files : f ≡ file = r.0 in
-    inl cc
-faulty-refused laws words old new (Limit stage kind place) file number line text h t r =
+faulty-refused : Laws → (takes : Bool) (words : List (List ℕ)) (old new : Outside) (status : Status) (file : ℕ) (flaw : Flaw) (text : List ℕ) → Holds old.files (name_at words file) text → IsFaultOf takes text flaw
+    → IsFileRefusal takes old.files new.files (name_at words file) file status → (status ≡ status_of_flaw file flaw) ⊎ GivesUp words file old new status
+faulty-refused laws takes words old new (FileFault f) file flaw text h t r = inr (inr (ap FileFault r.0, r.1))
+faulty-refused laws takes words old new (BadDictionary f n l) file flaw text h t r =
+    let u = text-told old.files (name_at words file) text (λ text. IsFaultOf takes text (OfDictionary n l)) h r.1 in
+    inl (ap (λ k. BadDictionary k n l) r.0 ∙ ap (status_of_flaw file) (laws.one_fault (takes && is_compiled_file text) text (OfDictionary n l) flaw u.first t.first))
+faulty-refused laws takes words old new (BadCompiled f n l) file flaw text h t r =
+    let u = text-told old.files (name_at words file) text (λ text. IsFaultOf takes text (OfCompiled n l)) h r.1 in
+    inl (ap (λ k. BadCompiled k n l) r.0 ∙ ap (status_of_flaw file) (laws.one_fault (takes && is_compiled_file text) text (OfCompiled n l) flaw u.first t.first))
+faulty-refused laws takes words old new (Limit stage kind place) file flaw text h t r =
     let u = text-told old.files (name_at words file) text (λ text. file_max < length text) h r.3 in
     absurd (let s : length text ≤ file_max = t.short in let l : file_max < length text = u in omega arith)
-faulty-refused laws words old new Memory file number line text h t r = inr (inl refl)
-faulty-refused laws words old new Done file number line text h t r = absurd r
-faulty-refused laws words old new Usage file number line text h t r = absurd r
-faulty-refused laws words old new ReadFault file number line text h t r = absurd r
-faulty-refused laws words old new WriteFault file number line text h t r = absurd r
-faulty-refused laws words old new (BadRules f n l) file number line text h t r = absurd r
-faulty-refused laws words old new (BadCompiled f n l) file number line text h t r = absurd r
-faulty-refused laws words old new (Malformed stage kind place) file number line text h t r = absurd r
+faulty-refused laws takes words old new Memory file flaw text h t r = inr (inl refl)
+faulty-refused laws takes words old new Done file flaw text h t r = absurd r
+faulty-refused laws takes words old new Usage file flaw text h t r = absurd r
+faulty-refused laws takes words old new ReadFault file flaw text h t r = absurd r
+faulty-refused laws takes words old new WriteFault file flaw text h t r = absurd r
+faulty-refused laws takes words old new (BadRules f n l) file flaw text h t r = absurd r
+faulty-refused laws takes words old new (Malformed stage kind place) file flaw text h t r = absurd r
 
 -- what is answered of a file with this fault
-abbrev IsAnswered : List (List ℕ) → Outside → Outside → Status → ℕ → ℕ → ℕ → Type 0
-IsAnswered words old new status file number line = ((status ≡ BadDictionary file number line) × (new.source ≡ old.source) × (new.sink ≡ old.sink)) ⊎ GivesUp words file old new status
+abbrev IsAnswered : List (List ℕ) → Outside → Outside → Status → ℕ → Flaw → Type 0
+IsAnswered words old new status file flaw = ((status ≡ status_of_flaw file flaw) × (new.source ≡ old.source) × (new.sink ≡ old.sink)) ⊎ GivesUp words file old new status
 
-faulty-answered : Laws → (words : List (List ℕ)) (old new : Outside) (status : Status) (file number line : ℕ) (text : List ℕ) → Holds old.files (name_at words file) text → IsFaultOf text number line → Refuses (name_at words file) file old new status → IsAnswered words old new status file number line
-faulty-answered laws words old new status file number line text h t r = elim (faulty-refused laws words old new status file number line text h t r.refusal) [
+faulty-answered : Laws → (takes : Bool) (words : List (List ℕ)) (old new : Outside) (status : Status) (file : ℕ) (flaw : Flaw) (text : List ℕ) → Holds old.files (name_at words file) text → IsFaultOf takes text flaw → Refuses takes (name_at words file) file old new status
+    → IsAnswered words old new status file flaw
+faulty-answered laws takes words old new status file flaw text h t r = elim (faulty-refused laws takes words old new status file flaw text h t r.refusal) [
   | inl e ↦ inl (e, r.source, r.sink)
   | inr g ↦ inr g
 ]
 
-not-accepted : Laws → (words : List (List ℕ)) (old : Outside) (file number line : ℕ) (text : List ℕ) (d : Dictionary) → Holds old.files (name_at words file) text → IsFaultOf text number line → Opens old.files (name_at words file) d → ⊥
-not-accepted laws words old file number line text d h t o = laws.no_fault text d t.fault (text-told old.files (name_at words file) text (λ x. IsAccepted x d) h o).spelled t.first
+not-accepted : Laws → (takes : Bool) (words : List (List ℕ)) (old : Outside) (file : ℕ) (flaw : Flaw) (text : List ℕ) (d : Content) → Holds old.files (name_at words file) text → IsFaultOf takes text flaw → Opens takes old.files (name_at words file) d → ⊥
+not-accepted laws takes words old file flaw text d h t o = laws.no_fault (takes && is_compiled_file text) text d flaw (text-told old.files (name_at words file) text (λ x. IsAccepted takes x d) h o).spelled t.first
 
 -- an accepted file is refused only where it could not be loaded, or memory ran out
-gives-up : Laws → (words : List (List ℕ)) (file : ℕ) (old new : Outside) (d : Dictionary) (text : List ℕ) (status : Status) → Holds old.files (name_at words file) text → IsAccepted text d
-    → IsFileRefusal old.files new.files (name_at words file) file status → GivesUp words file old new status
-gives-up laws words file old new d text (FileFault f) h c r = inr (ap FileFault r.0, r.1)
-gives-up laws words file old new d text (BadDictionary f number line) h c r =
-    let t = text-told old.files (name_at words file) text (λ text. IsFaultOf text number line) h r.1 in
-    absurd (laws.no_fault text d t.fault c.spelled t.first)
-gives-up laws words file old new d text (Limit stage kind place) h c r =
+gives-up : Laws → (takes : Bool) (words : List (List ℕ)) (file : ℕ) (old new : Outside) (d : Content) (text : List ℕ) (status : Status) → Holds old.files (name_at words file) text → IsAccepted takes text d
+    → IsFileRefusal takes old.files new.files (name_at words file) file status → GivesUp words file old new status
+gives-up laws takes words file old new d text (FileFault f) h c r = inr (ap FileFault r.0, r.1)
+gives-up laws takes words file old new d text (BadDictionary f number line) h c r =
+    let t = text-told old.files (name_at words file) text (λ text. IsFaultOf takes text (OfDictionary number line)) h r.1 in
+    absurd (laws.no_fault (takes && is_compiled_file text) text d (OfDictionary number line) c.spelled t.first)
+gives-up laws takes words file old new d text (BadCompiled f number line) h c r =
+    let t = text-told old.files (name_at words file) text (λ text. IsFaultOf takes text (OfCompiled number line)) h r.1 in
+    absurd (laws.no_fault (takes && is_compiled_file text) text d (OfCompiled number line) c.spelled t.first)
+gives-up laws takes words file old new d text (Limit stage kind place) h c r =
     let t = text-told old.files (name_at words file) text (λ text. file_max < length text) h r.3 in
     absurd (let s : length text ≤ file_max = c.short in let l : file_max < length text = t in omega arith)
-gives-up laws words file old new d text Memory h c r = inl refl
-gives-up laws words file old new d text Done h c r = absurd r
-gives-up laws words file old new d text Usage h c r = absurd r
-gives-up laws words file old new d text ReadFault h c r = absurd r
-gives-up laws words file old new d text WriteFault h c r = absurd r
-gives-up laws words file old new d text (BadRules f number line) h c r = absurd r
-gives-up laws words file old new d text (BadCompiled f number line) h c r = absurd r
-gives-up laws words file old new d text (Malformed stage kind place) h c r = absurd r
+gives-up laws takes words file old new d text Memory h c r = inl refl
+gives-up laws takes words file old new d text Done h c r = absurd r
+gives-up laws takes words file old new d text Usage h c r = absurd r
+gives-up laws takes words file old new d text ReadFault h c r = absurd r
+gives-up laws takes words file old new d text WriteFault h c r = absurd r
+gives-up laws takes words file old new d text (BadRules f number line) h c r = absurd r
+gives-up laws takes words file old new d text (Malformed stage kind place) h c r = absurd r
 
 -- a dictionary with an empty side isn't compiled
-empty-answered : (words : List (List ℕ)) (old new : Outside) (status : Status) (file number line : ℕ) (sensitive : Bool) (d : Dictionary) → number ≡ 13 → IsFirstEmpty d Lr (section_entries d.sections) line
-    → StreamsOrStops d file sensitive old.source new.source old.sink new.sink status → IsAnswered words old new status file number line
-empty-answered words old new status file number line sensitive d n f (inl s) = absurd (s.sides (first-has d Lr (section_entries d.sections) line f))
-empty-answered words old new status file number line sensitive d n f (inr (inl i)) =
-    inl (i.status_is ∙ ap (BadDictionary file 13) (one-first d Lr (section_entries d.sections) i.line line i.empty f) ∙ ap (λ k. BadDictionary file k line) (sym n), i.untaken, i.unwritten)
-empty-answered words old new status file number line sensitive d n f (inr (inr i)) = inr (inl i.memory)
+empty-answered : (words : List (List ℕ)) (old new : Outside) (status : Status) (file line : ℕ) (flaw : Flaw) (sensitive : Bool) (d : Content) → flaw ≡ OfDictionary 13 line → IsFirstEmptyLeft d line
+    → StreamsOrStops d file sensitive old.source new.source old.sink new.sink status → IsAnswered words old new status file flaw
+empty-answered words old new status file line flaw sensitive d n f (inl s) = absurd (s.sides (first-left d line f))
+empty-answered words old new status file line flaw sensitive d n f (inr (inl i)) =
+    inl (i.status_is ∙ ap (BadDictionary file 13) (one-left d i.line line i.empty f) ∙ ap (status_of_flaw file) (sym n), i.untaken, i.unwritten)
+empty-answered words old new status file line flaw sensitive d n f (inr (inr i)) = inr (inl i.memory)
 
-empty-from : Laws → (words : List (List ℕ)) (old new : Outside) (status : Status) (file number line : ℕ) (text : List ℕ) (sensitive : Bool) → Holds old.files (name_at words file) text → IsEmptySideOf text number line
-    → Proceeds (name_at words file) file sensitive old new status → IsAnswered words old new status file number line
-empty-from laws words old new status file number line text sensitive h e p =
-    let t = text-told old.files (name_at words file) text (λ text. IsAccepted text p.dictionary) h p.opened in
-    let same : p.dictionary ≡ e.dictionary = laws.one text p.dictionary e.dictionary t.spelled e.accepted.spelled in
-    empty-answered words old new status file number line sensitive e.dictionary e.number_is e.empty (subst (λ d. StreamsOrStops d file sensitive old.source new.source old.sink new.sink status) same p.stream)
+empty-from : Laws → (words : List (List ℕ)) (old new : Outside) (status : Status) (file : ℕ) (flaw : Flaw) (text : List ℕ) (sensitive : Bool) → Holds old.files (name_at words file) text → IsEmptySideOf text flaw
+    → Proceeds (name_at words file) file sensitive old new status → IsAnswered words old new status file flaw
+empty-from laws words old new status file flaw text sensitive h e p =
+    let t = text-told old.files (name_at words file) text (λ text. IsAccepted true text p.content) h p.opened in
+    let same : p.content ≡ e.content = laws.one (true && is_compiled_file text) text p.content e.content t.spelled e.accepted.spelled in
+    empty-answered words old new status file e.line flaw sensitive e.content e.flaw_is e.empty (subst (λ d. StreamsOrStops d file sensitive old.source new.source old.sink new.sink status) same p.stream)
 
-refused-for : Laws → (words : List (List ℕ)) (old new : Outside) (status : Status) (file number line : ℕ) (text : List ℕ) (command : Command) → Holds old.files (name_at words file) text → Refuses (name_at words file) file old new status → IsFaultFor command text number line
-    → IsAnswered words old new status file number line
-refused-for laws words old new status file number line text (Proc sensitive k) h r (inl t) = faulty-answered laws words old new status file number line text h t r
-refused-for laws words old new status file number line text (Proc sensitive k) h r (inr e) = inr (gives-up laws words file old new e.dictionary text status h e.accepted r.refusal)
-refused-for laws words old new status file number line text (Expand k) h r t = faulty-answered laws words old new status file number line text h t r
+refused-for : Laws → (words : List (List ℕ)) (old new : Outside) (status : Status) (file : ℕ) (flaw : Flaw) (text : List ℕ) (command : Command) → Holds old.files (name_at words file) text → Refuses (takes_compiled command) (name_at words file) file old new status
+    → IsFaultFor command text flaw → IsAnswered words old new status file flaw
+refused-for laws words old new status file flaw text (Proc sensitive k) h r (inl t) = faulty-answered laws true words old new status file flaw text h t r
+refused-for laws words old new status file flaw text (Proc sensitive k) h r (inr e) = inr (gives-up laws true words file old new e.content text status h e.accepted r.refusal)
+refused-for laws words old new status file flaw text (Expand k) h r t = faulty-answered laws false words old new status file flaw text h t r
 
-proceeds-for : Laws → (words : List (List ℕ)) (old new : Outside) (status : Status) (file number line : ℕ) (text : List ℕ) (sensitive : Bool) → Holds old.files (name_at words file) text → Proceeds (name_at words file) file sensitive old new status
-    → IsFaultFor (Proc sensitive file) text number line → IsAnswered words old new status file number line
-proceeds-for laws words old new status file number line text sensitive h p (inl t) = absurd (not-accepted laws words old file number line text p.dictionary h t p.opened)
-proceeds-for laws words old new status file number line text sensitive h p (inr e) = empty-from laws words old new status file number line text sensitive h e p
+proceeds-for : Laws → (words : List (List ℕ)) (old new : Outside) (status : Status) (file : ℕ) (flaw : Flaw) (text : List ℕ) (sensitive : Bool) → Holds old.files (name_at words file) text → Proceeds (name_at words file) file sensitive old new status
+    → IsFaultFor (Proc sensitive file) text flaw → IsAnswered words old new status file flaw
+proceeds-for laws words old new status file flaw text sensitive h p (inl t) = absurd (not-accepted laws true words old file flaw text p.content h t p.opened)
+proceeds-for laws words old new status file flaw text sensitive h p (inr e) = empty-from laws words old new status file flaw text sensitive h e p
 
 pub faulty-from : Laws → (words : List (List ℕ)) (old new : Outside) (status : Status) → IsAnswer words old new status → RefusesFaulty words old new status
-faulty-from laws words old new status a = λ file number line text h. of-file words file old new status (λ command. IsFaultFor command text number line → IsAnswered words old new status file number line) a h.of_command
-    (λ r. refused-for laws words old new status file number line text h.of_command.command h.there r)
-    (λ sensitive p. proceeds-for laws words old new status file number line text sensitive h.there p)
-    (λ p t. absurd (not-accepted laws words old file number line text p.dictionary h.there t p.opened))
+faulty-from laws words old new status a = λ file flaw text h. of-file words file old new status (λ command. IsFaultFor command text flaw → IsAnswered words old new status file flaw) a h.of_command
+    (λ r. refused-for laws words old new status file flaw text h.of_command.command h.there r)
+    (λ sensitive p. proceeds-for laws words old new status file flaw text sensitive h.there p)
+    (λ p t. absurd (not-accepted laws false words old file flaw text (Entries p.dictionary) h.there t p.opened))
 
 -- the file was refused since it is over the limit
-long-refused : (words : List (List ℕ)) (old new : Outside) (status : Status) (file : ℕ) (text : List ℕ) → Holds old.files (name_at words file) text → file_max < length text
-    → IsFileRefusal old.files new.files (name_at words file) file status → (status ≡ Limit 0 6 file) ⊎ GivesUp words file old new status
-long-refused words old new (FileFault f) file text h t r = inr (inr (ap FileFault r.0, r.1))
-long-refused words old new (BadDictionary f n l) file text h t r =
-    let u = text-told old.files (name_at words file) text (λ text. IsFaultOf text n l) h r.1 in
+long-refused : (takes : Bool) (words : List (List ℕ)) (old new : Outside) (status : Status) (file : ℕ) (text : List ℕ) → Holds old.files (name_at words file) text → file_max < length text
+    → IsFileRefusal takes old.files new.files (name_at words file) file status → (status ≡ Limit 0 6 file) ⊎ GivesUp words file old new status
+long-refused takes words old new (FileFault f) file text h t r = inr (inr (ap FileFault r.0, r.1))
+long-refused takes words old new (BadDictionary f n l) file text h t r =
+    let u = text-told old.files (name_at words file) text (λ text. IsFaultOf takes text (OfDictionary n l)) h r.1 in
     absurd (let s : length text ≤ file_max = u.short in omega arith)
-long-refused words old new (Limit stage kind place) file text h t r =
+long-refused takes words old new (BadCompiled f n l) file text h t r =
+    let u = text-told old.files (name_at words file) text (λ text. IsFaultOf takes text (OfCompiled n l)) h r.1 in
+    absurd (let s : length text ≤ file_max = u.short in omega arith)
+long-refused takes words old new (Limit stage kind place) file text h t r =
     let a : stage ≡ 0 = r.0 in let b : kind ≡ 6 = r.1 in let c : place ≡ file = r.2 in inl cc
-long-refused words old new Memory file text h t r = inr (inl refl)
-long-refused words old new Done file text h t r = absurd r
-long-refused words old new Usage file text h t r = absurd r
-long-refused words old new ReadFault file text h t r = absurd r
-long-refused words old new WriteFault file text h t r = absurd r
-long-refused words old new (BadRules f n l) file text h t r = absurd r
-long-refused words old new (BadCompiled f n l) file text h t r = absurd r
-long-refused words old new (Malformed stage kind place) file text h t r = absurd r
+long-refused takes words old new Memory file text h t r = inr (inl refl)
+long-refused takes words old new Done file text h t r = absurd r
+long-refused takes words old new Usage file text h t r = absurd r
+long-refused takes words old new ReadFault file text h t r = absurd r
+long-refused takes words old new WriteFault file text h t r = absurd r
+long-refused takes words old new (BadRules f n l) file text h t r = absurd r
+long-refused takes words old new (Malformed stage kind place) file text h t r = absurd r
 
-not-short : (words : List (List ℕ)) (old : Outside) (file : ℕ) (text : List ℕ) (d : Dictionary) → Holds old.files (name_at words file) text → file_max < length text → Opens old.files (name_at words file) d → ⊥
-not-short words old file text d h t o = let s : length text ≤ file_max = (text-told old.files (name_at words file) text (λ x. IsAccepted x d) h o).short in omega arith
+not-short : (takes : Bool) (words : List (List ℕ)) (old : Outside) (file : ℕ) (text : List ℕ) (d : Content) → Holds old.files (name_at words file) text → file_max < length text → Opens takes old.files (name_at words file) d → ⊥
+not-short takes words old file text d h t o = let s : length text ≤ file_max = (text-told old.files (name_at words file) text (λ x. IsAccepted takes x d) h o).short in omega arith
 
 pub long-from : (words : List (List ℕ)) (old new : Outside) (status : Status) → IsAnswer words old new status → RefusesLong words old new status
 long-from words old new status a = λ file text h t. of-file words file old new status (λ command. ((status ≡ Limit 0 6 file) × (new.source ≡ old.source) × (new.sink ≡ old.sink)) ⊎ GivesUp words file old new status) a h.of_command
-    (λ r. elim (long-refused words old new status file text h.there t r.refusal) [
+    (λ r. elim (long-refused (takes_compiled h.of_command.command) words old new status file text h.there t r.refusal) [
       | inl e ↦ inl (e, r.source, r.sink)
       | inr g ↦ inr g
     ])
-    (λ sensitive p. absurd (not-short words old file text p.dictionary h.there t p.opened))
-    (λ p. absurd (not-short words old file text p.dictionary h.there t p.opened))
+    (λ sensitive p. absurd (not-short true words old file text p.content h.there t p.opened))
+    (λ p. absurd (not-short false words old file text (Entries p.dictionary) h.there t p.opened))

@@ -1,7 +1,6 @@
 -- What was driven is what the meaning gives.
-use Rattle.std.proofs.Common.{◌≡◌, ◌≢◌, ℕ, zero, suc, pred, Bool, List, [], ◌∷◌, ◌++◌, ap, sym, ◌∙◌, subst, refl, inl, inr, Option, Some, None, Result}
-use Rattle.ap_dix.specs.declared.dictionary.Dictionary.{Dictionary}
-use Rattle.ap_stream.specs.Told.{Told, Ending as TextEnding, Clean, Cut, ends_in, or_else, stop_at, cut_fault, cut_option}
+use Rattle.std.proofs.Common.{◌≡◌, ◌≢◌, ℕ, zero, suc, pred, Bool, List, [], ◌∷◌, ◌++◌, ap, sym, ◌∙◌, subst, refl, inl, inr, Option, Some, None, Result, Ok, Err}
+use Rattle.ap_stream.specs.Told.{Told, Ending as TextEnding, Clean, Cut, ends_in, or_else, stop_at, cut_fault, cut_option, Begins}
 use Rattle.ap_stream.specs.Reading.{reads}
 use Rattle.ap_stream.specs.declared.dialect.Dialect.TheVariants.{Raw}
 use Rattle.ap_stream.specs.declared.fault.StreamFault.{StreamFault}
@@ -12,13 +11,15 @@ use Rattle.ap_fst.specs.Sections.{Parts}
 use Rattle.ap_analysis.specs.Lexicon.{Lexicon, lexicon_of}
 use Rattle.ap_analysis.specs.Analysis.{Step, Gives, Stops, goes_on, first_step, steps, analysed}
 use Rattle.ap_analysis.specs.Whole.{analysis}
+use Rattle.ap_tool.specs.declared.content.Content.{Content}
 use Rattle.ap_tool.specs.declared.intake.Ending.{Ending}
 use Rattle.ap_tool.specs.declared.driving.Stop.{Stop}
-use Rattle.ap_tool.specs.Standing.{Standing, PutsSome}
+use Rattle.ap_tool.specs.declared.driving.Stop.TheVariants.{Write, Fault}
+use Rattle.ap_tool.specs.Standing.{Standing, PutsAll, PutsSome}
 use Rattle.ap_tool.specs.Driving.{whole, heard, AllOf, Course, Onward, Ended, Completes, Halts, Fails, Drives, text_ending}
 use Rattle.ap_tool.specs.declared.status.Status.{Status}
 use Rattle.ap_tool.specs.Output.{IsLexicon, IsOutput}
-use Rattle.ap_tool.specs.Stream.{HasLeftSides, Runs, RunsOrStops, StreamsOrStops}
+use Rattle.ap_tool.specs.Stream.{HasLeftSides, Runs, RunsOrStops, Streams, StreamsOrStops}
 use Rattle.ap_tool.specs.Clauses.{AreOutputs}
 
 -- analysis has no fault of its own but a limit
@@ -64,14 +65,14 @@ heard-analysis lexicon sensitive input Clean = refl
 heard-analysis lexicon sensitive input Cut =
     ap (λ f. record { text = (analysed lexicon sensitive (reads Raw 0 input).items).text; fault = f }) (cut-own (analysed lexicon sensitive (reads Raw 0 input).items).fault (reads Raw 0 input).stop (own-analysed lexicon sensitive (reads Raw 0 input).items))
 
-pub completes-output : (d : Dictionary) (sensitive : Bool) (lexicon : Lexicon) (s t k l : Standing) (end : Ending) → IsLexicon d sensitive lexicon → (c : Completes (analysis lexicon sensitive) s t k l end) → IsOutput d sensitive c.input (text_ending end) (whole c.text)
-completes-output d sensitive lexicon s t k l end i c = record { lexicon = lexicon; of_entries = i; told_is = sym c.told ∙ heard-analysis lexicon sensitive c.input (text_ending end) }
+pub completes-output : (d : Content) (sensitive : Bool) (lexicon : Lexicon) (s t k l : Standing) (end : Ending) → IsLexicon d sensitive lexicon → (c : Completes (analysis lexicon sensitive) s t k l end) → IsOutput d sensitive c.input (text_ending end) (whole c.text)
+completes-output d sensitive lexicon s t k l end i c = record { lexicon = lexicon; of_content = i; told_is = sym c.told ∙ heard-analysis lexicon sensitive c.input (text_ending end) }
 
-outputs-of : (d : Dictionary) (sensitive : Bool) (lexicon : Lexicon) (input text : List ℕ) (f : StreamFault) (course : Course) → IsLexicon d sensitive lexicon → AllOf (analysis lexicon sensitive) input course (λ told. told ≡ ends_in text f) → AreOutputs d sensitive input course (ends_in text f)
-outputs-of d sensitive lexicon input text f Onward i h = λ x e. record { lexicon = lexicon; of_entries = i; told_is = sym (h x e) }
-outputs-of d sensitive lexicon input text f (Ended end) i h = record { lexicon = lexicon; of_entries = i; told_is = sym h ∙ heard-analysis lexicon sensitive input (text_ending end) }
+outputs-of : (d : Content) (sensitive : Bool) (lexicon : Lexicon) (input text : List ℕ) (f : StreamFault) (course : Course) → IsLexicon d sensitive lexicon → AllOf (analysis lexicon sensitive) input course (λ told. told ≡ ends_in text f) → AreOutputs d sensitive input course (ends_in text f)
+outputs-of d sensitive lexicon input text f Onward i h = λ x e. record { lexicon = lexicon; of_content = i; told_is = sym (h x e) }
+outputs-of d sensitive lexicon input text f (Ended end) i h = record { lexicon = lexicon; of_content = i; told_is = sym h ∙ heard-analysis lexicon sensitive input (text_ending end) }
 
-pub halts-outputs : (d : Dictionary) (sensitive : Bool) (lexicon : Lexicon) (s t k l : Standing) (f : StreamFault) → IsLexicon d sensitive lexicon → (h : Halts (analysis lexicon sensitive) s t k l f) → f ≢ Memory → AreOutputs d sensitive h.input h.course (ends_in h.text f)
+pub halts-outputs : (d : Content) (sensitive : Bool) (lexicon : Lexicon) (s t k l : Standing) (f : StreamFault) → IsLexicon d sensitive lexicon → (h : Halts (analysis lexicon sensitive) s t k l f) → f ≢ Memory → AreOutputs d sensitive h.input h.course (ends_in h.text f)
 halts-outputs d sensitive lexicon s t k l f i h other = outputs-of d sensitive lexicon h.input h.text f h.course i (h.faulty other)
 
 rose-in : (meaning : List ℕ → TextEnding → Told) (input : List ℕ) (course : Course) (k l : Standing) → AllOf meaning input course (λ told. PutsSome k l told.text) → (text : List ℕ) × PutsSome k l text
@@ -82,10 +83,10 @@ rose-in meaning input (Ended end) k l h = ((heard meaning input (text_ending end
 pub fails-rose : (meaning : List ℕ → TextEnding → Told) (s t k l : Standing) → Fails meaning s t k l → (text : List ℕ) × PutsSome k l text
 fails-rose meaning s t k l f = rose-in meaning f.input f.course k l f.put
 
--- a stream through analysis by the lexicon of the dictionary
-pub streams-from : (d : Dictionary) (file : ℕ) (sensitive : Bool) (p : Parts) (s t k l : Standing) (status : Status) → HasLeftSides d → IsLexicon d sensitive (lexicon_of p sensitive) → RunsOrStops (analysis (lexicon_of p sensitive) sensitive) s t k l status
+-- a stream through analysis by the lexicon of what a file says
+pub streams-from : (d : Content) (file : ℕ) (sensitive : Bool) (p : Parts) (s t k l : Standing) (status : Status) → HasLeftSides d → IsLexicon d sensitive (lexicon_of p sensitive) → RunsOrStops (analysis (lexicon_of p sensitive) sensitive) s t k l status
     → StreamsOrStops d file sensitive s t k l status
-streams-from d file sensitive p s t k l status sides i (inl r) = inl (record { sides = sides; lexicon = lexicon_of p sensitive; of_entries = i; runs = r })
+streams-from d file sensitive p s t k l status sides i (inl r) = inl (record { sides = sides; lexicon = lexicon_of p sensitive; of_content = i; runs = r })
 streams-from d file sensitive p s t k l status sides i (inr i') = inr (inr i')
 
 same-drives : (meaning other : List ℕ → TextEnding → Told) (s t k l : Standing) (driving : Result Ending Stop) → meaning ≡ other → Drives meaning s t k l driving → Drives other s t k l driving

@@ -1,5 +1,7 @@
-use Rattle.std.specs.Prelude.{◌≡◌, ℕ, ◌⊎◌, Bool, List, Result, Ok, Err}
+use Rattle.std.specs.Prelude.{◌≡◌, ℕ, ◌⊎◌, Bool, true, false, List, Result, Ok, Err}
 use Rattle.ap_dix.specs.declared.dictionary.Dictionary.{Dictionary}
+use Rattle.ap_tool.specs.declared.content.Content.{Content}
+use Rattle.ap_tool.specs.declared.content.Content.TheVariants.{Entries}
 use Rattle.ap_tool.specs.declared.status.Status.{Status}
 use Rattle.ap_tool.specs.declared.status.Status.TheVariants.{Usage}
 use Rattle.ap_tool.specs.declared.words.Command.{Command}
@@ -21,30 +23,30 @@ pub record Outside : Type 0 where
 abbrev pub outside : FilesStanding → Standing → Standing → Outside
 outside files source sink = record { files = files; source = source; sink = sink }
 
--- the dictionary was opened without a fault, and the stream went through it, unless it isn't compiled
+-- the file was opened without a fault, and the stream went through it, unless it is a dictionary that isn't compiled
 pub record Proceeds (name : List ℕ) (file : ℕ) (sensitive : Bool) (old new : Outside) (status : Status) : Type 0 where
-  pub dictionary : Dictionary
-  pub opened : Opens old.files name dictionary
+  pub content : Content
+  pub opened : Opens true old.files name content
   pub files : new.files ≡ old.files
-  pub stream : StreamsOrStops dictionary file sensitive old.source new.source old.sink new.sink status
+  pub stream : StreamsOrStops content file sensitive old.source new.source old.sink new.sink status
 
 -- the dictionary was opened without a fault, its lines were written, and nothing was taken
 pub record Expands (name : List ℕ) (old new : Outside) (status : Status) : Type 0 where
   pub dictionary : Dictionary
-  pub opened : Opens old.files name dictionary
+  pub opened : Opens false old.files name (Entries dictionary)
   pub files : new.files ≡ old.files
   pub source : new.source ≡ old.source
   pub listed : IsListed old.sink new.sink (listing dictionary) status
 
 -- the file was refused, and nothing was taken or written
-pub record Refuses (name : List ℕ) (file : ℕ) (old new : Outside) (status : Status) : Type 0 where
-  pub refusal : IsFileRefusal old.files new.files name file status
+pub record Refuses (takes : Bool) (name : List ℕ) (file : ℕ) (old new : Outside) (status : Status) : Type 0 where
+  pub refusal : IsFileRefusal takes old.files new.files name file status
   pub source : new.source ≡ old.source
   pub sink : new.sink ≡ old.sink
 
 abbrev pub IsCommandAnswer : List (List ℕ) → Outside → Outside → Status → Command → Type 0
-IsCommandAnswer words old new status (Proc sensitive file) = Refuses (name_at words file) file old new status ⊎ Proceeds (name_at words file) file sensitive old new status
-IsCommandAnswer words old new status (Expand file) = Refuses (name_at words file) file old new status ⊎ Expands (name_at words file) old new status
+IsCommandAnswer words old new status (Proc sensitive file) = Refuses true (name_at words file) file old new status ⊎ Proceeds (name_at words file) file sensitive old new status
+IsCommandAnswer words old new status (Expand file) = Refuses false (name_at words file) file old new status ⊎ Expands (name_at words file) old new status
 
 abbrev pub IsAnswerTo : List (List ℕ) → Outside → Outside → Status → Result Command UsageFault → Type 0
 IsAnswerTo words old new status (Err fault) = (status ≡ Usage) × (new ≡ old)

@@ -1,26 +1,27 @@
-use Rattle.std.specs.Prelude.{◌≡◌, ℕ, ◌-◌, ◌^◌, ◌<◌, ◌≤◌, ◌⊎◌, nat_lt, Bool, List, ◌++◌, Option, Some, None, Ok, length, take, if◌then◌else◌}
+use Rattle.std.specs.Prelude.{◌≡◌, ℕ, ◌+◌, ◌-◌, ◌^◌, ◌<◌, ◌≤◌, ◌⊎◌, nat_lt, Bool, true, false, List, ◌++◌, Option, Some, None, Result, Ok, length, take, if◌then◌else◌}
 use Rattle.ap_outside.specs.Causes.{Rose}
-use Rattle.ap_outside.specs.Told.{Puts}
+use Rattle.ap_outside.specs.Told.{Takes, Puts}
 use Rattle.ap_dix.specs.declared.dictionary.Dictionary.{Dictionary}
-use Rattle.ap_dix.specs.declared.dictionary.Direction.TheVariants.{Lr}
-use Rattle.ap_compile.specs.Empties.{IsFirstEmpty, section_entries}
 use Rattle.ap_stream.specs.Told.{Told, Ending as TextEnding, Clean as Whole, Cut}
 use Rattle.ap_stream.specs.declared.fault.StreamFault.{StreamFault}
+use Rattle.ap_tool.specs.declared.content.Content.{Content}
+use Rattle.ap_tool.specs.declared.content.Content.TheVariants.{Entries}
 use Rattle.ap_tool.specs.declared.status.Status.{Status}
-use Rattle.ap_tool.specs.declared.status.Status.TheVariants.{Done, FileFault, ReadFault, BadDictionary, Malformed, Limit, Memory}
+use Rattle.ap_tool.specs.declared.status.Status.TheVariants.{Done, FileFault, ReadFault, BadDictionary, BadCompiled, Malformed, Limit, Memory}
 use Rattle.ap_tool.specs.declared.words.Command.{Command}
 use Rattle.ap_tool.specs.declared.words.Command.TheVariants.{Proc, Expand}
+use Rattle.ap_tool.specs.declared.words.UsageFault.{UsageFault}
 use Rattle.ap_tool.specs.declared.intake.Ending.{Ending}
 use Rattle.ap_tool.specs.declared.intake.Ending.TheVariants.{Clean, Failed, TooLong}
 use Rattle.ap_tool.specs.Words.{command_of, file_of}
 use Rattle.ap_tool.specs.Listing.{listing}
 use Rattle.ap_tool.specs.Messages.{name_at}
-use Rattle.ap_tool.specs.Standing.{PutsAll}
-use Rattle.ap_tool.specs.Opening.{FilesStanding, HasText, Opens, IsAccepted, IsFaultOf, file_max}
+use Rattle.ap_tool.specs.Standing.{Standing, PutsAll}
+use Rattle.ap_tool.specs.Opening.{FilesStanding, HasText, Opens, IsAccepted, Flaw, OfDictionary, OfCompiled, status_of_flaw, IsFaultOf, file_max}
 use Rattle.ap_tool.specs.Intake.{IsIntake, input_max}
 use Rattle.ap_tool.specs.Driving.{Course, Onward, Ended, IsTaken, text_ending}
 use Rattle.ap_tool.specs.Output.{IsOutput}
-use Rattle.ap_tool.specs.Stream.{stream_status, status_of_fault, HasLeftSides}
+use Rattle.ap_tool.specs.Stream.{stream_status, status_of_fault, HasLeftSides, IsFirstEmptyLeft}
 use Rattle.ap_tool.specs.Answer.{Outside}
 
 -- no call failed: the count stands where it stood, below its end
@@ -40,12 +41,12 @@ pub record IsFileOf (words : List (List ℕ)) (file : ℕ) : Type 0 where
   pub file_is : file_of command ≡ file
 
 -- Everything that the command reads is told and accepted, and no call on an object failed.
-pub record IsHonest (words : List (List ℕ)) (sensitive : Bool) (file : ℕ) (old new : Outside) (d : Dictionary) (input : List ℕ) : Type 0 where
+pub record IsHonest (words : List (List ℕ)) (sensitive : Bool) (file : ℕ) (old new : Outside) (content : Content) (input : List ℕ) : Type 0 where
   pub command : command_of words ≡ Ok (Proc sensitive file)
   pub text : List ℕ
   pub there : Holds old.files (name_at words file) text
-  pub accepted : IsAccepted text d
-  pub sides : HasLeftSides d
+  pub accepted : IsAccepted true text content
+  pub sides : HasLeftSides content
   pub input_told : old.source.bytes ≡ Some input
   pub loads : IsCalm (old.files.load_faults (name_at words file)) (new.files.load_faults (name_at words file))
   pub takes : IsCalm old.source.faults new.source.faults
@@ -61,12 +62,12 @@ ending_of input = if nat_lt input_max (length input) then TooLong else Clean
 
 -- Then the status and the bytes are those of the meaning, unless memory ran out.
 abbrev pub IsExact : List (List ℕ) → Outside → Outside → Status → Type 0
-IsExact words old new status = (sensitive : Bool) (file : ℕ) (d : Dictionary) (input : List ℕ) (told : Told) → IsHonest words sensitive file old new d input → IsOutput d sensitive (cut_input input) (text_ending (ending_of input)) told
+IsExact words old new status = (sensitive : Bool) (file : ℕ) (content : Content) (input : List ℕ) (told : Told) → IsHonest words sensitive file old new content input → IsOutput content sensitive (cut_input input) (text_ending (ending_of input)) told
     → (status ≡ Memory) ⊎ ((status ≡ stream_status told (ending_of input)) × Puts old.sink.bytes new.sink.bytes told.text)
 
 -- And where the input is within its limit and gives no fault, the answer is Done, unless memory ran out.
 abbrev pub IsComplete : List (List ℕ) → Outside → Outside → Status → Type 0
-IsComplete words old new status = (sensitive : Bool) (file : ℕ) (d : Dictionary) (input : List ℕ) (told : Told) → IsHonest words sensitive file old new d input → length input ≤ input_max → IsOutput d sensitive input Whole told → told.fault ≡ None
+IsComplete words old new status = (sensitive : Bool) (file : ℕ) (content : Content) (input : List ℕ) (told : Told) → IsHonest words sensitive file old new content input → length input ≤ input_max → IsOutput content sensitive input Whole told → told.fault ≡ None
     → (status ≡ Done) ⊎ (status ≡ Memory)
 
 -- `lt-expand` of a dictionary that is told and accepted, and no call on an object failed.
@@ -74,7 +75,7 @@ pub record IsHonestListing (words : List (List ℕ)) (file : ℕ) (old new : Out
   pub command : command_of words ≡ Ok (Expand file)
   pub text : List ℕ
   pub there : Holds old.files (name_at words file) text
-  pub accepted : IsAccepted text d
+  pub accepted : IsAccepted false text (Entries d)
   pub loads : IsCalm (old.files.load_faults (name_at words file)) (new.files.load_faults (name_at words file))
   pub puts : IsCalm old.sink.faults new.sink.faults
 
@@ -97,35 +98,39 @@ pub record Reads (words : List (List ℕ)) (file : ℕ) (old : Outside) (text : 
   pub there : Holds old.files (name_at words file) text
 
 -- The text spells a dictionary, and a kept entry of a section has an empty left side: fault 13, on the line of the first.
-pub record IsEmptySideOf (text : List ℕ) (number line : ℕ) : Type 0 where
-  pub dictionary : Dictionary
-  pub accepted : IsAccepted text dictionary
-  pub number_is : number ≡ 13
-  pub empty : IsFirstEmpty dictionary Lr (section_entries dictionary.sections) line
+pub record IsEmptySideOf (text : List ℕ) (flaw : Flaw) : Type 0 where
+  pub content : Content
+  pub accepted : IsAccepted true text content
+  pub line : ℕ
+  pub empty : IsFirstEmptyLeft content line
+  pub flaw_is : flaw ≡ OfDictionary 13 line
 
--- The first fault of the command's file has this number and line. Empty sides are faults, after all others, where the
--- dictionary is compiled.
-abbrev pub IsFaultFor : Command → List ℕ → ℕ → ℕ → Type 0
-IsFaultFor (Proc sensitive file) text number line = IsFaultOf text number line ⊎ IsEmptySideOf text number line
-IsFaultFor (Expand file) text number line = IsFaultOf text number line
+-- This is the first fault of the command's file. `lt-proc` takes compiled files too; empty sides are faults, after all
+-- others, where a dictionary is compiled.
+abbrev pub IsFaultFor : Command → List ℕ → Flaw → Type 0
+IsFaultFor (Proc sensitive file) text flaw = IsFaultOf true text flaw ⊎ IsEmptySideOf text flaw
+IsFaultFor (Expand file) text flaw = IsFaultOf false text flaw
 
--- A file within the limit whose first fault has this number and line is answered so, and nothing is taken or written.
+-- A file within the limit is answered by its first fault, and nothing is taken or written.
 abbrev pub RefusesFaulty : List (List ℕ) → Outside → Outside → Status → Type 0
-RefusesFaulty words old new status = (file number line : ℕ) (text : List ℕ) → (reads : Reads words file old text) → IsFaultFor reads.of_command.command text number line
-    → ((status ≡ BadDictionary file number line) × (new.source ≡ old.source) × (new.sink ≡ old.sink)) ⊎ GivesUp words file old new status
+RefusesFaulty words old new status = (file : ℕ) (flaw : Flaw) (text : List ℕ) → (reads : Reads words file old text) → IsFaultFor reads.of_command.command text flaw
+    → ((status ≡ status_of_flaw file flaw) × (new.source ≡ old.source) × (new.sink ≡ old.sink)) ⊎ GivesUp words file old new status
 
 -- A file over the limit is answered so, and nothing is taken or written.
 abbrev pub RefusesLong : List (List ℕ) → Outside → Outside → Status → Type 0
 RefusesLong words old new status = (file : ℕ) (text : List ℕ) → Reads words file old text → file_max < length text
     → ((status ≡ Limit 0 6 file) × (new.source ≡ old.source) × (new.sink ≡ old.sink)) ⊎ GivesUp words file old new status
 
--- A fault of a dictionary is the first of the command's own file, which is within the limit, where its text is told.
-pub record HasFaultOf (words : List (List ℕ)) (old : Outside) (file number line : ℕ) : Type 0 where
+-- A fault of a file is the first of the command's own file, which is within the limit, where its text is told.
+pub record HasFaultOf (words : List (List ℕ)) (old : Outside) (file : ℕ) (flaw : Flaw) : Type 0 where
   pub of_command : IsFileOf words file
-  pub faulty : HasText old.files (name_at words file) (λ text. IsFaultFor of_command.command text number line)
+  pub faulty : HasText old.files (name_at words file) (λ text. IsFaultFor of_command.command text flaw)
 
 abbrev pub IsBadDictionary : List (List ℕ) → Outside → Status → Type 0
-IsBadDictionary words old status = (file number line : ℕ) → status ≡ BadDictionary file number line → HasFaultOf words old file number line
+IsBadDictionary words old status = (file number line : ℕ) → status ≡ BadDictionary file number line → HasFaultOf words old file (OfDictionary number line)
+
+abbrev pub IsBadCompiled : List (List ℕ) → Outside → Status → Type 0
+IsBadCompiled words old status = (file number line : ℕ) → status ≡ BadCompiled file number line → HasFaultOf words old file (OfCompiled number line)
 
 -- A file is too long only where the command's own file has more bytes than the limit, where its text is told.
 abbrev pub IsFileTooLong : List (List ℕ) → Outside → Status → Type 0
@@ -137,38 +142,38 @@ abbrev pub IsFileFault : List (List ℕ) → Outside → Outside → Status → 
 IsFileFault words old new status = (file : ℕ) → status ≡ FileFault file
     → IsFileOf words file × Rose (old.files.load_faults (name_at words file)) (new.files.load_faults (name_at words file)) × (new.source ≡ old.source) × (new.sink ≡ old.sink)
 
--- The command is `lt-proc`, and its dictionary is accepted, where the file is told.
-pub record IsProc (words : List (List ℕ)) (old : Outside) (sensitive : Bool) (d : Dictionary) : Type 0 where
+-- The command is `lt-proc`, and its file is accepted, where it is told.
+pub record IsProc (words : List (List ℕ)) (old : Outside) (sensitive : Bool) (content : Content) : Type 0 where
   pub file : ℕ
   pub command : command_of words ≡ Ok (Proc sensitive file)
-  pub opened : Opens old.files (name_at words file) d
-  pub sides : HasLeftSides d
+  pub opened : Opens true old.files (name_at words file) content
+  pub sides : HasLeftSides content
 
 -- What was taken gives no fault, its text was put, and no put failed.
 pub record GivesAll (words : List (List ℕ)) (old new : Outside) (input : List ℕ) (ending : TextEnding) : Type 0 where
   pub sensitive : Bool
-  pub dictionary : Dictionary
-  pub of_command : IsProc words old sensitive dictionary
+  pub content : Content
+  pub of_command : IsProc words old sensitive content
   pub told : Told
-  pub meant : IsOutput dictionary sensitive input ending told
+  pub meant : IsOutput content sensitive input ending told
   pub faultless : told.fault ≡ None
   pub put : PutsAll old.sink new.sink told.text
 
 -- what was taken gives this, however it goes on, or as it ended
-abbrev pub AreOutputs : Dictionary → Bool → List ℕ → Course → Told → Type 0
-AreOutputs d sensitive input Onward told = (x : List ℕ) (e : TextEnding) → IsOutput d sensitive (input ++ x) e told
-AreOutputs d sensitive input (Ended ending) told = IsOutput d sensitive input (text_ending ending) told
+abbrev pub AreOutputs : Content → Bool → List ℕ → Course → Told → Type 0
+AreOutputs content sensitive input Onward told = (x : List ℕ) (e : TextEnding) → IsOutput content sensitive (input ++ x) e told
+AreOutputs content sensitive input (Ended ending) told = IsOutput content sensitive input (text_ending ending) told
 
 -- What was taken gives the fault of this status, the text before it was put, and no put failed.
 pub record GivesFault (words : List (List ℕ)) (old new : Outside) (status : Status) : Type 0 where
   pub sensitive : Bool
-  pub dictionary : Dictionary
-  pub of_command : IsProc words old sensitive dictionary
+  pub content : Content
+  pub of_command : IsProc words old sensitive content
   pub input : List ℕ
   pub course : Course
   pub taken : IsTaken old.source new.source input course
   pub told : Told
-  pub meant : AreOutputs dictionary sensitive input course told
+  pub meant : AreOutputs content sensitive input course told
   pub fault : StreamFault
   pub faulty : told.fault ≡ Some fault
   pub status_is : status ≡ status_of_fault fault

@@ -1,5 +1,4 @@
 use Rattle.std.specs.Prelude.{◌≡◌, ℕ, ◌⊎◌, Bool, List, Option, Some, None, Result, Ok, Err}
-use Rattle.ap_dix.specs.declared.dictionary.Dictionary.{Dictionary}
 use Rattle.ap_dix.specs.declared.dictionary.Direction.TheVariants.{Lr}
 use Rattle.ap_compile.specs.Empties.{HasEmptyEntry, IsFirstEmpty, section_entries}
 use Rattle.ap_stream.specs.Told.{Told, Ending as TextEnding}
@@ -11,6 +10,8 @@ use Rattle.ap_stream.specs.declared.fault.StreamFault.{StreamFault}
 use Rattle.ap_stream.specs.declared.fault.StreamFault.TheVariants as fault
 use Rattle.ap_analysis.specs.Lexicon.{Lexicon}
 use Rattle.ap_analysis.specs.Whole.{analysis}
+use Rattle.ap_tool.specs.declared.content.Content.{Content}
+use Rattle.ap_tool.specs.declared.content.Content.TheVariants.{Entries, Sections}
 use Rattle.ap_tool.specs.declared.intake.Ending.{Ending}
 use Rattle.ap_tool.specs.declared.intake.Ending.TheVariants.{Clean, Failed, TooLong}
 use Rattle.ap_tool.specs.declared.driving.Stop.{Stop}
@@ -82,26 +83,36 @@ pub record IsIdle (source_old source_new sink_old sink_new : Standing) (status :
 abbrev pub RunsOrStops : (List ℕ → TextEnding → Told) → Standing → Standing → Standing → Standing → Status → Type 0
 RunsOrStops meaning source_old source_new sink_old sink_new status = Runs meaning source_old source_new sink_old sink_new status ⊎ IsIdle source_old source_new sink_old sink_new status
 
--- A kept entry of a section has an empty left side. The first such is answered, and nothing is taken or written.
-pub record IsEmptySide (d : Dictionary) (file : ℕ) (source_old source_new sink_old sink_new : Standing) (status : Status) : Type 0 where
+-- A kept entry of a section of a dictionary has an empty left side. A compiled file has none.
+abbrev pub HasEmptyLeft : Content → Type 0
+HasEmptyLeft (Entries d) = HasEmptyEntry d Lr (section_entries d.sections)
+HasEmptyLeft (Sections p) = ⊥
+
+-- and the first such begins on this line
+abbrev pub IsFirstEmptyLeft : Content → ℕ → Type 0
+IsFirstEmptyLeft (Entries d) line = IsFirstEmpty d Lr (section_entries d.sections) line
+IsFirstEmptyLeft (Sections p) line = ⊥
+
+-- The first empty left side is answered, and nothing is taken or written.
+pub record IsEmptySide (content : Content) (file : ℕ) (source_old source_new sink_old sink_new : Standing) (status : Status) : Type 0 where
   pub line : ℕ
-  pub empty : IsFirstEmpty d Lr (section_entries d.sections) line
+  pub empty : IsFirstEmptyLeft content line
   pub status_is : status ≡ BadDictionary file 13 line
   pub untaken : source_new ≡ source_old
   pub unwritten : sink_new ≡ sink_old
 
 -- no kept entry of a section has an empty left side
-abbrev pub HasLeftSides : Dictionary → Type 0
-HasLeftSides d = HasEmptyEntry d Lr (section_entries d.sections) → ⊥
+abbrev pub HasLeftSides : Content → Type 0
+HasLeftSides content = HasEmptyLeft content → ⊥
 
--- The stream went through analysis by the lexicon of the dictionary.
-pub record Streams (d : Dictionary) (sensitive : Bool) (source_old source_new sink_old sink_new : Standing) (status : Status) : Type 0 where
-  pub sides : HasLeftSides d
+-- The stream went through analysis by the lexicon of the file.
+pub record Streams (content : Content) (sensitive : Bool) (source_old source_new sink_old sink_new : Standing) (status : Status) : Type 0 where
+  pub sides : HasLeftSides content
   pub lexicon : Lexicon
-  pub of_entries : IsLexicon d sensitive lexicon
+  pub of_content : IsLexicon content sensitive lexicon
   pub runs : Runs (analysis lexicon sensitive) source_old source_new sink_old sink_new status
 
--- The stream went through, or memory ran out before; or the dictionary isn't compiled.
-abbrev pub StreamsOrStops : Dictionary → ℕ → Bool → Standing → Standing → Standing → Standing → Status → Type 0
-StreamsOrStops d file sensitive source_old source_new sink_old sink_new status =
-    Streams d sensitive source_old source_new sink_old sink_new status ⊎ (IsEmptySide d file source_old source_new sink_old sink_new status ⊎ IsIdle source_old source_new sink_old sink_new status)
+-- The stream went through, or memory ran out before; or a dictionary isn't compiled.
+abbrev pub StreamsOrStops : Content → ℕ → Bool → Standing → Standing → Standing → Standing → Status → Type 0
+StreamsOrStops content file sensitive source_old source_new sink_old sink_new status =
+    Streams content sensitive source_old source_new sink_old sink_new status ⊎ (IsEmptySide content file source_old source_new sink_old sink_new status ⊎ IsIdle source_old source_new sink_old sink_new status)

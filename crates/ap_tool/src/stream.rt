@@ -1,11 +1,14 @@
 ghost use Rattle.std.specs.Prelude.{◌≡◌, ◌<◌, ℕ, false, None};
 ghost use Rattle.ap_dix.specs.Soundness.{IsSound};
+ghost use Rattle.ap_tool.specs.declared.content.Content.TheVariants.{Entries, Sections};
 ghost use Rattle.ap_analysis.specs.Lexicon.{lexicon_of};
 ghost use Rattle.ap_analysis.specs.Whole.{analysis};
 ghost use Rattle.ap_tool.specs.Standing.{standing};
 ghost use Rattle.ap_tool.specs.Messages.{IsTold};
+ghost use Rattle.ap_tool.specs.Opening.{IsSoundContent};
 ghost use Rattle.ap_tool.specs.Stream.{malformed_number, limit_number, status_of_fault, status_of_ending, status_of_driving, Runs, RunsOrStops, StreamsOrStops};
 
+use crate::content::Content;
 use crate::driving::{Stop, drive};
 use crate::intake::{Ending, INPUT_MAX};
 use crate::laws::dictionary_has_its_lexicon;
@@ -120,7 +123,7 @@ fn analyse<S: Source, K: Sink>(
 
 /// Compiles the dictionary, and analyses the stream by it.
 #[tactic(auto, using(crate::proofs::Named::naming))]
-pub(crate) fn proceed<S: Source, K: Sink>(
+fn by_entries<S: Source, K: Sink>(
     alloc: Global,
     dictionary: &Dictionary,
     file: usize,
@@ -129,7 +132,7 @@ pub(crate) fn proceed<S: Source, K: Sink>(
     sink: &mut K,
 ) -> Status
     requires { IsSound dictionary.now }
-    ensures streams { StreamsOrStops dictionary.now file sensitive (standing (S.left source.old) (S.faults source.old)) (standing (S.left source.new) (S.faults source.new)) (standing (K.written sink.old) (K.faults sink.old)) (standing (K.written sink.new) (K.faults sink.new)) result }
+    ensures streams { StreamsOrStops (Entries dictionary.now) file sensitive (standing (S.left source.old) (S.faults source.old)) (standing (S.left source.new) (S.faults source.new)) (standing (K.written sink.old) (K.faults sink.old)) (standing (K.written sink.new) (K.faults sink.new)) result }
     ensures told { (words : ℕ) → file < words → IsTold result words }
 {
     dictionary_has_its_lexicon();
@@ -143,6 +146,46 @@ pub(crate) fn proceed<S: Source, K: Sink>(
         Ok(compiled) => {
             compiled_has_a_lexicon(&compiled);
             analyse(alloc, compiled, sensitive, source, sink)
+        }
+    }
+}
+
+/// Analyses the stream by the sections of a compiled file, as they are.
+#[tactic(auto, using(crate::proofs::Named::naming))]
+fn by_sections<S: Source, K: Sink>(
+    alloc: Global,
+    compiled: Compiled,
+    file: usize,
+    sensitive: bool,
+    source: &mut S,
+    sink: &mut K,
+) -> Status
+    ensures streams { StreamsOrStops (Sections compiled) file sensitive (standing (S.left source.old) (S.faults source.old)) (standing (S.left source.new) (S.faults source.new)) (standing (K.written sink.old) (K.faults sink.old)) (standing (K.written sink.new) (K.faults sink.new)) result }
+    ensures told { (words : ℕ) → file < words → IsTold result words }
+{
+    compiled_has_a_lexicon(&compiled);
+    analyse(alloc, compiled, sensitive, source, sink)
+}
+
+/// Analyses the stream by what the file says.
+pub(crate) fn proceed<S: Source, K: Sink>(
+    alloc: Global,
+    content: Content,
+    file: usize,
+    sensitive: bool,
+    source: &mut S,
+    sink: &mut K,
+) -> Status
+    requires { IsSoundContent content }
+    ensures streams { StreamsOrStops content file sensitive (standing (S.left source.old) (S.faults source.old)) (standing (S.left source.new) (S.faults source.new)) (standing (K.written sink.old) (K.faults sink.old)) (standing (K.written sink.new) (K.faults sink.new)) result }
+    ensures told { (words : ℕ) → file < words → IsTold result words }
+{
+    match content {
+        Content::Entries(dictionary) => {
+            by_entries(alloc, &dictionary, file, sensitive, source, sink)
+        }
+        Content::Sections(compiled) => {
+            by_sections(alloc, compiled, file, sensitive, source, sink)
         }
     }
 }

@@ -46,6 +46,18 @@ const F2: &str =
 const F3: &str =
     "<dictionary>\n<section id=\"m\" type=\"standard\">\n<e w=\"1\"><i>b</i></e>\n</section>\n</dictionary>\n";
 
+/// A compiled file: one word, with its tag.
+const C: &str =
+    "LTC1\nalphabet 65 66 97 98\nsection standard 3 2 1\n0 L97 L97 1\n1 - Tn 2\n2\nsection inconditional 1 0 0\nsection postblank 1 0 0\nsection preblank 1 0 0\nend\n";
+
+/// Faulty ones: it breaks off, it has an empty cycle, it is of another form.
+const C1: &str = "LTC1\nalphabet\n";
+
+const C2: &str =
+    "LTC1\nalphabet\nsection standard 2 2 1\n0 L97 L97 1\n1 - Tn 1\n1\nsection inconditional 1 0 0\nsection postblank 1 0 0\nsection preblank 1 0 0\nend\n";
+
+const C3: &str = "LTC9\n";
+
 /// A row: the words with a space between, the input, which load, which take and which put fails
 /// (numbered from 1, 0 for none), and the status, the output and the message that it must give.
 #[derive(Clone, Copy)]
@@ -94,6 +106,10 @@ fn check(rt: &impl Abort, alloc: Global, row: &Row, cut: usize) -> Result<(), Fa
     files.add("N", N.as_bytes())?;
     files.add("R", R.as_bytes())?;
     files.add("B", B.as_bytes())?;
+    files.add("C", C.as_bytes())?;
+    files.add("C1", C1.as_bytes())?;
+    files.add("C2", C2.as_bytes())?;
+    files.add("C3", C3.as_bytes())?;
     let input = Vec::from_slice(alloc, row.input.as_bytes())?;
     let mut source = MemSource::new(input, cut.max(1), call_of(alloc, take)?);
     let mut sink = MemSink::new(alloc, 1000, call_of(alloc, put)?, 0)?;
@@ -511,6 +527,71 @@ fn fault(fault: u8, line: u64) -> Status {
         fault,
         line,
     }
+}
+
+fn compiled_fault(fault: u8, line: u64) -> Status {
+    Status::BadCompiled {
+        file: 2,
+        fault,
+        line,
+    }
+}
+
+#[test]
+fn compiled_files_give_their_rows(rt: HostRuntime) -> Result<(), Fail> {
+    for row in [
+        case(
+            "lt-proc -a C",
+            "a b A ab",
+            NONE,
+            Status::Done,
+            "^a/a<n>$ ^b/*b$ ^A/A<n>$ ^ab/*ab$",
+            "",
+        ),
+        case(
+            "lt-proc -c C",
+            "a A",
+            NONE,
+            Status::Done,
+            "^a/a<n>$ ^A/*A$",
+            "",
+        ),
+        case(
+            "lt-proc -a C1",
+            "a",
+            NONE,
+            compiled_fault(2, 3),
+            "",
+            "apertium: C1: line 3: compiled fault 2 BadLine\n",
+        ),
+        case(
+            "lt-proc -a C2",
+            "a",
+            NONE,
+            compiled_fault(4, 5),
+            "",
+            "apertium: C2: line 5: compiled fault 4 EmptyCycle\n",
+        ),
+        case(
+            "lt-proc -a C3",
+            "a",
+            NONE,
+            compiled_fault(1, 1),
+            "",
+            "apertium: C3: line 1: compiled fault 1 BadHeader\n",
+        ),
+        case(
+            "lt-expand C",
+            "",
+            NONE,
+            fault(2, 1),
+            "",
+            "apertium: C: line 1: dictionary fault 2 Syntax\n",
+        ),
+    ] {
+        check(&rt, rt.alloc(), &row, 3)?;
+    }
+    Ok(())
 }
 
 #[test]

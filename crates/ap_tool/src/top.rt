@@ -5,12 +5,12 @@ ghost use Rattle.ap_tool.specs.Words.{texts, command_of, usage};
 ghost use Rattle.ap_tool.specs.Standing.{standing};
 ghost use Rattle.ap_tool.specs.Opening.{files_standing};
 ghost use Rattle.ap_tool.specs.Answer.{IsAnswer, outside, Tells};
-ghost use Rattle.ap_tool.specs.Clauses.{IsExact, IsComplete, RefusesFaulty, RefusesLong, IsFileFault, IsReadFault, IsMalformed, IsLimit, IsInputTooLong, IsDone, IsListedExactly, TakesNothing, IsBadDictionary, IsFileTooLong};
+ghost use Rattle.ap_tool.specs.Clauses.{IsExact, IsComplete, RefusesFaulty, RefusesLong, IsFileFault, IsReadFault, IsMalformed, IsLimit, IsInputTooLong, IsDone, IsListedExactly, TakesNothing, IsBadDictionary, IsBadCompiled, IsFileTooLong};
 
 use crate::laws::one_output;
 use crate::listing::put_lines;
 use crate::messages::{message, name};
-use crate::opening::open;
+use crate::opening::{open, open_entries};
 use crate::status::Status;
 use crate::stream::proceed;
 use crate::words::{Command, read_words};
@@ -38,10 +38,10 @@ fn run<F: Files, S: Source, K: Sink>(
         Ok(Command::Proc { sensitive, file }) => {
             match open(alloc, files, name(words, file), file) {
                 Err(status) => status,
-                Ok(dictionary) => proceed(alloc, &dictionary, file, sensitive, source, sink),
+                Ok(content) => proceed(alloc, content, file, sensitive, source, sink),
             }
         }
-        Ok(Command::Expand { dix }) => match open(alloc, files, name(words, dix), dix) {
+        Ok(Command::Expand { dix }) => match open_entries(alloc, files, name(words, dix), dix) {
             Err(status) => status,
             Ok(dictionary) => put_lines(alloc, &dictionary, sink),
         },
@@ -50,12 +50,12 @@ fn run<F: Files, S: Source, K: Sink>(
 
 /// Runs the command that the words are (the program's own name left out) on the files, the source
 /// and the sink that it is handed, writes the message of its status to `err`, and answers the
-/// status. The commands so far are `lt-proc`, with `-a` and `-c`, and `lt-expand`, over dictionaries
-/// in the element notation.
+/// status. The commands so far are `lt-proc`, with `-a` and `-c`, over dictionaries in the element
+/// notation and over compiled files, which begin with `LTC`, and `lt-expand`, over dictionaries.
 ///
 /// The clauses, in the order in which they stand: what a run may answer and how it leaves what it
 /// was handed; the exact bytes and status where nothing failed; Done or Memory where moreover the
-/// stream gives no fault; the first fault of a dictionary, and a file over the limit, where
+/// stream gives no fault; the first fault of a file, and a file over the limit, where
 /// nothing is taken or written; when each other answer comes; that files stay; the message.
 /// Memory may come at any growth.
 pub fn apertium<F: Files, S: Source, K: Sink, E: Sink>(
@@ -94,6 +94,9 @@ pub fn apertium<F: Files, S: Source, K: Sink, E: Sink>(
         (outside (files_standing (F.contents files.new) (F.load_faults files.new) (F.store_faults files.new)) (standing (S.left source.new) (S.faults source.new)) (standing (K.written sink.new) (K.faults sink.new)))
         result }
     ensures bad_dictionary { IsBadDictionary (texts words.now)
+        (outside (files_standing (F.contents files.old) (F.load_faults files.old) (F.store_faults files.old)) (standing (S.left source.old) (S.faults source.old)) (standing (K.written sink.old) (K.faults sink.old)))
+        result }
+    ensures bad_compiled { IsBadCompiled (texts words.now)
         (outside (files_standing (F.contents files.old) (F.load_faults files.old) (F.store_faults files.old)) (standing (S.left source.old) (S.faults source.old)) (standing (K.written sink.old) (K.faults sink.old)))
         result }
     ensures file_too_long { IsFileTooLong (texts words.now)

@@ -1,6 +1,6 @@
-use Rattle.std.proofs.Common.{sym, ap, ◌∙◌}
+use Rattle.std.proofs.Common.{sym, ap, ◌∙◌, refl}
 use Rattle.std.specs.Prelude.{codes}
-use Rattle.ap_tool.specs.Messages.{message_of, dictionary_text, file_text, name_at}
+use Rattle.ap_tool.specs.Messages.{message_of, fault_text, file_text, name_at}
 use Rattle.ap_tool.specs.Words.{texts}
 use Rattle.ap_tool.proofs.Told.{says-as}
 use Rattle.ap_tool.proofs.messages.message.Goals as goal
@@ -21,7 +21,12 @@ returns-in-WriteFault g c = says-as _ _ (sym (ap (λ s. message_of s (texts c.ar
 pub returns-in-BadDictionary : goal.returns-in-BadDictionary
 unfolding message_of
 returns-in-BadDictionary g c =
-    says-as _ _ (ap (λ n. dictionary_text n c.in-BadDictionary.line c.in-BadDictionary.fault c.dictionary_fault_name.result.now) c.name-in-BadDictionary.ensures ∙ ap (λ n. dictionary_text (name_at (texts c.args.words.now) c.in-BadDictionary.file) c.in-BadDictionary.line c.in-BadDictionary.fault n) c.dictionary_fault_name.ensures ∙ sym (ap (λ s. message_of s (texts c.args.words.now)) c.in-BadDictionary.is)) c.say_dictionary.ensures
+    says-as _ _ (ap (λ n. fault_text n c.in-BadDictionary.line (codes ": dictionary fault ") c.in-BadDictionary.fault c.dictionary_fault_name.result.now) c.name-in-BadDictionary.ensures ∙ ap (λ n. fault_text (name_at (texts c.args.words.now) c.in-BadDictionary.file) c.in-BadDictionary.line (codes ": dictionary fault ") c.in-BadDictionary.fault n) c.dictionary_fault_name.ensures ∙ sym (ap (λ s. message_of s (texts c.args.words.now)) c.in-BadDictionary.is)) c.say_fault.ensures
+
+pub returns-in-BadCompiled : goal.returns-in-BadCompiled
+unfolding message_of
+returns-in-BadCompiled g c =
+    says-as _ _ (ap (λ n. fault_text n c.in-BadCompiled.line (codes ": compiled fault ") c.in-BadCompiled.fault c.compiled_fault_name.result.now) c.name-in-BadCompiled.ensures ∙ ap (λ n. fault_text (name_at (texts c.args.words.now) c.in-BadCompiled.file) c.in-BadCompiled.line (codes ": compiled fault ") c.in-BadCompiled.fault n) c.compiled_fault_name.ensures ∙ sym (ap (λ s. message_of s (texts c.args.words.now)) c.in-BadCompiled.is)) c.say_fault-in-BadCompiled.ensures
 
 pub returns-in-Memory : goal.returns-in-Memory
 unfolding message_of

@@ -1,18 +1,18 @@
-use Rattle.ap_tool.proofs.Honesty.{exact-from, complete-from, listed-from, faulty-from, long-from}
-use Rattle.ap_tool.proofs.Endings.{usage-from, file-fault-from, read-fault-from, write-fault-from, no-write-fault-from, malformed-from, limit-from, input-too-long-from, done-from, nothing-from, bad-dictionary-from, file-too-long-from}
+use Rattle.ap_tool.proofs.Honesty.{laws-of, exact-from, complete-from, listed-from, faulty-from, long-from}
+use Rattle.ap_tool.proofs.Endings.{usage-from, file-fault-from, read-fault-from, write-fault-from, no-write-fault-from, malformed-from, limit-from, input-too-long-from, done-from, nothing-from, bad-dictionary-from, bad-compiled-from, file-too-long-from}
 use Rattle.ap_tool.proofs.top.apertium.Goals as goal
 
 pub returns-clause-exact : goal.returns-clause-exact
 returns-clause-exact g c =
-    exact-from (record { one = c.spells_one.ensures; one_fault = c.has_one_fault.ensures; no_fault = c.spells_without_fault.ensures; output = c.one_output.ensures }) _ _ _ _ c.run-status.ensures.answer
+    exact-from (laws-of c.spells_one.ensures c.has_one_fault.ensures c.spells_without_fault.ensures c.one_output.ensures) _ _ _ _ c.run-status.ensures.answer
 
 pub returns-clause-complete : goal.returns-clause-complete
 returns-clause-complete g c =
-    complete-from (record { one = c.spells_one.ensures; one_fault = c.has_one_fault.ensures; no_fault = c.spells_without_fault.ensures; output = c.one_output.ensures }) _ _ _ _ c.run-status.ensures.answer
+    complete-from (laws-of c.spells_one.ensures c.has_one_fault.ensures c.spells_without_fault.ensures c.one_output.ensures) _ _ _ _ c.run-status.ensures.answer
 
 pub returns-clause-faulty : goal.returns-clause-faulty
 returns-clause-faulty g c =
-    faulty-from (record { one = c.spells_one.ensures; one_fault = c.has_one_fault.ensures; no_fault = c.spells_without_fault.ensures; output = c.one_output.ensures }) _ _ _ _ c.run-status.ensures.answer
+    faulty-from (laws-of c.spells_one.ensures c.has_one_fault.ensures c.spells_without_fault.ensures c.one_output.ensures) _ _ _ _ c.run-status.ensures.answer
 
 pub returns-clause-long : goal.returns-clause-long
 returns-clause-long g c = long-from _ _ _ _ c.run-status.ensures.answer
@@ -46,7 +46,7 @@ returns-clause-no_write_fault g c = no-write-fault-from _ _ _ _ c.run-status.ens
 
 pub returns-clause-listed : goal.returns-clause-listed
 returns-clause-listed g c =
-    listed-from (record { one = c.spells_one.ensures; one_fault = c.has_one_fault.ensures; no_fault = c.spells_without_fault.ensures; output = c.one_output.ensures }) _ _ _ _ c.run-status.ensures.answer
+    listed-from (laws-of c.spells_one.ensures c.has_one_fault.ensures c.spells_without_fault.ensures c.one_output.ensures) _ _ _ _ c.run-status.ensures.answer
 
 pub returns-clause-nothing : goal.returns-clause-nothing
 returns-clause-nothing g c = nothing-from _ _ _ _ c.run-status.ensures.answer
@@ -56,3 +56,6 @@ returns-clause-bad_dictionary g c = bad-dictionary-from _ _ _ _ c.run-status.ens
 
 pub returns-clause-file_too_long : goal.returns-clause-file_too_long
 returns-clause-file_too_long g c = file-too-long-from _ _ _ _ c.run-status.ensures.answer
+
+pub returns-clause-bad_compiled : goal.returns-clause-bad_compiled
+returns-clause-bad_compiled g c = bad-compiled-from _ _ _ _ c.run-status.ensures.answer
