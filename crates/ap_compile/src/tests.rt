@@ -126,15 +126,18 @@ const MAYBE: &str =
     "<dictionary><section id=\"m\" type=\"standard\">\n<e><re>(a*b?)+</re></e></section></dictionary>";
 
 #[test]
-fn expressions_are_compiled(rt: HostRuntime) -> Result<(), Fail> {
+fn a_class_has_an_edge_for_each_character(rt: HostRuntime) -> Result<(), Fail> {
     let alloc = rt.alloc();
     let dictionary = read_dictionary(alloc, NUMBERS.as_bytes())?;
     let compiled = compile(alloc, &dictionary, Direction::Lr)?;
     let standard = compiled.section(Kind2::Standard);
     assert_eq!(rt; standard.edges_from(0).len(), 10);
-    for edge in standard.edges_from(0) {
-        assert_eq!(rt; letter(&edge.label.left), letter(&edge.label.right));
-    }
+    Ok(())
+}
+
+#[test]
+fn an_expression_with_the_empty_string_is_refused(rt: HostRuntime) -> Result<(), Fail> {
+    let alloc = rt.alloc();
     let dictionary = read_dictionary(alloc, MAYBE.as_bytes())?;
     let Err(refusal) = compile(alloc, &dictionary, Direction::Lr) else {
         return Err(Memory)?;

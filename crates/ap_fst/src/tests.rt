@@ -91,27 +91,37 @@ fn a_label_may_read_nothing(rt: HostRuntime) -> Result<(), Fail> {
     Ok(())
 }
 
+fn small(alloc: Global, draft: Draft) -> Result<Fst, Fail> {
+    let fst = without_empty(alloc, &draft)?;
+    Ok(trim(alloc, &fst)?)
+}
+
 #[test]
-fn drafts_are_repeated(rt: HostRuntime) -> Result<(), Fail> {
+fn a_letter_any_number_of_times(rt: HostRuntime) -> Result<(), Fail> {
     let alloc = rt.alloc();
-    let star = trim(
-        alloc,
-        &without_empty(alloc, &letter_draft(alloc, 'a')?.star()?)?,
-    )?;
-    assert!(rt; star.is_final(0));
-    assert_eq!(rt; star.edges_from(0).len(), 1);
-    assert_eq!(rt; star.edges().len(), 2);
-    let plus = trim(
-        alloc,
-        &without_empty(alloc, &letter_draft(alloc, 'a')?.plus()?)?,
-    )?;
-    assert!(rt; !plus.is_final(0));
-    assert_eq!(rt; plus.edges().len(), 2);
-    let opt = trim(
-        alloc,
-        &without_empty(alloc, &letter_draft(alloc, 'a')?.opt()?)?,
-    )?;
-    assert!(rt; opt.is_final(0));
-    assert_eq!(rt; opt.edges().len(), 1);
+    let draft = letter_draft(alloc, 'a')?;
+    let fst = small(alloc, draft.star()?)?;
+    assert!(rt; fst.is_final(0));
+    assert_eq!(rt; fst.edges().len(), 2);
+    Ok(())
+}
+
+#[test]
+fn a_letter_at_least_once(rt: HostRuntime) -> Result<(), Fail> {
+    let alloc = rt.alloc();
+    let draft = letter_draft(alloc, 'a')?;
+    let fst = small(alloc, draft.plus()?)?;
+    assert!(rt; !fst.is_final(0));
+    assert_eq!(rt; fst.edges().len(), 2);
+    Ok(())
+}
+
+#[test]
+fn a_letter_at_most_once(rt: HostRuntime) -> Result<(), Fail> {
+    let alloc = rt.alloc();
+    let draft = letter_draft(alloc, 'a')?;
+    let fst = small(alloc, draft.opt()?)?;
+    assert!(rt; fst.is_final(0));
+    assert_eq!(rt; fst.edges().len(), 1);
     Ok(())
 }
