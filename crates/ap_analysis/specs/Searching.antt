@@ -1,9 +1,11 @@
 -- What the search for the length at the front of the held items knows.
-use Rattle.std.specs.Prelude.{◌≡◌, ◌⊎◌, ℕ, suc, ◌<◌, ◌≤◌, Bool, true, false, List, length, take, IsTrue, max, slice_index_or}
+use Rattle.std.specs.Prelude.{◌≡◌, ◌⊎◌, ℕ, suc, ◌<◌, ◌≤◌, Bool, true, false, List, [], length, take, IsTrue, max, slice_index_or, Option, Some, None}
 use Rattle.std.specs.List.{list_all}
 use Rattle.ap_symbol.specs.declared.symbol.Symbol.{Symbol}
+use Rattle.ap_fst.specs.Machines.{Machine}
 use Rattle.ap_fst.specs.Sections.{Parts}
-use Rattle.ap_live.specs.Rows.{IsLive}
+use Rattle.ap_live.specs.Fitting.{Input}
+use Rattle.ap_live.specs.Rows.{Lives, IsLive}
 use Rattle.ap_stream.specs.declared.item.Read.{Read}
 use Rattle.ap_analysis.specs.Items.{front}
 use Rattle.ap_analysis.specs.Lexicon.{Lexicon, lexicon_of, inputs_of}
@@ -13,13 +15,22 @@ use Rattle.ap_analysis.specs.declared.search.Phase.{Phase}
 use Rattle.ap_analysis.specs.declared.search.Phase.TheVariants.{Stepping, Unmatched}
 use Rattle.ap_analysis.specs.declared.search.Search.{Search}
 use Rattle.ap_analysis.specs.declared.search.Found.{Found}
+use Rattle.ap_analysis.specs.declared.section_live.SectionLive.{SectionLive}
 
--- the live sets of the four sections after these symbols
+-- what is held of a section after these inputs: nothing, where it has no final state, or its live set
+abbrev pub IsHeld : Machine → List Input → Option Lives → Type 0
+IsHeld m seen None = m.finals ≡ []
+IsHeld m seen (Some live) = IsLive m seen live
+
+abbrev pub IsSectionLive : Machine → List Input → SectionLive → Type 0
+IsSectionLive m seen section = IsHeld m seen section.live
+
+-- what is held of the four sections after these symbols
 pub record AreLive (p : Parts) (sensitive : Bool) (symbols : List Symbol) (l : LiveSections) : Type 0 where
-  pub standard_is : IsLive p.standard (inputs_of sensitive symbols) l.standard
-  pub inconditional_is : IsLive p.inconditional (inputs_of sensitive symbols) l.inconditional
-  pub postblank_is : IsLive p.postblank (inputs_of sensitive symbols) l.postblank
-  pub preblank_is : IsLive p.preblank (inputs_of sensitive symbols) l.preblank
+  pub standard_is : IsSectionLive p.standard (inputs_of sensitive symbols) l.standard
+  pub inconditional_is : IsSectionLive p.inconditional (inputs_of sensitive symbols) l.inconditional
+  pub postblank_is : IsSectionLive p.postblank (inputs_of sensitive symbols) l.postblank
+  pub preblank_is : IsSectionLive p.preblank (inputs_of sensitive symbols) l.preblank
 
 -- So many items fit a beginning of a left word.
 pub record IsViable (lexicon : Lexicon) (reads : List Read) (n : ℕ) : Type 0 where
