@@ -1,13 +1,11 @@
-ghost use Rattle.std.specs.Prelude.{◌≡◌, ◌↔◌, ℕ, Bool, List, ◌++◌, map, length, OnOk, IfOk, take, drop};
-ghost use Rattle.std.specs.List.Sorted.{IsStrictlySortedBy};
+ghost use Rattle.std.specs.Prelude.{◌≡◌, Bool, List, ◌++◌, map, OnOk, IfOk};
 ghost use Rattle.ap_symbol.specs.Words.{AreProper};
-ghost use Rattle.ap_symbol.specs.Recasing.{case_of_lem, carry_lem};
-ghost use Rattle.ap_symbol.specs.Rendering.{word_cmp};
+ghost use Rattle.ap_symbol.specs.Recasing.{carry_lem};
 ghost use Rattle.ap_symbol.specs.declared.symbol.Symbol.{Symbol};
 ghost use Rattle.ap_symbol.specs.Lists.{IsIn};
 ghost use Rattle.ap_live.specs.Found.{in_order};
 ghost use Rattle.ap_analysis.specs.Lexicon.{lexicon_of};
-ghost use Rattle.ap_analysis.specs.Licence.{licensed_words, standard_words, surface};
+ghost use Rattle.ap_analysis.specs.Licence.{standard_words, surface};
 ghost use Rattle.ap_analysis.specs.Analysis.{carried, readings_at};
 ghost use Rattle.ap_analysis.specs.Searching.{AreLive};
 
