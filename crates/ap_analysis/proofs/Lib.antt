@@ -9,6 +9,7 @@ pub mod Lexicons
 pub mod Goings
 pub mod Searches
 pub mod Turns
+pub mod NoFinals
 pub mod SectionLives
 pub mod Holdings
 pub mod Ordered

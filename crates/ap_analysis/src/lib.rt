@@ -8,6 +8,7 @@ mod live_sections;
 mod queue;
 mod readings;
 mod search;
+mod section_live;
 mod work;
 mod writing;
 

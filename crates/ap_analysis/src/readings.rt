@@ -1,13 +1,11 @@
-ghost use Rattle.std.specs.Prelude.{◌≡◌, ◌↔◌, ℕ, Bool, List, ◌++◌, map, length, OnOk, IfOk, take, drop};
-ghost use Rattle.std.specs.List.Sorted.{IsStrictlySortedBy};
+ghost use Rattle.std.specs.Prelude.{◌≡◌, Bool, List, ◌++◌, map, OnOk, IfOk};
 ghost use Rattle.ap_symbol.specs.Words.{AreProper};
-ghost use Rattle.ap_symbol.specs.Recasing.{case_of_lem, carry_lem};
-ghost use Rattle.ap_symbol.specs.Rendering.{word_cmp};
+ghost use Rattle.ap_symbol.specs.Recasing.{carry_lem};
 ghost use Rattle.ap_symbol.specs.declared.symbol.Symbol.{Symbol};
 ghost use Rattle.ap_symbol.specs.Lists.{IsIn};
 ghost use Rattle.ap_live.specs.Found.{in_order};
 ghost use Rattle.ap_analysis.specs.Lexicon.{lexicon_of};
-ghost use Rattle.ap_analysis.specs.Licence.{licensed_words, standard_words, surface};
+ghost use Rattle.ap_analysis.specs.Licence.{standard_words, surface};
 ghost use Rattle.ap_analysis.specs.Analysis.{carried, readings_at};
 ghost use Rattle.ap_analysis.specs.Searching.{AreLive};
 
@@ -28,80 +26,75 @@ fn sort_words(words: &mut Vec<Word>)
     words.dedup_by(|a, b| compare(a, b).is_eq());
 }
 
-/// The word with a case carried to it, unless case counts.
-fn carried_word(alloc: Global, sensitive: bool, seen: &Word, word: &Word) -> Result<Word, Memory>
-    ensures is { IfOk result (λ made. made ≡ carried sensitive seen.now word.now) }
+/// The case that is carried to each reading: none of its own where case counts.
+fn case_carried(sensitive: bool, seen: &Word) -> Case
+    ensures { (word : List Symbol) → carry_lem result word ≡ carried sensitive seen.now word }
+{
+    if sensitive { Case::Low } else { case_of(seen) }
+}
+
+/// The word with a case carried to it. It is made anew only where letters may change.
+fn carried_word(alloc: Global, case: Case, word: Word) -> Result<Word, Memory>
+    ensures is { IfOk result (λ made. made ≡ carry_lem case word) }
     ensures proper { IfOk result (λ made. AreProper made) }
 {
-    let made = if sensitive {
-        word.copy(alloc)?
-    } else {
-        carry(alloc, word, case_of(seen))?
+    let made = match case {
+        Case::Low => word,
+        Case::First | Case::All => carry(alloc, &word, case)?,
     };
     let _ = made.symbols();
     Ok(made)
 }
 
-/// Appends the words with the case of what was seen.
+/// Appends the words with this case carried to each.
 fn push_carried(
     alloc: Global,
-    sensitive: bool,
-    seen: &Word,
-    words: &[Word],
+    case: Case,
+    words: Vec<Word>,
     into: &mut Vec<Word>,
 ) -> Result<(), Memory>
-    ensures is { OnOk result (into.new.items ≡ into.old.items ++ map (carried sensitive seen.now) words.now) }
+    ensures is { OnOk result (into.new.items ≡ into.old.items ++ map (carry_lem case) words.items) }
     ensures proper { OnOk result (((w : List Symbol) → IsIn w into.old.items → AreProper w) → (w : List Symbol) → IsIn w into.new.items → AreProper w) }
 {
     for word in words {
-        into.push(carried_word(alloc, sensitive, seen, word)?)?;
+        into.push(carried_word(alloc, case, word)?)?;
     }
     Ok(())
 }
 
-/// Appends what the entries of a kind read in the symbols so far, with the case of what was seen.
+/// Appends what the entries of a kind read in the symbols so far, with this case carried to each.
 fn push_kind(
     alloc: Global,
     compiled: &Compiled,
-    sensitive: bool,
     lives: &LiveSections,
     kind: Kind2,
-    seen: &Word,
+    case: Case,
     into: &mut Vec<Word>,
 ) -> Result<(), Memory>
-    ensures is { OnOk result ((symbols : List Symbol) → AreLive compiled.now sensitive symbols lives.now → into.new.items ≡ into.old.items ++ map (carried sensitive seen.now) ((lexicon_of compiled.now sensitive).readings kind symbols)) }
+    ensures is { OnOk result ((sensitive : Bool) (symbols : List Symbol) → AreLive compiled.now sensitive symbols lives.now → into.new.items ≡ into.old.items ++ map (carry_lem case) ((lexicon_of compiled.now sensitive).readings kind symbols)) }
     ensures proper { OnOk result (((w : List Symbol) → IsIn w into.old.items → AreProper w) → (w : List Symbol) → IsIn w into.new.items → AreProper w) }
 {
     let words = lives.readings(alloc, compiled, kind)?;
-    push_carried(alloc, sensitive, seen, words.as_slice(), into)
+    push_carried(alloc, case, words.into_vec(), into)
 }
 
+/// The same for standard entries, which read only where no alphabetic character comes next.
 fn push_standard(
     alloc: Global,
     compiled: &Compiled,
-    sensitive: bool,
     lives: &LiveSections,
     reads: &[Read],
     count: usize,
-    seen: &Word,
+    case: Case,
     into: &mut Vec<Word>,
 ) -> Result<(), Memory>
-    requires { AreLive compiled.now sensitive (surface reads.now count) lives.now }
-    ensures is { OnOk result (into.new.items ≡ into.old.items ++ map (carried sensitive seen.now) (standard_words (lexicon_of compiled.now sensitive) reads.now count)) }
+    ensures is { OnOk result ((sensitive : Bool) → AreLive compiled.now sensitive (surface reads.now count) lives.now → into.new.items ≡ into.old.items ++ map (carry_lem case) (standard_words (lexicon_of compiled.now sensitive) reads.now count)) }
     ensures proper { OnOk result (((w : List Symbol) → IsIn w into.old.items → AreProper w) → (w : List Symbol) → IsIn w into.new.items → AreProper w) }
 {
     if begins_alphabetic(compiled, reads, count) {
         Ok(())
     } else {
-        push_kind(
-            alloc,
-            compiled,
-            sensitive,
-            lives,
-            Kind2::Standard,
-            seen,
-            into,
-        )
+        push_kind(alloc, compiled, lives, Kind2::Standard, case, into)
     }
 }
 
@@ -119,37 +112,19 @@ pub(crate) fn readings(
     requires seen { seen.now ≡ surface reads.now count }
     ensures { IfOk result (λ words. words.items ≡ readings_at (lexicon_of compiled.now sensitive) sensitive reads.now count) }
 {
+    let case = case_carried(sensitive, seen);
     let mut words = Vec::new(alloc);
-    push_standard(
-        alloc, compiled, sensitive, lives, reads, count, seen, &mut words,
-    )?;
+    push_standard(alloc, compiled, lives, reads, count, case, &mut words)?;
     push_kind(
         alloc,
         compiled,
-        sensitive,
         lives,
         Kind2::Inconditional,
-        seen,
+        case,
         &mut words,
     )?;
-    push_kind(
-        alloc,
-        compiled,
-        sensitive,
-        lives,
-        Kind2::Postblank,
-        seen,
-        &mut words,
-    )?;
-    push_kind(
-        alloc,
-        compiled,
-        sensitive,
-        lives,
-        Kind2::Preblank,
-        seen,
-        &mut words,
-    )?;
+    push_kind(alloc, compiled, lives, Kind2::Postblank, case, &mut words)?;
+    push_kind(alloc, compiled, lives, Kind2::Preblank, case, &mut words)?;
     sort_words(&mut words);
     Ok(words)
 }

@@ -2,6 +2,7 @@ ghost use Rattle.std.specs.Prelude.{◌≡◌, ℕ, ◌<◌, ◌≤◌, Bool, Li
 ghost use Rattle.std.specs.List.{flat_map};
 ghost use Rattle.ap_symbol.specs.declared.symbol.Symbol.TheVariants.{Star};
 ghost use Rattle.ap_stream.specs.Spelling.{slashed, unit_bytes};
+ghost use Rattle.ap_fst.specs.declared.compiled.Kind2.TheVariants.{Preblank};
 ghost use Rattle.ap_analysis.specs.Items.{front, bytes_of};
 ghost use Rattle.ap_analysis.specs.Lexicon.{lexicon_of};
 ghost use Rattle.ap_analysis.specs.Licence.{surface as surface_lem, licence, unknown_length};
@@ -90,6 +91,24 @@ fn push_swallowed(reads: &[Read], count: usize, text: &mut Bytes) -> Result<(), 
     Ok(())
 }
 
+/// The unit, behind a space where a preblank entry reads the symbols so far.
+fn known_front(
+    alloc: Global,
+    compiled: &Compiled,
+    lives: &LiveSections,
+    unit: Bytes,
+) -> Result<Bytes, Memory>
+    ensures { IfOk result (λ text. (sensitive : Bool) (reads : List Read) (count : ℕ) → AreLive compiled.now sensitive (surface_lem reads count) lives.now → text ≡ space_at (lexicon_of compiled.now sensitive) Preblank reads count ++ unit) }
+{
+    if !lives.reads(compiled, Kind2::Preblank) {
+        return Ok(unit);
+    }
+    let mut text = Bytes::new(alloc);
+    text.extend(b" ")?;
+    text.extend(unit.as_slice())?;
+    Ok(text)
+}
+
 /// The unit, and what stands beside it.
 fn known_rest(
     alloc: Global,
@@ -97,14 +116,12 @@ fn known_rest(
     lives: &LiveSections,
     reads: &[Read],
     count: usize,
-    unit: &Bytes,
+    unit: Bytes,
 ) -> Result<Bytes, Memory>
     requires { count ≤ length reads.now }
-    ensures { IfOk result (λ text. (sensitive : Bool) → AreLive compiled.now sensitive (surface_lem reads.now count) lives.now → unit.now ≡ known_unit (lexicon_of compiled.now sensitive) sensitive reads.now count → text ≡ known_text (lexicon_of compiled.now sensitive) sensitive reads.now count) }
+    ensures { IfOk result (λ text. (sensitive : Bool) → AreLive compiled.now sensitive (surface_lem reads.now count) lives.now → unit ≡ known_unit (lexicon_of compiled.now sensitive) sensitive reads.now count → text ≡ known_text (lexicon_of compiled.now sensitive) sensitive reads.now count) }
 {
-    let mut text = Bytes::new(alloc);
-    push_space(compiled, lives, Kind2::Preblank, &mut text)?;
-    text.extend(unit.as_slice())?;
+    let mut text = known_front(alloc, compiled, lives, unit)?;
     push_space(compiled, lives, Kind2::Postblank, &mut text)?;
     push_swallowed(reads, count, &mut text)?;
     Ok(text)
@@ -138,7 +155,7 @@ fn known_step(
             kind: LimitKind::UnitTooLong,
         });
     }
-    let text = known_rest(alloc, compiled, lives, reads, count, &unit)?;
+    let text = known_rest(alloc, compiled, lives, reads, count, unit)?;
     Ok(Written::Gives { count, text })
 }
 
