@@ -4,7 +4,7 @@ ghost use Rattle.std.specs.List.Sorted.{IsNonDecreasingBy};
 ghost use Rattle.std.specs.Option.{option_copied};
 ghost use Rattle.ap_fst.specs.declared.label.Edge.{Edge};
 ghost use Rattle.ap_fst.specs.Lists.{IsIn};
-ghost use Rattle.ap_live.specs.Rows.{IsFirst, IsNext, IsOrdered, Reach, AreRows, Tells};
+ghost use Rattle.ap_live.specs.Rows.{IsFirst, IsNext, IsOrdered, IsVoid, Reach, AreRows, Tells};
 ghost use Rattle.ap_fst.specs.Machines.{Machine};
 ghost use Rattle.ap_live.specs.declared.rows.Row.{Row};
 ghost use Rattle.ap_live.specs.Fitting.{Input, pick_of, picks};
@@ -228,6 +228,13 @@ impl SharedRow {
         ensures { result ≡ self.now.ends }
     {
         self.row.ends
+    }
+
+    /// Whether no state and no edge is there.
+    pub(crate) fn is_void(&self) -> bool
+        ensures { IsTrue result → IsVoid self.now }
+    {
+        self.states().is_empty() && self.taken().is_empty() && self.silent().is_empty()
     }
 
     /// An equal row, which shares the memory.

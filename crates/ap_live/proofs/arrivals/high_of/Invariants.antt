@@ -1,4 +1,4 @@
-use Rattle.std.proofs.Common.{◌≡◌, ◌≤◌, ◌<◌, ◌-◌, ℕ, length, get_or}
+use Rattle.std.proofs.Common.{◌≤◌, ◌<◌, ◌-◌, ℕ, length, get_or}
 use Rattle.ap_live.specs.Spreads.{arrival_to}
 use Rattle.ap_live.specs.declared.arrivals.Arrival.{Arrival}
 use Rattle.ap_live.proofs.arrivals.high_of.Given as goal
