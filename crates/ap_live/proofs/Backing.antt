@@ -1,27 +1,31 @@
-use Rattle.std.proofs.Common.{◌≡◌, ◌⊎◌, inl, inr, ℕ, ◌+◌, ◌<◌, Bool, true, false, List, [], ◌∷◌, ◌++◌, refl, sym, ◌∙◌, ap, subst, arith, Option, Some, None, slice_get, length, take, get_or, suc, zero}
+use Rattle.std.proofs.Common.{◌≡◌, ◌⊎◌, inl, inr, ℕ, ◌+◌, ◌<◌, Bool, true, false, List, [], ◌∷◌, ◌++◌, refl, sym, ◌∙◌, ap, subst, arith, Option, Some, None, slice_get, length, take, get_or, suc, zero, eqb, append-nil}
 use Rattle.std.proofs.lemmas.List.{take_more}
 use Rattle.std.proofs.Math.Seq.{take-length}
 use Rattle.std.specs.Option.{option_to_list}
 use Rattle.ap_fst.specs.Lists.{IsIn}
 use Rattle.ap_fst.specs.declared.label.Edge.{Edge}
 use Rattle.ap_live.specs.Fitting.{is_empty_side}
+use Rattle.ap_live.specs.Spreads.{arrival_to}
 use Rattle.ap_live.specs.Tails.{Back, BackFrom, IsBack, AddsBack, IsBackMany, BackMany, AreFinals, given, onward}
 use Rattle.ap_fst.specs.Silence.{SilentWalk, still, step, HasNoEmptyCycle}
 use Rattle.ap_fst.specs.Machines.{Machine, IsMachine}
 use Rattle.std.specs.Prelude.{IsTrue}
-use Rattle.std.specs.List.{list_all}
+use Rattle.std.specs.List.{list_all, filter}
+use Rattle.std.proofs.lemmas.Bool.Decides.{nat_tests}
+use Rattle.ap_fst.proofs.Listing.{in_filter, filter_in}
 use Rattle.std.proofs.lemmas.Bool.{and_parts}
 use Rattle.ap_symbol.specs.Words.{is_word_symbol}
 use Rattle.ap_live.specs.Outputs.{is_word_side, WritesWords}
 use Rattle.ap_symbol.specs.declared.symbol.Symbol.{Symbol}
+use Rattle.ap_live.specs.declared.arrivals.Arrival.{Arrival}
 use Rattle.ap_live.specs.declared.backward.Item.{Item}
 use Rattle.ap_live.proofs.Spreading.{in_front, in_back, in_either, from_in, in_from_place, both_true}
 
-only_back : (edges : List Edge) (b : Bool) (j : ℕ) (y x : Item) → BackFrom edges b (j ∷ []) (y ∷ []) x → Back edges b x y j
+only_back : (edges : List Edge) (b : Bool) (j : Arrival) (y x : Item) → BackFrom edges b (j ∷ []) (y ∷ []) x → Back edges b x y j
 only_back edges b j y x f =
     elim f.linked [
       | inl q ↦ elim f.listed [
-        | inl r ↦ subst (λ (v : Item). Back edges b x v j) r (subst (λ (l : ℕ). Back edges b x f.item l) q f.back)
+        | inl r ↦ subst (λ (v : Item). Back edges b x v j) r (subst (λ (l : Arrival). Back edges b x f.item l) q f.back)
         | inr r ↦ elim r [ ]
       ]
       | inr r ↦ elim r [ ]
@@ -30,17 +34,17 @@ only_back edges b j y x f =
 pub adds_no_link : (edges : List Edge) (b : Bool) (items old : List Item) → AddsBack edges b [] items old old
 adds_no_link edges b items old = record { sound = λ x i. inl i; complete = λ x f. elim f.linked [ ]; kept = λ x i. i }
 
-pub adds_no_item : (edges : List Edge) (b : Bool) (links : List ℕ) (old : List Item) → AddsBack edges b links [] old old
+pub adds_no_item : (edges : List Edge) (b : Bool) (links : List Arrival) (old : List Item) → AddsBack edges b links [] old old
 adds_no_item edges b links old = record { sound = λ x i. inl i; complete = λ x f. elim f.listed [ ]; kept = λ x i. i }
 
-more_links : (edges : List Edge) (b : Bool) (links more : List ℕ) (items : List Item) (x : Item) → BackFrom edges b links items x → BackFrom edges b (links ++ more) items x
+more_links : (edges : List Edge) (b : Bool) (links more : List Arrival) (items : List Item) (x : Item) → BackFrom edges b links items x → BackFrom edges b (links ++ more) items x
 more_links edges b links more items x f = record { item = f.item; link = f.link; listed = f.listed; linked = in_front f.link links more f.linked; back = f.back }
 
-more_items : (edges : List Edge) (b : Bool) (links : List ℕ) (items more : List Item) (x : Item) → BackFrom edges b links items x → BackFrom edges b links (items ++ more) x
+more_items : (edges : List Edge) (b : Bool) (links : List Arrival) (items more : List Item) (x : Item) → BackFrom edges b links items x → BackFrom edges b links (items ++ more) x
 more_items edges b links items more x f = record { item = f.item; link = f.link; listed = in_front f.item items more f.listed; linked = f.linked; back = f.back }
 
 -- one link, by which one item is added
-pub adds_one : (edges : List Edge) (b : Bool) (j : ℕ) (y x : Item) (old found : List Item) → Back edges b x y j → ((z : Item) → Back edges b z y j → z ≡ x) → found ≡ old ++ x ∷ [] → AddsBack edges b (j ∷ []) (y ∷ []) old found
+pub adds_one : (edges : List Edge) (b : Bool) (j : Arrival) (y x : Item) (old found : List Item) → Back edges b x y j → ((z : Item) → Back edges b z y j → z ≡ x) → found ≡ old ++ x ∷ [] → AddsBack edges b (j ∷ []) (y ∷ []) old found
 adds_one edges b j y x old found leads one grown =
     subst (λ (fs : List Item). AddsBack edges b (j ∷ []) (y ∷ []) old fs) (sym grown) (record {
       sound = λ z k. elim (in_either z old (x ∷ []) k) [
@@ -54,50 +58,90 @@ adds_one edges b j y x old found leads one grown =
       kept = λ z k. in_front z old (x ∷ []) k;
     })
 
+-- by some links, and then by others
+pub adds_links : (edges : List Edge) (b : Bool) (links more : List Arrival) (items old found found' : List Item) → AddsBack edges b links items old found → AddsBack edges b more items found found' → AddsBack edges b (links ++ more) items old found'
+adds_links edges b links more items old found found' h k = record {
+  sound = λ x q. elim (k.sound x q) [
+    | inl r ↦ elim (h.sound x r) [ inl s ↦ inl s | inr f ↦ inr (more_links edges b links more items x f) ]
+    | inr f ↦ inr (record { item = f.item; link = f.link; listed = f.listed; linked = in_back f.link links more f.linked; back = f.back })
+  ];
+  complete = λ x f. elim (in_either f.link links more f.linked) [
+    | inl r ↦ k.kept x (h.complete x (record { item = f.item; link = f.link; listed = f.listed; linked = r; back = f.back }))
+    | inr r ↦ k.complete x (record { item = f.item; link = f.link; listed = f.listed; linked = r; back = f.back })
+  ];
+  kept = λ x q. k.kept x (h.kept x q);
+}
+
+-- from some items, and then from others
+pub adds_items : (edges : List Edge) (b : Bool) (links : List Arrival) (items more old found found' : List Item) → AddsBack edges b links items old found → AddsBack edges b links more found found' → AddsBack edges b links (items ++ more) old found'
+adds_items edges b links items more old found found' h k = record {
+  sound = λ x q. elim (k.sound x q) [
+    | inl r ↦ elim (h.sound x r) [ inl s ↦ inl s | inr f ↦ inr (more_items edges b links items more x f) ]
+    | inr f ↦ inr (record { item = f.item; link = f.link; listed = in_back f.item items more f.listed; linked = f.linked; back = f.back })
+  ];
+  complete = λ x f. elim (in_either f.item items more f.listed) [
+    | inl r ↦ k.kept x (h.complete x (record { item = f.item; link = f.link; listed = r; linked = f.linked; back = f.back }))
+    | inr r ↦ k.complete x (record { item = f.item; link = f.link; listed = r; linked = f.linked; back = f.back })
+  ];
+  kept = λ x q. k.kept x (h.kept x q);
+}
+
 -- a link more
-pub adds_link : (edges : List Edge) (b : Bool) (links : List ℕ) (items : List Item) (i j : ℕ) (old found found' : List Item) → i < length links → j ≡ get_or links i 0
+pub adds_link : (edges : List Edge) (b : Bool) (links : List Arrival) (items : List Item) (i : ℕ) (j d : Arrival) (old found found' : List Item) → i < length links → j ≡ get_or links i d
     → AddsBack edges b (take i links) items old found → AddsBack edges b (j ∷ []) items found found' → AddsBack edges b (take (i + 1) links) items old found'
-adds_link edges b links items i j old found found' lt is h k =
-    let e : take (i + 1) links ≡ take i links ++ j ∷ [] = take_more links i 0 lt ∙ ap (λ k. take i links ++ k ∷ []) (sym is) in
-    subst (λ (ls : List ℕ). AddsBack edges b ls items old found') (sym e) (record {
-      sound = λ x q. elim (k.sound x q) [
-        | inl r ↦ elim (h.sound x r) [ inl s ↦ inl s | inr f ↦ inr (more_links edges b (take i links) (j ∷ []) items x f) ]
-        | inr f ↦ inr (record { item = f.item; link = f.link; listed = f.listed; linked = in_back f.link (take i links) (j ∷ []) f.linked; back = f.back })
-      ];
-      complete = λ x f. elim (in_either f.link (take i links) (j ∷ []) f.linked) [
-        | inl r ↦ k.kept x (h.complete x (record { item = f.item; link = f.link; listed = f.listed; linked = r; back = f.back }))
-        | inr r ↦ k.complete x (record { item = f.item; link = f.link; listed = f.listed; linked = r; back = f.back })
-      ];
-      kept = λ x q. k.kept x (h.kept x q);
-    })
+adds_link edges b links items i j d old found found' lt is h k =
+    let e : take (i + 1) links ≡ take i links ++ j ∷ [] = take_more links i d lt ∙ ap (λ k. take i links ++ k ∷ []) (sym is) in
+    subst (λ (ls : List Arrival). AddsBack edges b ls items old found') (sym e) (adds_links edges b (take i links) (j ∷ []) items old found found' h k)
 
 -- an item more
-pub adds_item : (edges : List Edge) (b : Bool) (links : List ℕ) (items : List Item) (i : ℕ) (y d : Item) (old found found' : List Item) → i < length items → y ≡ get_or items i d
+pub adds_item : (edges : List Edge) (b : Bool) (links : List Arrival) (items : List Item) (i : ℕ) (y d : Item) (old found found' : List Item) → i < length items → y ≡ get_or items i d
     → AddsBack edges b links (take i items) old found → AddsBack edges b links (y ∷ []) found found' → AddsBack edges b links (take (i + 1) items) old found'
 adds_item edges b links items i y d old found found' lt is h k =
     let e : take (i + 1) items ≡ take i items ++ y ∷ [] = take_more items i d lt ∙ ap (λ z. take i items ++ z ∷ []) (sym is) in
-    subst (λ (ys : List Item). AddsBack edges b links ys old found') (sym e) (record {
-      sound = λ x q. elim (k.sound x q) [
-        | inl r ↦ elim (h.sound x r) [ inl s ↦ inl s | inr f ↦ inr (more_items edges b links (take i items) (y ∷ []) x f) ]
-        | inr f ↦ inr (record { item = f.item; link = f.link; listed = in_back f.item (take i items) (y ∷ []) f.listed; linked = f.linked; back = f.back })
-      ];
-      complete = λ x f. elim (in_either f.item (take i items) (y ∷ []) f.listed) [
-        | inl r ↦ k.kept x (h.complete x (record { item = f.item; link = f.link; listed = r; linked = f.linked; back = f.back }))
-        | inr r ↦ k.complete x (record { item = f.item; link = f.link; listed = r; linked = f.linked; back = f.back })
-      ];
-      kept = λ x q. k.kept x (h.kept x q);
-    })
+    subst (λ (ys : List Item). AddsBack edges b links ys old found') (sym e) (adds_items edges b links (take i items) (y ∷ []) old found found' h k)
 
-pub back_by : (edges : List Edge) (b : Bool) (links : List ℕ) (items old found : List Item) (i : ℕ) → i ≡ length items → old ≡ [] → AddsBack edges b links (take i items) old found → IsBack edges b links items found
-back_by edges b links items old found i n e h =
-    let h' : AddsBack edges b links items old found = subst (λ (ys : List Item). AddsBack edges b links ys old found) (ap (λ k. take k items) n ∙ take-length items) h in
+-- Only links to the item's state lead back from it.
+pub adds_here : (edges : List Edge) (b : Bool) (links here : List Arrival) (y : Item) (old found : List Item) → here ≡ filter (λ a. eqb (arrival_to a) y.state) links → AddsBack edges b here (y ∷ []) old found → AddsBack edges b links (y ∷ []) old found
+adds_here edges b links here y old found e h =
+    let h' : AddsBack edges b (filter (λ a. eqb (arrival_to a) y.state) links) (y ∷ []) old found = subst (λ (z : List Arrival). AddsBack edges b z (y ∷ []) old found) e h in
     record {
-      sound = λ x q. elim (h'.sound x q) [ inl r ↦ elim (subst (λ (zs : List Item). IsIn x zs) e r) [ ] | inr f ↦ f ];
-      complete = h'.complete;
+      sound = λ x q. elim (h'.sound x q) [
+        | inl r ↦ inl r
+        | inr f ↦ inr (record { item = f.item; link = f.link; listed = f.listed; linked = (filter_in (λ a. eqb (arrival_to a) y.state) f.link links f.linked).listed; back = f.back })
+      ];
+      complete = λ x f.
+          let one : f.item ≡ y = elim f.listed [ inl r ↦ r | inr r ↦ elim r [ ] ] in
+          let at : f.link.to ≡ y.state = f.back.arrives ∙ sym f.back.to_is ∙ ap (λ (z : Item). z.state) one in
+          let test : eqb (arrival_to f.link) y.state ≡ true = grind (arith, nat_tests) in
+          h'.complete x (record { item = f.item; link = f.link; listed = f.listed; linked = in_filter (λ a. eqb (arrival_to a) y.state) f.link links f.linked test; back = f.back });
+      kept = h'.kept;
     }
 
+pub adds_none_here : (edges : List Edge) (b : Bool) (here : List Arrival) (items old : List Item) → length here ≡ 0 → AddsBack edges b here items old old
+adds_none_here edges b [] items old n = adds_no_link edges b items old
+adds_none_here edges b (a ∷ here) items old n = absurd (omega arith)
+
+-- by all links but the last, and then by the last
+pub adds_last : (edges : List Edge) (b : Bool) (here others : List Arrival) (last : Arrival) (items old found found' : List Item) → here ≡ others ++ last ∷ [] → AddsBack edges b others items old found → AddsBack edges b (last ∷ []) items found found'
+    → AddsBack edges b here items old found'
+adds_last edges b here others last items old found found' e h k = subst (λ (z : List Arrival). AddsBack edges b z items old found') (sym e) (adds_links edges b others (last ∷ []) items old found found' h k)
+
+pub back_all : (edges : List Edge) (b : Bool) (links : List Arrival) (items old found : List Item) → old ≡ [] → AddsBack edges b links items old found → IsBack edges b links items found
+back_all edges b links items old found e h = record {
+  sound = λ x q. elim (h.sound x q) [ inl r ↦ elim (subst (λ (zs : List Item). IsIn x zs) e r) [ ] | inr f ↦ f ];
+  complete = h.complete;
+}
+
+pub back_by : (edges : List Edge) (b : Bool) (links : List Arrival) (items old found : List Item) (i : ℕ) → i ≡ length items → old ≡ [] → AddsBack edges b links (take i items) old found → IsBack edges b links items found
+back_by edges b links items old found i n e h =
+    back_all edges b links items old found e (subst (λ (ys : List Item). AddsBack edges b links ys old found) (ap (λ k. take k items) n ∙ take-length items) h)
+
+pub back_yielded : (edges : List Edge) (b : Bool) (links : List Arrival) (items yielded rest old found : List Item) → items ≡ yielded ++ rest → rest ≡ [] → old ≡ [] → AddsBack edges b links yielded old found → IsBack edges b links items found
+back_yielded edges b links items yielded rest old found e none first h =
+    back_all edges b links items old found first (subst (λ (z : List Item). AddsBack edges b links z old found) (sym (e ∙ ap (λ z. yielded ++ z) none ∙ append-nil yielded)) h)
+
 -- an edge that is there leads back to one item
-pub one_back : (edges : List Edge) (b : Bool) (j : ℕ) (y z : Item) (e : Edge) → slice_get edges j ≡ Some e → Back edges b z y j → z ≡ (let item : Item = record { state = e.from; back = y.back ++ option_to_list e.label.right } in item)
+pub one_back : (edges : List Edge) (b : Bool) (j : Arrival) (y z : Item) (e : Edge) → slice_get edges j.edge ≡ Some e → Back edges b z y j → z ≡ (let item : Item = record { state = e.from; back = y.back ++ option_to_list e.label.right } in item)
 one_back edges b j y z e at h =
     let there : Some h.edge ≡ Some e = sym h.at ∙ at in
     let same : h.edge ≡ e = cc in
@@ -112,7 +156,7 @@ none_in [] e s i = elim i [ ]
 none_in (x ∷ xs) e s i = absurd (omega arith)
 
 -- one round more
-pub closed_more : (edges : List Edge) (links : List ℕ) (items front next items' : List Item) (x : Item) → items' ≡ items ++ front → IsBack edges true links front next
+pub closed_more : (edges : List Edge) (links : List Arrival) (items front next items' : List Item) (x : Item) → items' ≡ items ++ front → IsBack edges true links front next
     → ((z : Item) → BackFrom edges true links items z → IsIn z items ⊎ IsIn z front) → BackFrom edges true links items' x → IsIn x items' ⊎ IsIn x next
 closed_more edges links items front next items' x e back closed f =
     elim (in_either f.item items front (subst (λ (zs : List Item). IsIn f.item zs) e f.listed)) [
@@ -123,7 +167,7 @@ closed_more edges links items front next items' x e back closed f =
       | inr q ↦ inr (back.complete x (record { item = f.item; link = f.link; listed = q; linked = f.linked; back = f.back }))
     ]
 
-pub many_more : (edges : List Edge) (links : List ℕ) (base front next : List Item) (x : Item) → IsBack edges true links front next → ((z : Item) → IsIn z front → BackMany edges links base z) → IsIn x next → BackMany edges links base x
+pub many_more : (edges : List Edge) (links : List Arrival) (base front next : List Item) (x : Item) → IsBack edges true links front next → ((z : Item) → IsIn z front → BackMany edges links base z) → IsIn x next → BackMany edges links base x
 many_more edges links base front next x back sound i =
     let f : BackFrom edges true links front x = back.sound x i in
     onward f.item f.link f.linked f.back (sound f.item f.listed)
@@ -142,18 +186,18 @@ pub stands_first : (m : Machine) (x : Item) → x.state < m.states → Stands m 
 stands_first m x lt = record { below = lt; end = x.state; walk = still refl }
 
 -- back by one round more
-pub stands_more : (m : Machine) (links : List ℕ) (front next : List Item) (round : ℕ) (x : Item) → IsMachine m → IsBack m.edges true links front next → ((z : Item) → IsIn z front → Stands m round z) → IsIn x next → Stands m (round + 1) x
+pub stands_more : (m : Machine) (links : List Arrival) (front next : List Item) (round : ℕ) (x : Item) → IsMachine m → IsBack m.edges true links front next → ((z : Item) → IsIn z front → Stands m round z) → IsIn x next → Stands m (round + 1) x
 stands_more m links front next round x ok back all i =
     let f : BackFrom m.edges true links front x = back.sound x i in
     let s : Stands m round f.item = all f.item f.listed in
     let from : x.state ≡ f.back.edge.from = ap (λ (z : Item). z.state) f.back.is in
-    let lt : f.back.edge.from < m.states = from_in m ok f.link f.back.edge f.back.at in
+    let lt : f.back.edge.from < m.states = from_in m ok f.link.edge f.back.edge f.back.at in
     let n : suc round ≡ round + 1 = omega arith in
     record {
       below = omega arith;
       end = s.end;
       walk = subst (λ (k : ℕ). SilentWalk m.edges x.state k s.end) n
-          (silent_before m.edges x.state round s.end f.link f.back.edge f.back.at (side_none f.back.edge.label.left f.back.sort) from (subst (λ (z : ℕ). SilentWalk m.edges z round s.end) f.back.to_is s.walk));
+          (silent_before m.edges x.state round s.end f.link.edge f.back.edge f.back.at (side_none f.back.edge.label.left f.back.sort) from (subst (λ (z : ℕ). SilentWalk m.edges z round s.end) f.back.to_is s.walk));
     }
 
 pub first_in : {X : Type 0} (xs : List X) → 0 < length xs → (x : X) × IsIn x xs
@@ -168,13 +212,17 @@ round_below m front round law ok none some all =
     let s : Stands m round x = all x i in
     law m ok none x.state round s.end s.walk s.below
 
-pub many_by : (edges : List Edge) (links : List ℕ) (base items front : List Item) → length front ≡ 0 → ((x : Item) → IsIn x items → BackMany edges links base x) → ((x : Item) → IsIn x base → IsIn x items ⊎ IsIn x front)
+pub many_by : (edges : List Edge) (links : List Arrival) (base items front : List Item) → length front ≡ 0 → ((x : Item) → IsIn x items → BackMany edges links base x) → ((x : Item) → IsIn x base → IsIn x items ⊎ IsIn x front)
     → ((x : Item) → BackFrom edges true links items x → IsIn x items ⊎ IsIn x front) → IsBackMany edges links base items
 many_by edges links base items front none sound base_in closed = record {
   sound = sound;
   given_in = λ x i. elim (base_in x i) [ inl q ↦ q | inr q ↦ absurd (none_in front none x q) ];
   closed = λ x f. elim (closed x f) [ inl q ↦ q | inr q ↦ absurd (none_in front none x q) ];
 }
+
+pub many_none : (edges : List Edge) (links : List Arrival) (base : List Item) → length links ≡ 0 → IsBackMany edges links base base
+many_none edges [] base n = record { sound = λ x i. given i; given_in = λ x i. i; closed = λ x f. elim f.linked [ ] }
+many_none edges (a ∷ links) base n = absurd (omega arith)
 
 pub some_left : (answer : Bool) (n : ℕ) → (n ≡ 0 → answer ≡ true) → answer ≡ false → 0 < n
 some_left answer zero h e = let t : answer ≡ true = h refl in cc
@@ -198,21 +246,21 @@ side_clean : (o : Option Symbol) → is_word_side o ≡ true → list_all is_wor
 side_clean None h = refl
 side_clean (Some x) h = both_true (is_word_symbol x) true h refl
 
-clean_step : (m : Machine) (b : Bool) (x y : Item) (j : ℕ) → WritesWords m → Back m.edges b x y j → IsClean y → IsClean x
+clean_step : (m : Machine) (b : Bool) (x y : Item) (j : Arrival) → WritesWords m → Back m.edges b x y j → IsClean y → IsClean x
 clean_step m b x y j writes back clean =
     let is : x.back ≡ y.back ++ option_to_list back.edge.label.right = ap (λ (z : Item). z.back) back.is in
-    ap (list_all is_word_symbol) is ∙ all_both y.back (option_to_list back.edge.label.right) clean (side_clean back.edge.label.right (writes back.edge (in_from_place m.edges j back.edge back.at)))
+    ap (list_all is_word_symbol) is ∙ all_both y.back (option_to_list back.edge.label.right) clean (side_clean back.edge.label.right (writes back.edge (in_from_place m.edges j.edge back.edge back.at)))
 
-pub clean_back : (m : Machine) (b : Bool) (links : List ℕ) (items found : List Item) → WritesWords m → IsBack m.edges b links items found → ((z : Item) → IsIn z items → IsClean z) → (x : Item) → IsIn x found → IsClean x
+pub clean_back : (m : Machine) (b : Bool) (links : List Arrival) (items found : List Item) → WritesWords m → IsBack m.edges b links items found → ((z : Item) → IsIn z items → IsClean z) → (x : Item) → IsIn x found → IsClean x
 clean_back m b links items found writes back all x i =
     let f : BackFrom m.edges b links items x = back.sound x i in
     clean_step m b x f.item f.link writes f.back (all f.item f.listed)
 
-many_clean : (m : Machine) (links : List ℕ) (base : List Item) (x : Item) → WritesWords m → ((z : Item) → IsIn z base → IsClean z) → BackMany m.edges links base x → IsClean x
+many_clean : (m : Machine) (links : List Arrival) (base : List Item) (x : Item) → WritesWords m → ((z : Item) → IsIn z base → IsClean z) → BackMany m.edges links base x → IsClean x
 many_clean m links base x writes all (given i) = all x i
 many_clean m links base x writes all (onward y j linked b more) = clean_step m true x y j writes b (many_clean m links base y writes all more)
 
-pub clean_many : (m : Machine) (links : List ℕ) (base items : List Item) → WritesWords m → IsBackMany m.edges links base items → ((z : Item) → IsIn z base → IsClean z) → (x : Item) → IsIn x items → IsClean x
+pub clean_many : (m : Machine) (links : List Arrival) (base items : List Item) → WritesWords m → IsBackMany m.edges links base items → ((z : Item) → IsIn z base → IsClean z) → (x : Item) → IsIn x items → IsClean x
 clean_many m links base items writes many all x i = many_clean m links base x writes all (many.sound x i)
 
 pub clean_finals : (m : Machine) (states : List ℕ) (items : List Item) → AreFinals m states items → (x : Item) → IsIn x items → IsClean x

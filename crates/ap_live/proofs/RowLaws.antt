@@ -1,4 +1,4 @@
-use Rattle.std.proofs.Common.{◌≡◌, ◌⊎◌, inl, inr, ℕ, ◌+◌, ◌<◌, Bool, true, nat_eq, List, [], ◌∷◌, ◌++◌, refl, sym, ◌∙◌, ap, subst, arith, Some, None, slice_get, length, take, suc, zero, length-append, ◌-◌, ◌≤◌}
+use Rattle.std.proofs.Common.{◌≡◌, ◌⊎◌, inl, inr, ℕ, ◌+◌, ◌<◌, Bool, true, nat_eq, List, [], ◌∷◌, ◌++◌, refl, sym, ◌∙◌, ap, subst, arith, Option, Some, None, slice_get, length, take, suc, zero, length-append, ◌-◌, ◌≤◌}
 use Rattle.std.proofs.lemmas.List.{take-append-le}
 use Rattle.std.proofs.lemmas.Bool.Decides.{nat_tests}
 use Rattle.std.specs.Prelude.{◌↔◌}
@@ -10,10 +10,11 @@ use Rattle.std.proofs.lemmas.List.{length-take-le}
 use Rattle.std.proofs.lemmas.Option.{none-some}
 use Rattle.ap_fst.specs.declared.label.Edge.{Edge}
 use Rattle.ap_live.specs.Fitting.{Input}
-use Rattle.ap_live.specs.Spreads.{Picked, Spread, PickedFrom, From, given, onward, Closed}
-use Rattle.ap_live.specs.Rows.{Reach, begin, silent, taken, Enters, silently, taking, IsRow, IsNext, AreRows}
+use Rattle.ap_live.specs.Spreads.{arrival, Picked, Spread, PickedFrom, From, given, onward, Closed}
+use Rattle.ap_live.specs.Rows.{Reach, begin, silent, taken, EntersSilently, EntersTaking, IsRow, IsFirst, IsNext, IsVoid, AreRows}
+use Rattle.ap_live.specs.declared.arrivals.Arrival.{Arrival}
 use Rattle.ap_live.specs.declared.rows.Row.{Row}
-use Rattle.ap_live.proofs.Spreading.{in_front}
+use Rattle.ap_live.proofs.Spreading.{in_front, spread_nothing}
 
 pub no_snoc : {X : Type 0} (xs : List X) (x : X) → xs ++ x ∷ [] ≡ [] → ⊥
 no_snoc [] x e = cc
@@ -36,13 +37,13 @@ reach_from : (edges : List Edge) (base : List ℕ) (seen : List Input) (s : ℕ)
 reach_from edges base seen s sound (given i) = sound s i
 reach_from edges base seen s sound (onward f j p more) = silent f j p (reach_from edges base seen f sound more)
 
-base_reached : (edges : List Edge) (seen : List Input) (input : Input) (last : Row) (base links : List ℕ) → IsRow edges seen last → Spread edges (Some input) last.states.items [] [] base links
+base_reached : (edges : List Edge) (seen : List Input) (input : Input) (last : Row) (base : List ℕ) (links : List Arrival) → IsRow edges seen last → Spread edges (Some input) last.states.items [] [] base links
     → (x : ℕ) → IsIn x base → Reach edges (seen ++ input ∷ []) x
 base_reached edges seen input last base links row h x i =
     let (j, p) = h.sound x (subst (λ (xs : List ℕ). IsIn x xs) h.grown i) in
     taken seen input p.from j p.picked refl (row.sound p.from p.listed)
 
-in_closed : (edges : List Edge) (base links states' links' : List ℕ) (s : ℕ) → Closed edges base links states' links' → IsIn s base → IsIn s states'
+in_closed : (edges : List Edge) (base : List ℕ) (links : List Arrival) (states' : List ℕ) (links' : List Arrival) (s : ℕ) → Closed edges base links states' links' → IsIn s base → IsIn s states'
 in_closed edges base links states' links' s h i = subst (λ (xs : List ℕ). IsIn s xs) (sym h.spread.grown) (in_front s base h.spread.more i)
 
 next_complete : (edges : List Edge) (seen whole : List Input) (input : Input) (last row : Row) (s : ℕ) → IsRow edges seen last → IsNext edges (Some input) last.states.items row → whole ≡ seen ++ input ∷ []
@@ -56,61 +57,82 @@ next_complete edges seen whole input last row s is next w (taken before input' f
     let p' : Picked edges (Some input) f s j = subst (λ (x : Input). Picked edges (Some x) f s j) parts.1 p in
     let more' : Reach edges seen f = subst (λ (x : List Input). Reach edges x f) parts.0 more in
     let q : PickedFrom edges (Some input) last.states.items s j = record { from = f; listed = is.complete f more'; picked = p' } in
-    in_closed edges next.base next.links row.states.items row.links.items s next.closed (next.taken.complete s j q).0
+    in_closed edges next.base [] row.states.items row.silent.items s next.closed (next.taken.complete s j q).0
 
-next_links : (edges : List Edge) (seen : List Input) (input : Input) (last row : Row) (j : ℕ) → IsRow edges seen last → IsNext edges (Some input) last.states.items row
-    → ((x : ℕ) → IsIn x row.states.items → Reach edges (seen ++ input ∷ []) x) → IsIn j row.links.items → Enters edges (seen ++ input ∷ []) j
-next_links edges seen input last row j is next sound i =
-    elim (next.closed.spread.links_sound j i) [
-      | inl k ↦ elim (next.taken.links_sound j k) [ inl z ↦ elim z [ ] | inr (s, p) ↦ taking seen input p.from s refl p.picked (is.sound p.from p.listed) ]
-      | inr (s, p) ↦ silently p.from s p.picked (sound p.from p.listed)
+-- by empty edges from the states of the row itself
+closed_sound : (edges : List Edge) (seen : List Input) (base : List ℕ) (row : Row) (a : Arrival) → Closed edges base [] row.states.items row.silent.items → ((x : ℕ) → IsIn x row.states.items → Reach edges seen x) → IsIn a row.silent.items
+    → EntersSilently edges seen a.to a.edge
+closed_sound edges seen base row a c sound i =
+    elim (c.spread.links_sound a i) [
+      | inl none ↦ elim none [ ]
+      | inr p ↦ record { from = p.from; picked = p.picked; reached = sound p.from p.listed }
     ]
 
-next_links_complete : (edges : List Edge) (seen whole : List Input) (input : Input) (last row : Row) (j : ℕ) → IsRow edges seen last → IsNext edges (Some input) last.states.items row → whole ≡ seen ++ input ∷ []
-    → Enters edges whole j → IsIn j row.links.items
-next_links_complete edges seen whole input last row j is next w (silently f s p more) =
-    let q : PickedFrom edges None row.states.items s j = record { from = f; listed = next_complete edges seen whole input last row f is next w more; picked = p } in
-    (next.closed.spread.complete s j q).1
-next_links_complete edges seen whole input last row j is next w (taking before input' f s e p more) =
-    let parts : (before ≡ seen) × (input' ≡ input) = snoc_parts before seen input' input (sym e ∙ w) in
-    let p' : Picked edges (Some input) f s j = subst (λ (x : Input). Picked edges (Some x) f s j) parts.1 p in
-    let more' : Reach edges seen f = subst (λ (x : List Input). Reach edges x f) parts.0 more in
-    let q : PickedFrom edges (Some input) last.states.items s j = record { from = f; listed = is.complete f more'; picked = p' } in
-    next.closed.spread.links_kept j (next.taken.complete s j q).1
+closed_complete : (edges : List Edge) (seen : List Input) (base : List ℕ) (row : Row) (s j : ℕ) → Closed edges base [] row.states.items row.silent.items → ((x : ℕ) → Reach edges seen x → IsIn x row.states.items) → EntersSilently edges seen s j
+    → IsIn (arrival s j) row.silent.items
+closed_complete edges seen base row s j c complete e =
+    let q : PickedFrom edges None row.states.items s j = record { from = e.from; listed = complete e.from e.reached; picked = e.picked } in
+    (c.spread.complete s j q).1
+
+next_taken : (edges : List Edge) (seen : List Input) (input : Input) (last row : Row) (a : Arrival) → IsRow edges seen last → IsNext edges (Some input) last.states.items row → IsIn a row.taken.items → EntersTaking edges (seen ++ input ∷ []) a.to a.edge
+next_taken edges seen input last row a is next i =
+    elim (next.taken.links_sound a i) [
+      | inl none ↦ elim none [ ]
+      | inr p ↦ record { before = seen; input = input; from = p.from; whole = refl; picked = p.picked; reached = is.sound p.from p.listed }
+    ]
+
+next_taken_complete : (edges : List Edge) (seen : List Input) (input : Input) (last row : Row) (s j : ℕ) → IsRow edges seen last → IsNext edges (Some input) last.states.items row → EntersTaking edges (seen ++ input ∷ []) s j → IsIn (arrival s j) row.taken.items
+next_taken_complete edges seen input last row s j is next e =
+    let parts : (e.before ≡ seen) × (e.input ≡ input) = snoc_parts e.before seen e.input input (sym e.whole) in
+    let p' : Picked edges (Some input) e.from s j = subst (λ (x : Input). Picked edges (Some x) e.from s j) parts.1 e.picked in
+    let more' : Reach edges seen e.from = subst (λ (x : List Input). Reach edges x e.from) parts.0 e.reached in
+    let q : PickedFrom edges (Some input) last.states.items s j = record { from = e.from; listed = is.complete e.from more'; picked = p' } in
+    (next.taken.complete s j q).1
 
 pub next_is_row : (edges : List Edge) (seen : List Input) (input : Input) (last row : Row) → IsRow edges seen last → IsNext edges (Some input) last.states.items row → IsRow edges (seen ++ input ∷ []) row
 next_is_row edges seen input last row is next =
     let sound : (x : ℕ) → IsIn x row.states.items → Reach edges (seen ++ input ∷ []) x =
-    λ x i. reach_from edges next.base (seen ++ input ∷ []) x (base_reached edges seen input last next.base next.links is next.taken) (next.closed.sound x i) in
+    λ x i. reach_from edges next.base (seen ++ input ∷ []) x (base_reached edges seen input last next.base row.taken.items is next.taken) (next.closed.sound x i) in
+    let complete : (s : ℕ) → Reach edges (seen ++ input ∷ []) s → IsIn s row.states.items = λ s r. next_complete edges seen (seen ++ input ∷ []) input last row s is next refl r in
     record {
       sound = sound;
-      complete = λ s r. next_complete edges seen (seen ++ input ∷ []) input last row s is next refl r;
-      links_sound = λ j i. next_links edges seen input last row j is next sound i;
-      links_complete = λ j e. next_links_complete edges seen (seen ++ input ∷ []) input last row j is next refl e;
+      complete = complete;
+      taken_sound = λ a i. next_taken edges seen input last row a is next i;
+      taken_complete = λ s j e. next_taken_complete edges seen input last row s j is next e;
+      silent_sound = λ a i. closed_sound edges (seen ++ input ∷ []) next.base row a next.closed sound i;
+      silent_complete = λ s j e. closed_complete edges (seen ++ input ∷ []) next.base row s j next.closed complete e;
     }
 
-first_complete : (edges : List Edge) (whole : List Input) (row : Row) (s : ℕ) → Closed edges (0 ∷ []) [] row.states.items row.links.items → whole ≡ [] → Reach edges whole s → IsIn s row.states.items
-first_complete edges whole row s c w (begin e z) = in_closed edges (0 ∷ []) [] row.states.items row.links.items s c (inl z)
+first_complete : (edges : List Edge) (whole : List Input) (row : Row) (s : ℕ) → Closed edges (0 ∷ []) [] row.states.items row.silent.items → whole ≡ [] → Reach edges whole s → IsIn s row.states.items
+first_complete edges whole row s c w (begin e z) = in_closed edges (0 ∷ []) [] row.states.items row.silent.items s c (inl z)
 first_complete edges whole row s c w (silent f j p more) =
     let q : PickedFrom edges None row.states.items s j = record { from = f; listed = first_complete edges whole row f c w more; picked = p } in
     (c.spread.complete s j q).0
 first_complete edges whole row s c w (taken before input f j p e more) = absurd (no_snoc before input (sym e ∙ w))
 
-first_links_complete : (edges : List Edge) (whole : List Input) (row : Row) (j : ℕ) → Closed edges (0 ∷ []) [] row.states.items row.links.items → whole ≡ [] → Enters edges whole j → IsIn j row.links.items
-first_links_complete edges whole row j c w (silently f s p more) =
-    let q : PickedFrom edges None row.states.items s j = record { from = f; listed = first_complete edges whole row f c w more; picked = p } in
-    (c.spread.complete s j q).1
-first_links_complete edges whole row j c w (taking before input f s e p more) = absurd (no_snoc before input (sym e ∙ w))
-
-pub first_is_row : (edges : List Edge) (row : Row) → Closed edges (0 ∷ []) [] row.states.items row.links.items → IsRow edges [] row
-first_is_row edges row c =
+pub first_is_row : (edges : List Edge) (row : Row) → IsFirst edges row → IsRow edges [] row
+first_is_row edges row first =
+    let c : Closed edges (0 ∷ []) [] row.states.items row.silent.items = first.closed in
     let sound : (x : ℕ) → IsIn x row.states.items → Reach edges [] x =
     λ x i. reach_from edges (0 ∷ []) [] x (λ y k. elim k [ inl z ↦ begin refl z | inr z ↦ elim z [ ] ]) (c.sound x i) in
+    let complete : (s : ℕ) → Reach edges [] s → IsIn s row.states.items = λ s r. first_complete edges [] row s c refl r in
     record {
       sound = sound;
-      complete = λ s r. first_complete edges [] row s c refl r;
-      links_sound = λ j i. elim (c.spread.links_sound j i) [ inl z ↦ elim z [ ] | inr (s, p) ↦ silently p.from s p.picked (sound p.from p.listed) ];
-      links_complete = λ j e. first_links_complete edges [] row j c refl e;
+      complete = complete;
+      taken_sound = λ a i. elim (subst (λ (z : List Arrival). IsIn a z) first.taken i) [ ];
+      taken_complete = λ s j e. absurd (no_snoc e.before e.input (sym e.whole));
+      silent_sound = λ a i. closed_sound edges [] (0 ∷ []) row a c sound i;
+      silent_complete = λ s j e. closed_complete edges [] (0 ∷ []) row s j c complete e;
+    }
+
+-- From no state no input leads to a state.
+pub void_next : (edges : List Edge) (pick : Option Input) (row : Row) → IsVoid row → IsNext edges pick row.states.items row
+void_next edges pick row v =
+    let closed : Closed edges [] [] [] [] = record { spread = spread_nothing edges None [] []; sound = λ s i. elim i [ ] } in
+    record {
+      base = [];
+      taken = subst (λ (z : List ℕ). Spread edges pick z [] [] [] row.taken.items) (sym v.states) (subst (λ (z : List Arrival). Spread edges pick [] [] [] [] z) (sym v.taken) (spread_nothing edges pick [] []));
+      closed = subst (λ (z : List ℕ). Closed edges [] [] z row.silent.items) (sym v.states) (subst (λ (z : List Arrival). Closed edges [] [] [] z) (sym v.silent) closed);
     }
 
 -- the last row
@@ -144,7 +166,7 @@ nothing_taken : (k : ℕ) → [] ≡ take k (let none : List Input = [] in none)
 nothing_taken zero = refl
 nothing_taken (suc k) = refl
 
-pub live_first : (edges : List Edge) (rows before : List Row) (row : Row) → Closed edges (0 ∷ []) [] row.states.items row.links.items → before ≡ [] → rows ≡ before ++ row ∷ [] → AreRows edges [] rows
+pub live_first : (edges : List Edge) (rows before : List Row) (row : Row) → IsFirst edges row → before ≡ [] → rows ≡ before ++ row ∷ [] → AreRows edges [] rows
 live_first edges rows before row c none e =
     let e' : rows ≡ row ∷ [] = e ∙ ap (λ x. x ++ row ∷ []) none in
     subst (λ (x : List Row). AreRows edges [] x) (sym e') (record {

@@ -14,7 +14,7 @@ use Rattle.std.specs.Prelude.{◌↔◌}
 use Rattle.std.specs.Ordering.{nat_cmp}
 use Rattle.std.specs.declared.cmp.Ordering.TheVariants.{Less}
 use Rattle.std.specs.List.{dedup, AllByRecursion}
-use Rattle.std.specs.List.Sorted.{IsPermutation, IsSorted, IsStrictlySortedBy}
+use Rattle.std.specs.List.Sorted.{IsPermutation, IsSorted, IsStrictlySortedBy, IsNonDecreasingBy}
 use Rattle.std.proofs.Common.{eqb}
 use Rattle.std.proofs.lemmas.List.Kept.{Contains-from_dedup, Contains-dedup_nat}
 use Rattle.std.proofs.lemmas.Map.Keys.{IsStrictlyIncreasing-dedup, sorted_from_strictly_increasing}
@@ -23,7 +23,8 @@ use Rattle.ap_fst.proofs.PlaceLaws.{less_from_cmp}
 use Rattle.ap_fst.specs.Machines.{Machine, IsMachine}
 use Rattle.ap_fst.specs.declared.label.Edge.{Edge}
 use Rattle.ap_live.specs.Fitting.{Input, picks}
-use Rattle.ap_live.specs.Spreads.{with_state, Adds, SpreadOne, Picked, Spread, PickedFrom, From, given, onward, Closed, AnyPlace, HasLeft, HasLeftBelow}
+use Rattle.ap_live.specs.declared.arrivals.Arrival.{Arrival}
+use Rattle.ap_live.specs.Spreads.{arrival, arrival_to, with_state, Adds, SpreadOne, Picked, Spread, PickedFrom, From, given, onward, Closed, AnyPlace, HasLeft, HasLeftBelow}
 use Rattle.ap_symbol.specs.declared.symbol.Symbol.{Symbol}
 
 pub in_front : {X : Type 0} (x : X) (xs ys : List X) → IsIn x xs → IsIn x (xs ++ ys)
@@ -87,24 +88,26 @@ adds_pushed pick states s states' fits e =
       distinct = λ n d. absurd (fits n);
     })
 
-pub spread_none : (edges : List Edge) (pick : Option Input) (from low : ℕ) (left : Option Symbol) (states links : List ℕ)
+pub spread_none : (edges : List Edge) (pick : Option Input) (from low : ℕ) (left : Option Symbol) (states : List ℕ) (links : List Arrival)
     → ((j : ℕ) (e : Edge) → slice_get edges j ≡ Some e → e.from ≡ from → e.label.left ≡ left → low ≤ j) → SpreadOne edges pick from (HasLeftBelow edges left low) states links states links
 spread_none edges pick from low left states links below = record {
   more = [];
   grown = sym (append-nil states);
   sound = λ s i. elim i [ ];
   complete = λ s j p (l, h). let k : low ≤ j = below j p.edge p.at (sym p.from_is) (l p.edge p.at) in absurd (omega arith);
-  links_sound = λ j i. inl i;
-  links_kept = λ j i. i;
+  links_sound = λ a i. inl i;
+  links_kept = λ a i. i;
   distinct = λ n d. d;
 }
 
 -- an edge more, that is picked
-pub spread_take : (edges : List Edge) (pick : Option Input) (from j j' : ℕ) (left : Option Symbol) (states links states' links' states'' links'' : List ℕ) (e : Edge) → j' ≡ j + 1 → slice_get edges j ≡ Some e → e.from ≡ from
-    → picks pick e ≡ true → Adds pick states' e.to states'' → links'' ≡ links' ++ j ∷ [] → SpreadOne edges pick from (HasLeftBelow edges left j) states links states' links' → SpreadOne edges pick from (HasLeftBelow edges left j') states links states'' links''
+pub spread_take : (edges : List Edge) (pick : Option Input) (from j j' : ℕ) (left : Option Symbol) (states : List ℕ) (links : List Arrival) (states' : List ℕ) (links' : List Arrival) (states'' : List ℕ) (links'' : List Arrival) (e : Edge) → j' ≡ j + 1 → slice_get edges j ≡ Some e → e.from ≡ from
+    → picks pick e ≡ true → Adds pick states' e.to states'' → links'' ≡ links' ++ arrival e.to j ∷ [] → SpreadOne edges pick from (HasLeftBelow edges left j) states links states' links' → SpreadOne edges pick from (HasLeftBelow edges left j') states links states'' links''
 spread_take edges pick from j j' left states links states' links' states'' links'' e n at leaves good a linked h =
     let p' : Picked edges pick from e.to j = record { edge = e; at = at; from_is = sym leaves; to_is = refl; passes = good } in
+    let new : Arrival = arrival e.to j in
     let S : List ℕ → ℕ → Type 0 = λ xs s. IsIn s xs in
+    let L : List Arrival → Arrival → Type 0 = λ xs x. IsIn x xs in
     record {
       more = h.more ++ a.more;
       grown = a.grown ∙ ap (λ x. x ++ a.more) h.grown ∙ append_assoc states h.more a.more;
@@ -113,28 +116,28 @@ spread_take edges pick from j j' left states links states' links' states'' links
         | inr k ↦ (j, (let Q : ℕ → Type 0 = λ x. Picked edges pick from x j in subst Q (sym (a.only s k)) p'))
       ];
       complete = λ s k p (l, lt). elim (cases_lt k j) [
-        | inl below ↦ let both : IsIn s states' × IsIn k links' = h.complete s k p (l, below) in (
+        | inl below ↦ let both : IsIn s states' × IsIn (arrival s k) links' = h.complete s k p (l, below) in (
           subst (λ (xs : List ℕ). S xs s) (sym a.grown) (in_front s states' a.more both.0),
-          subst (λ (xs : List ℕ). S xs k) (sym linked) (in_front k links' (j ∷ []) both.1),
+          subst (λ (xs : List Arrival). L xs (arrival s k)) (sym linked) (in_front (arrival s k) links' (new ∷ []) both.1),
         )
         | inr le ↦ let same : k ≡ j = omega arith in
             let there : Some p.edge ≡ Some e = sym p.at ∙ ap (slice_get edges) same ∙ at in
             let alike : p.edge ≡ e = cc in
             let to : s ≡ e.to = p.to_is ∙ ap (λ (x : Edge). x.to) alike in (
               subst (λ (x : ℕ). S states'' x) (sym to) a.there,
-              subst (λ (xs : List ℕ). S xs k) (sym linked) (in_back k links' (j ∷ []) (inl same)),
+              subst (λ (xs : List Arrival). L xs (arrival s k)) (sym linked) (in_back (arrival s k) links' (new ∷ []) (inl (ap (λ x. arrival x k) to ∙ ap (λ x. arrival e.to x) same))),
             )
       ];
-      links_sound = λ k i. elim (in_either k links' (j ∷ []) (subst (λ (xs : List ℕ). S xs k) linked i)) [
-        | inl x ↦ h.links_sound k x
-        | inr x ↦ elim x [ inl q ↦ inr (e.to, (let Q : ℕ → Type 0 = λ x. Picked edges pick from e.to x in subst Q (sym q) p')) | inr z ↦ elim z [ ] ]
+      links_sound = λ b i. elim (in_either b links' (new ∷ []) (subst (λ (xs : List Arrival). L xs b) linked i)) [
+        | inl x ↦ h.links_sound b x
+        | inr x ↦ elim x [ inl q ↦ inr (let Q : Arrival → Type 0 = λ x. Picked edges pick from x.to x.edge in subst Q (sym q) p') | inr z ↦ elim z [ ] ]
       ];
-      links_kept = λ k i. subst (λ (xs : List ℕ). S xs k) (sym linked) (in_front k links' (j ∷ []) (h.links_kept k i));
+      links_kept = λ b i. subst (λ (xs : List Arrival). L xs b) (sym linked) (in_front b links' (new ∷ []) (h.links_kept b i));
       distinct = λ n d. a.distinct n (h.distinct n d);
     }
 
 -- other places are seen, where each of them that is picked was seen
-pub spread_seen : (edges : List Edge) (pick : Option Input) (from : ℕ) (seen seen' : ℕ → Type 0) (states links states' links' : List ℕ) → ((s j : ℕ) → Picked edges pick from s j → seen' j → seen j)
+pub spread_seen : (edges : List Edge) (pick : Option Input) (from : ℕ) (seen seen' : ℕ → Type 0) (states : List ℕ) (links : List Arrival) (states' : List ℕ) (links' : List Arrival) → ((s j : ℕ) → Picked edges pick from s j → seen' j → seen j)
     → SpreadOne edges pick from seen states links states' links' → SpreadOne edges pick from seen' states links states' links'
 spread_seen edges pick from seen seen' states links states' links' was h = record {
   more = h.more;
@@ -147,29 +150,29 @@ spread_seen edges pick from seen seen' states links states' links' was h = recor
 }
 
 -- all edges of the state with the left side are seen
-pub spread_left : (edges : List Edge) (pick : Option Input) (from high top : ℕ) (left : Option Symbol) (states links states' links' : List ℕ) → high ≤ top → ((j : ℕ) (e : Edge) → slice_get edges j ≡ Some e → e.from ≡ from → e.label.left ≡ left → j < high)
+pub spread_left : (edges : List Edge) (pick : Option Input) (from high top : ℕ) (left : Option Symbol) (states : List ℕ) (links : List Arrival) (states' : List ℕ) (links' : List Arrival) → high ≤ top → ((j : ℕ) (e : Edge) → slice_get edges j ≡ Some e → e.from ≡ from → e.label.left ≡ left → j < high)
     → SpreadOne edges pick from (HasLeftBelow edges left top) states links states' links' → SpreadOne edges pick from (HasLeft edges left) states links states' links'
 spread_left edges pick from high top left states links states' links' le above h =
     spread_seen edges pick from (HasLeftBelow edges left top) (HasLeft edges left) states links states' links' (λ s j p l. (l, (let k : j < high = above j p.edge p.at (sym p.from_is) (l p.edge p.at) in omega arith))) h
 
 -- at some places, and then at others
-pub spread_two : (edges : List Edge) (pick : Option Input) (from : ℕ) (seen seen' : ℕ → Type 0) (states links states' links' states'' links'' : List ℕ) → ((s j : ℕ) → Picked edges pick from s j → seen j ⊎ seen' j)
+pub spread_two : (edges : List Edge) (pick : Option Input) (from : ℕ) (seen seen' : ℕ → Type 0) (states : List ℕ) (links : List Arrival) (states' : List ℕ) (links' : List Arrival) (states'' : List ℕ) (links'' : List Arrival) → ((s j : ℕ) → Picked edges pick from s j → seen j ⊎ seen' j)
     → SpreadOne edges pick from seen states links states' links' → SpreadOne edges pick from seen' states' links' states'' links'' → SpreadOne edges pick from AnyPlace states links states'' links''
 spread_two edges pick from seen seen' states links states' links' states'' links'' either h k = record {
   more = h.more ++ k.more;
   grown = k.grown ∙ ap (λ x. x ++ k.more) h.grown ∙ append_assoc states h.more k.more;
   sound = λ s i. elim (in_either s h.more k.more i) [ inl x ↦ h.sound s x | inr x ↦ k.sound s x ];
   complete = λ s j p any. elim (either s j p) [
-    | inl q ↦ let both : IsIn s states' × IsIn j links' = h.complete s j p q in (subst (λ (xs : List ℕ). IsIn s xs) (sym k.grown) (in_front s states' k.more both.0), k.links_kept j both.1)
+    | inl q ↦ let both : IsIn s states' × IsIn (arrival s j) links' = h.complete s j p q in (subst (λ (xs : List ℕ). IsIn s xs) (sym k.grown) (in_front s states' k.more both.0), k.links_kept (arrival s j) both.1)
     | inr q ↦ k.complete s j p q
   ];
-  links_sound = λ j i. elim (k.links_sound j i) [ inl x ↦ h.links_sound j x | inr x ↦ inr x ];
-  links_kept = λ j i. k.links_kept j (h.links_kept j i);
+  links_sound = λ a i. elim (k.links_sound a i) [ inl x ↦ h.links_sound a x | inr x ↦ inr x ];
+  links_kept = λ a i. k.links_kept a (h.links_kept a i);
   distinct = λ n d. k.distinct n (h.distinct n d);
 }
 
 -- from one state
-pub spread_one : (edges : List Edge) (pick : Option Input) (from : ℕ) (states links states' links' : List ℕ) → SpreadOne edges pick from AnyPlace states links states' links' → Spread edges pick (from ∷ []) states links states' links'
+pub spread_one : (edges : List Edge) (pick : Option Input) (from : ℕ) (states : List ℕ) (links : List Arrival) (states' : List ℕ) (links' : List Arrival) → SpreadOne edges pick from AnyPlace states links states' links' → Spread edges pick (from ∷ []) states links states' links'
 spread_one edges pick from states links states' links' h = record {
   more = h.more;
   grown = h.grown;
@@ -177,19 +180,19 @@ spread_one edges pick from states links states' links' h = record {
   complete = λ s j p. let is : p.from ≡ from = elim p.listed [ inl e ↦ e | inr z ↦ elim z [ ] ] in
       let q : Picked edges pick from s j = subst (λ (x : ℕ). Picked edges pick x s j) is p.picked in
       h.complete s j q tt;
-  links_sound = λ j i. elim (h.links_sound j i) [ inl k ↦ inl k | inr (s, p) ↦ inr (s, (let r : PickedFrom edges pick (from ∷ []) s j = record { from = from; listed = inl refl; picked = p } in r)) ];
+  links_sound = λ a i. elim (h.links_sound a i) [ inl k ↦ inl k | inr p ↦ inr (let r : PickedFrom edges pick (from ∷ []) a.to a.edge = record { from = from; listed = inl refl; picked = p } in r) ];
   links_kept = h.links_kept;
   distinct = h.distinct;
 }
 
-pub spread_nothing : (edges : List Edge) (pick : Option Input) (states links : List ℕ) → Spread edges pick [] states links states links
+pub spread_nothing : (edges : List Edge) (pick : Option Input) (states : List ℕ) (links : List Arrival) → Spread edges pick [] states links states links
 spread_nothing edges pick states links = record {
   more = [];
   grown = sym (append-nil states);
   sound = λ s i. elim i [ ];
   complete = λ s j p. elim p.listed [ ];
-  links_sound = λ j i. inl i;
-  links_kept = λ j i. i;
+  links_sound = λ a i. inl i;
+  links_kept = λ a i. i;
   distinct = λ n d. d;
 }
 
@@ -200,7 +203,7 @@ from_back : (edges : List Edge) (pick : Option Input) (a b : List ℕ) (s j : �
 from_back edges pick a b s j p = record { from = p.from; listed = in_back p.from a b p.listed; picked = p.picked }
 
 -- from some states, and then from others
-pub spread_then : (edges : List Edge) (pick : Option Input) (a b states links states' links' states'' links'' : List ℕ) → Spread edges pick a states links states' links' → Spread edges pick b states' links' states'' links''
+pub spread_then : (edges : List Edge) (pick : Option Input) (a b states : List ℕ) (links : List Arrival) (states' : List ℕ) (links' : List Arrival) (states'' : List ℕ) (links'' : List Arrival) → Spread edges pick a states links states' links' → Spread edges pick b states' links' states'' links''
     → Spread edges pick (a ++ b) states links states'' links''
 spread_then edges pick a b states links states' links' states'' links'' h k =
     let S : ℕ → List ℕ → Type 0 = λ s xs. IsIn s xs in
@@ -213,19 +216,19 @@ spread_then edges pick a b states links states' links' states'' links'' h k =
       ];
       complete = λ s j p. elim (in_either p.from a b p.listed) [
         | inl x ↦ let q : PickedFrom edges pick a s j = record { from = p.from; listed = x; picked = p.picked } in
-            let both : IsIn s states' × IsIn j links' = h.complete s j q in
-            (subst (λ (xs : List ℕ). S s xs) (sym k.grown) (in_front s states' k.more both.0), k.links_kept j both.1)
+            let both : IsIn s states' × IsIn (arrival s j) links' = h.complete s j q in
+            (subst (λ (xs : List ℕ). S s xs) (sym k.grown) (in_front s states' k.more both.0), k.links_kept (arrival s j) both.1)
         | inr x ↦ let q : PickedFrom edges pick b s j = record { from = p.from; listed = x; picked = p.picked } in k.complete s j q
       ];
-      links_sound = λ j i. elim (k.links_sound j i) [
-        | inl x ↦ elim (h.links_sound j x) [ inl y ↦ inl y | inr (s, p) ↦ inr (s, from_front edges pick a b s j p) ]
-        | inr (s, p) ↦ inr (s, from_back edges pick a b s j p)
+      links_sound = λ x i. elim (k.links_sound x i) [
+        | inl y ↦ elim (h.links_sound x y) [ inl z ↦ inl z | inr p ↦ inr (from_front edges pick a b x.to x.edge p) ]
+        | inr p ↦ inr (from_back edges pick a b x.to x.edge p)
       ];
-      links_kept = λ j i. k.links_kept j (h.links_kept j i);
+      links_kept = λ x i. k.links_kept x (h.links_kept x i);
       distinct = λ n d. k.distinct n (h.distinct n d);
     }
 
-pub spread_item : (edges : List Edge) (pick : Option Input) (froms : List ℕ) (from i : ℕ) (states links states' links' states'' links'' : List ℕ) → i < length froms → from ≡ get_or froms i 0
+pub spread_item : (edges : List Edge) (pick : Option Input) (froms : List ℕ) (from i : ℕ) (states : List ℕ) (links : List Arrival) (states' : List ℕ) (links' : List Arrival) (states'' : List ℕ) (links'' : List Arrival) → i < length froms → from ≡ get_or froms i 0
     → Spread edges pick (take i froms) states links states' links' → SpreadOne edges pick from AnyPlace states' links' states'' links''
     → Spread edges pick (take (i + 1) froms) states links states'' links''
 spread_item edges pick froms from i states links states' links' states'' links'' lt is h k =
@@ -235,7 +238,7 @@ spread_item edges pick froms from i states links states' links' states'' links''
     (spread_one edges pick from states' links' states'' links'' k))
 
 -- the worklist: the first states are spread already
-pub close_step : (edges : List Edge) (base states links0 links states' links' : List ℕ) (from i : ℕ) → i < length states → from ≡ get_or states i 0
+pub close_step : (edges : List Edge) (base states : List ℕ) (links0 links : List Arrival) (states' : List ℕ) (links' : List Arrival) (from i : ℕ) → i < length states → from ≡ get_or states i 0
     → Spread edges None (take i states) base links0 states links → SpreadOne edges None from AnyPlace states links states' links'
     → Spread edges None (take (i + 1) states') base links0 states' links'
 close_step edges base states links0 links states' links' from i lt is h k =
@@ -243,7 +246,7 @@ close_step edges base states links0 links states' links' from i lt is h k =
     subst (λ (a : List ℕ). Spread edges None a base links0 states' links') (sym e)
     (spread_item edges None states from i base links0 states links states' links' lt is h k)
 
-pub close_sound : (edges : List Edge) (base states links states' links' : List ℕ) (from : ℕ) → IsIn from states → ((s : ℕ) → IsIn s states → From edges base s)
+pub close_sound : (edges : List Edge) (base states : List ℕ) (links : List Arrival) (states' : List ℕ) (links' : List Arrival) (from : ℕ) → IsIn from states → ((s : ℕ) → IsIn s states → From edges base s)
     → SpreadOne edges None from AnyPlace states links states' links' → (s : ℕ) → IsIn s states' → From edges base s
 close_sound edges base states links states' links' from listed sound k s i =
     elim (in_either s states k.more (subst (λ (xs : List ℕ). IsIn s xs) k.grown i)) [
@@ -271,13 +274,13 @@ pub few_states : (edges : List Edge) (base states : List ℕ) (n : ℕ) → ((x 
 few_states edges base states n below to_in distinct sound =
     length-le_from_distinct_below states n distinct (λ q h. from_below edges base n q below to_in (sound q (any_in q states h)))
 
-pub closed_by : (edges : List Edge) (base links states' links' : List ℕ) (i : ℕ) → i ≡ length states' → Spread edges None (take i states') base links states' links' → ((s : ℕ) → IsIn s states' → From edges base s)
+pub closed_by : (edges : List Edge) (base : List ℕ) (links : List Arrival) (states' : List ℕ) (links' : List Arrival) (i : ℕ) → i ≡ length states' → Spread edges None (take i states') base links states' links' → ((s : ℕ) → IsIn s states' → From edges base s)
     → Closed edges base links states' links'
 closed_by edges base links states' links' i le h sound =
     record { spread = subst (λ (a : List ℕ). Spread edges None a base links states' links') (ap (λ n. take n states') le ∙ take-length states') h; sound = sound }
 
 -- the base of a row is below the number of states
-pub spread_below : (edges : List Edge) (pick : Option Input) (froms base links : List ℕ) (n : ℕ) → ((j : ℕ) (e : Edge) → slice_get edges j ≡ Some e → e.to < n) → Spread edges pick froms [] [] base links → (s : ℕ) → IsIn s base → s < n
+pub spread_below : (edges : List Edge) (pick : Option Input) (froms base : List ℕ) (links : List Arrival) (n : ℕ) → ((j : ℕ) (e : Edge) → slice_get edges j ≡ Some e → e.to < n) → Spread edges pick froms [] [] base links → (s : ℕ) → IsIn s base → s < n
 spread_below edges pick froms base links n to_in h s i =
     let (j, p) = h.sound s (subst (λ (xs : List ℕ). IsIn s xs) h.grown i) in
     let below : p.picked.edge.to < n = to_in j p.picked.edge p.picked.at in
@@ -286,9 +289,9 @@ spread_below edges pick froms base links n to_in h s i =
 pub longer : (states states' more : List ℕ) (i : ℕ) → states' ≡ states ++ more → i < length states → i + 1 ≤ length states'
 longer states states' more i e h = omega (arith, ap (length {A = ℕ}) e, length-append states more)
 
-pub spread_fresh : (edges : List Edge) (pick : Option Input) (froms a b base links : List ℕ) → a ≡ [] → b ≡ [] → Spread edges pick froms a b base links → Spread edges pick froms [] [] base links
+pub spread_fresh : (edges : List Edge) (pick : Option Input) (froms a : List ℕ) (b : List Arrival) (base : List ℕ) (links : List Arrival) → a ≡ [] → b ≡ [] → Spread edges pick froms a b base links → Spread edges pick froms [] [] base links
 spread_fresh edges pick froms a b base links ea eb h =
-    subst (λ (x : List ℕ). Spread edges pick froms x [] base links) ea (subst (λ (x : List ℕ). Spread edges pick froms a x base links) eb h)
+    subst (λ (x : List ℕ). Spread edges pick froms x [] base links) ea (subst (λ (x : List Arrival). Spread edges pick froms a x base links) eb h)
 
 pub none_twice : IsDistinct nat_eq (let none : List ℕ = [] in none)
 unfolding IsDistinct
@@ -297,17 +300,38 @@ none_twice = tt
 pub start_distinct : (xs : List ℕ) → xs ≡ [] → IsDistinct nat_eq (xs ++ 0 ∷ [])
 start_distinct xs e = subst (λ (x : List ℕ). IsDistinct nat_eq (x ++ 0 ∷ [])) (sym e) (IsDistinct-push nat_eq_equiv [] 0 none_twice refl)
 
--- the states put into order, each once
-pub spread_sorted : (edges : List Edge) (pick : Option Input) (froms raw base links : List ℕ) → ((s : ℕ) → IsIn s base ↔ IsIn s raw) → IsDistinct nat_eq base → Spread edges pick froms [] [] raw links → Spread edges pick froms [] [] base links
-spread_sorted edges pick froms raw base links same distinct h = record {
+pub none_ordered : IsNonDecreasingBy arrival_to []
+none_ordered i j d le lt = absurd (omega arith)
+
+-- the states put into order, each once, and the arrivals put into order
+pub spread_sorted : (edges : List Edge) (pick : Option Input) (froms raw base : List ℕ) (links links' : List Arrival) → ((s : ℕ) → IsIn s base ↔ IsIn s raw) → IsDistinct nat_eq base → ((a : Arrival) → IsIn a links' ↔ IsIn a links) → Spread edges pick froms [] [] raw links
+    → Spread edges pick froms [] [] base links'
+spread_sorted edges pick froms raw base links links' same distinct alike h = record {
   more = base;
   grown = refl;
   sound = λ s i. h.sound s (subst (λ (z : List ℕ). IsIn s z) h.grown ((same s).0 i));
-  complete = λ s j p. let q : IsIn s raw × IsIn j links = h.complete s j p in ((same s).1 q.0, q.1);
-  links_sound = h.links_sound;
-  links_kept = h.links_kept;
+  complete = λ s j p. let q : IsIn s raw × IsIn (arrival s j) links = h.complete s j p in ((same s).1 q.0, (alike (arrival s j)).1 q.1);
+  links_sound = λ a i. h.links_sound a ((alike a).0 i);
+  links_kept = λ a i. (alike a).1 (h.links_kept a i);
   distinct = λ n d. distinct;
 }
+
+-- the arrivals by empty edges put into order
+pub closed_sorted : (edges : List Edge) (base : List ℕ) (none : List Arrival) (states : List ℕ) (links links' : List Arrival) → none ≡ [] → ((a : Arrival) → IsIn a links' ↔ IsIn a links) → Closed edges base none states links → Closed edges base [] states links'
+closed_sorted edges base none states links links' e alike h =
+    let h' : Closed edges base [] states links = subst (λ (x : List Arrival). Closed edges base x states links) e h in
+    record {
+      spread = record {
+        more = h'.spread.more;
+        grown = h'.spread.grown;
+        sound = h'.spread.sound;
+        complete = λ s j p. let q : IsIn s states × IsIn (arrival s j) links = h'.spread.complete s j p in (q.0, (alike (arrival s j)).1 q.1);
+        links_sound = λ a i. h'.spread.links_sound a ((alike a).0 i);
+        links_kept = λ a i. elim i [ ];
+        distinct = h'.spread.distinct;
+      };
+      sound = h'.sound;
+    }
 
 pub state_members : (old xs ys : List ℕ) → IsPermutation old xs → ys ≡ dedup eqb xs → (s : ℕ) → IsIn s ys ↔ IsIn s old
 state_members old xs ys p e s =

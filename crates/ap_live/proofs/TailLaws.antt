@@ -9,11 +9,12 @@ use Rattle.ap_fst.specs.Lists.{IsIn}
 use Rattle.ap_fst.specs.Machines.{Machine}
 use Rattle.ap_fst.specs.declared.label.Edge.{Edge}
 use Rattle.ap_live.specs.Fitting.{Input, picks, is_empty_side, fits_side}
-use Rattle.ap_live.specs.Spreads.{Picked}
-use Rattle.ap_live.specs.Rows.{Reach, begin, Enters, silently, taking, IsRow, AreRows}
+use Rattle.ap_live.specs.Spreads.{Picked, arrival}
+use Rattle.ap_live.specs.Rows.{Reach, begin, EntersSilently, EntersTaking, IsRow, AreRows}
 use Rattle.ap_live.specs.Tails.{Tail, stop, BaseTail, stops, takes, AreBase, AreItems, AreFinals, AreBacks, Back, BackFrom, IsBack, IsBackMany, BackMany, given, onward}
 use Rattle.ap_live.specs.Tails as tails
 use Rattle.ap_live.specs.Rows as rows
+use Rattle.ap_live.specs.declared.arrivals.Arrival.{Arrival}
 use Rattle.ap_live.specs.declared.backward.Item.{Item}
 use Rattle.ap_live.specs.declared.rows.Row.{Row}
 use Rattle.ap_live.proofs.RowLaws.{snoc_parts}
@@ -25,26 +26,26 @@ item_same : (s t : ℕ) (a b : List Symbol) → s ≡ t → a ≡ b → item s a
 item_same s t a b e f = ap (λ x. item x a) e ∙ ap (λ y. item t y) f
 
 -- an empty edge back is an empty edge on
-abbrev back_picked : (m : Machine) (x y : Item) (j : ℕ) → Back m.edges true x y j → Picked m.edges None x.state y.state j
+abbrev back_picked : (m : Machine) (x y : Item) (j : Arrival) → Back m.edges true x y j → Picked m.edges None x.state y.state j.edge
 back_picked m x y j b = record { edge = b.edge; at = b.at; from_is = ap (λ (z : Item). z.state) b.is; to_is = b.to_is; passes = b.sort }
 
-many_tail : (m : Machine) (seen later : List Input) (links : List ℕ) (base : List Item) (x : Item) → AreBase m seen later base → BackMany m.edges links base x → Tail m later x.state x.back
+many_tail : (m : Machine) (seen later : List Input) (links : List Arrival) (base : List Item) (x : Item) → AreBase m seen later base → BackMany m.edges links base x → Tail m later x.state x.back
 many_tail m seen later links base x is (given i) = is.sound x i
 many_tail m seen later links base x is (onward y j linked b more) =
-    tails.silent y.state j y.back (back_picked m x y j b) (ap (λ (z : Item). z.back) b.is) (many_tail m seen later links base y is more)
+    tails.silent y.state j.edge y.back (back_picked m x y j b) (ap (λ (z : Item). z.back) b.is) (many_tail m seen later links base y is more)
 
-many_complete : (m : Machine) (seen later : List Input) (row : Row) (base items : List Item) (s : ℕ) (back : List Symbol) → IsRow m.edges seen row → AreBase m seen later base → IsBackMany m.edges row.links.items base items
+many_complete : (m : Machine) (seen later : List Input) (row : Row) (base items : List Item) (s : ℕ) (back : List Symbol) → IsRow m.edges seen row → AreBase m seen later base → IsBackMany m.edges row.silent.items base items
     → Reach m.edges seen s → Tail m later s back → IsIn (item s back) items
 many_complete m seen later row base items s back row_is is many reach (stop e f z) = many.given_in (item s back) (is.complete (item s back) reach (stops e f z))
 many_complete m seen later row base items s back row_is is many reach (tails.taken input more t j rest e p w tail) = many.given_in (item s back) (is.complete (item s back) reach (takes input more t j rest e p w tail))
 many_complete m seen later row base items s back row_is is many reach (tails.silent t j rest p w tail) =
     let there : IsIn (item t rest) items = many_complete m seen later row base items t rest row_is is many (rows.silent s j p reach) tail in
-    let b : Back m.edges true (item s back) (item t rest) j = record { edge = p.edge; at = p.at; to_is = p.to_is; sort = p.passes; is = item_same s p.edge.from back (rest ++ option_to_list p.edge.label.right) p.from_is w } in
-    many.closed (item s back) (record { item = item t rest; link = j; listed = there; linked = row_is.links_complete j (silently s t p reach); back = b })
+    let b : Back m.edges true (item s back) (item t rest) (arrival t j) = record { edge = p.edge; at = p.at; to_is = p.to_is; arrives = p.to_is; sort = p.passes; is = item_same s p.edge.from back (rest ++ option_to_list p.edge.label.right) p.from_is w } in
+    many.closed (item s back) (record { item = item t rest; link = arrival t j; listed = there; linked = row_is.silent_complete t j (record { from = s; picked = p; reached = reach }); back = b })
 
-pub items_closed : (m : Machine) (seen later : List Input) (row : Row) (base items : List Item) → IsRow m.edges seen row → AreBase m seen later base → IsBackMany m.edges row.links.items base items → AreItems m seen later items
+pub items_closed : (m : Machine) (seen later : List Input) (row : Row) (base items : List Item) → IsRow m.edges seen row → AreBase m seen later base → IsBackMany m.edges row.silent.items base items → AreItems m seen later items
 items_closed m seen later row base items row_is is many = record {
-  sound = λ x i. many_tail m seen later row.links.items base x is (many.sound x i);
+  sound = λ x i. many_tail m seen later row.silent.items base x is (many.sound x i);
   complete = λ x reach tail. many_complete m seen later row base items x.state x.back row_is is many reach tail;
 }
 
@@ -53,29 +54,19 @@ not_empty input None e = cc
 not_empty input (Some x) e = refl
 
 -- the step back over one input
-entered : (m : Machine) (seen whole later : List Input) (input : Input) (items : List Item) (x : Item) {links : List ℕ} → whole ≡ seen ++ input ∷ [] → AreItems m whole later items
-    → (f : BackFrom m.edges false links items x) → Enters m.edges whole f.link → Tail m (input ∷ later) x.state x.back
-entered m seen whole later input items x w is f (silently g s p reach) =
-    let there : Some p.edge ≡ Some f.back.edge = sym p.at ∙ f.back.at in
-    let same : p.edge ≡ f.back.edge = cc in
-    let yes' : is_empty_side f.back.edge.label.left ≡ true = ap (λ (e : Edge). is_empty_side e.label.left) (sym same) ∙ p.passes in
-    let no' : is_empty_side f.back.edge.label.left ≡ false = f.back.sort in
-    absurd (cc)
-entered m seen whole later input items x w is f (taking before input' g s e p reach) =
-    let there : Some p.edge ≡ Some f.back.edge = sym p.at ∙ f.back.at in
-    let same : p.edge ≡ f.back.edge = cc in
-    let parts = snoc_parts before seen input' input (sym e ∙ w) in
-    let passes : picks (Some input) f.back.edge ≡ true = subst (λ (i : Input). picks (Some i) f.back.edge ≡ true) parts.1 (ap (picks (Some input')) (sym same) ∙ p.passes) in
-    let q : Picked m.edges (Some input) x.state f.item.state f.link = record { edge = f.back.edge; at = f.back.at; from_is = ap (λ (z : Item). z.state) f.back.is; to_is = f.back.to_is; passes = passes } in
-    tails.taken input later f.item.state f.link f.item.back refl q (ap (λ (z : Item). z.back) f.back.is) (is.sound f.item f.listed)
-
-base_sound : (m : Machine) (seen whole later : List Input) (input : Input) (row : Row) (items : List Item) (x : Item) → whole ≡ seen ++ input ∷ [] → IsRow m.edges whole row → AreItems m whole later items
-    → BackFrom m.edges false row.links.items items x → Tail m (input ∷ later) x.state x.back
-base_sound m seen whole later input row items x w row_is is f =
-    entered m seen whole later input items x w is f (row_is.links_sound f.link f.linked)
+base_sound : (m : Machine) (seen later : List Input) (input : Input) (row : Row) (items : List Item) (x : Item) → IsRow m.edges (seen ++ input ∷ []) row → AreItems m (seen ++ input ∷ []) later items
+    → BackFrom m.edges false row.taken.items items x → Tail m (input ∷ later) x.state x.back
+base_sound m seen later input row items x row_is is f =
+    let e : EntersTaking m.edges (seen ++ input ∷ []) f.link.to f.link.edge = row_is.taken_sound f.link f.linked in
+    let there : Some e.picked.edge ≡ Some f.back.edge = sym e.picked.at ∙ f.back.at in
+    let same : e.picked.edge ≡ f.back.edge = cc in
+    let parts = snoc_parts e.before seen e.input input (sym e.whole) in
+    let passes : picks (Some input) f.back.edge ≡ true = subst (λ (i : Input). picks (Some i) f.back.edge ≡ true) parts.1 (ap (picks (Some e.input)) (sym same) ∙ e.picked.passes) in
+    let q : Picked m.edges (Some input) x.state f.item.state f.link.edge = record { edge = f.back.edge; at = f.back.at; from_is = ap (λ (z : Item). z.state) f.back.is; to_is = f.back.to_is; passes = passes } in
+    tails.taken input later f.item.state f.link.edge f.item.back refl q (ap (λ (z : Item). z.back) f.back.is) (is.sound f.item f.listed)
 
 base_complete : (m : Machine) (seen later all : List Input) (input : Input) (row : Row) (items : List Item) (x : Item) → IsRow m.edges (seen ++ input ∷ []) row → AreItems m (seen ++ input ∷ []) later items
-    → Reach m.edges seen x.state → all ≡ input ∷ later → BaseTail m all x.state x.back → BackFrom m.edges false row.links.items items x
+    → Reach m.edges seen x.state → all ≡ input ∷ later → BaseTail m all x.state x.back → BackFrom m.edges false row.taken.items items x
 base_complete m seen later all input row items x row_is is reach a (stops e f z) = let none : input ∷ later ≡ [] = sym a ∙ e in absurd (cc)
 base_complete m seen later all input row items x row_is is reach a (takes input' more t j rest e p w tail) =
     let both : input' ∷ more ≡ input ∷ later = sym e ∙ a in
@@ -86,16 +77,16 @@ base_complete m seen later all input row items x row_is is reach a (takes input'
     let there : IsIn (item t rest) items = is.complete (item t rest) (rows.taken seen input x.state j q refl reach) tail' in
     record {
       item = item t rest;
-      link = j;
+      link = arrival t j;
       listed = there;
-      linked = row_is.links_complete j (taking seen input x.state t refl q reach);
-      back = record { edge = p.edge; at = p.at; to_is = p.to_is; sort = not_empty input p.edge.label.left q.passes; is = item_same x.state p.edge.from x.back (rest ++ option_to_list p.edge.label.right) p.from_is w };
+      linked = row_is.taken_complete t j (record { before = seen; input = input; from = x.state; whole = refl; picked = q; reached = reach });
+      back = record { edge = p.edge; at = p.at; to_is = p.to_is; arrives = p.to_is; sort = not_empty input p.edge.label.left q.passes; is = item_same x.state p.edge.from x.back (rest ++ option_to_list p.edge.label.right) p.from_is w };
     }
 
 pub base_before : (m : Machine) (seen later : List Input) (input : Input) (row : Row) (items base : List Item) → IsRow m.edges (seen ++ input ∷ []) row → AreItems m (seen ++ input ∷ []) later items
-    → IsBack m.edges false row.links.items items base → AreBase m seen (input ∷ later) base
+    → IsBack m.edges false row.taken.items items base → AreBase m seen (input ∷ later) base
 base_before m seen later input row items base row_is is back = record {
-  sound = λ x i. base_sound m seen (seen ++ input ∷ []) later input row items x refl row_is is (back.sound x i);
+  sound = λ x i. base_sound m seen later input row items x row_is is (back.sound x i);
   complete = λ x reach tail. back.complete x (base_complete m seen later (input ∷ later) input row items x row_is is reach refl tail);
 }
 
@@ -203,7 +194,7 @@ take-none (x ∷ xs) = refl
 
 -- the rows, from the last back to the first
 pub items_last : (m : Machine) (seen : List Input) (rws : List Row) (row : Row) (at : ℕ) (base items : List Item) → AreRows m.edges seen rws → at + 1 ≡ length rws → slice_get rws at ≡ Some row
-    → AreFinals m row.states.items base → IsBackMany m.edges row.links.items base items → AreItems m (take at seen) (drop at seen) items
+    → AreFinals m row.states.items base → IsBackMany m.edges row.silent.items base items → AreItems m (take at seen) (drop at seen) items
 items_last m seen rws row at base items live n get finals many =
     let c : length rws ≡ length seen + 1 = live.count in
     let k : at ≡ length seen = omega arith in
@@ -213,8 +204,8 @@ items_last m seen rws row at base items live n get finals many =
     (items_closed m (take at seen) [] row base items is (base_last m (take at seen) row base is finals) many)
 
 pub items_before : (m : Machine) (seen : List Input) (rws : List Row) (row earlier : Row) (at : ℕ) (items base items' : List Item) → AreRows m.edges seen rws → at + 1 < length rws
-    → slice_get rws (at + 1) ≡ Some row → slice_get rws at ≡ Some earlier → AreItems m (take (at + 1) seen) (drop (at + 1) seen) items → IsBack m.edges false row.links.items items base
-    → IsBackMany m.edges earlier.links.items base items' → AreItems m (take at seen) (drop at seen) items'
+    → slice_get rws (at + 1) ≡ Some row → slice_get rws at ≡ Some earlier → AreItems m (take (at + 1) seen) (drop (at + 1) seen) items → IsBack m.edges false row.taken.items items base
+    → IsBackMany m.edges earlier.silent.items base items' → AreItems m (take at seen) (drop at seen) items'
 items_before m seen rws row earlier at items base items' live lt get get' is back many =
     let c : length rws ≡ length seen + 1 = live.count in
     let cut : IsCut seen at = cut_at seen at (omega arith) in
@@ -228,10 +219,10 @@ items_before m seen rws row earlier at items base items' live lt get get' is bac
 pub finals_below : (m : Machine) (states : List ℕ) (items : List Item) (x : Item) → ((s : ℕ) → IsIn s m.finals → s < m.states) → AreFinals m states items → IsIn x items → x.state < m.states
 finals_below m states items x below f i = below x.state (f.sound x i).0
 
-pub back_below : (m : Machine) (links : List ℕ) (items base : List Item) (x : Item) → ((j : ℕ) (e : Edge) → slice_get m.edges j ≡ Some e → e.from < m.states) → IsBack m.edges false links items base → IsIn x base → x.state < m.states
+pub back_below : (m : Machine) (links : List Arrival) (items base : List Item) (x : Item) → ((j : ℕ) (e : Edge) → slice_get m.edges j ≡ Some e → e.from < m.states) → IsBack m.edges false links items base → IsIn x base → x.state < m.states
 back_below m links items base x below h i =
     let f : BackFrom m.edges false links items x = h.sound x i in
-    let lt : f.back.edge.from < m.states = below f.link f.back.edge f.back.at in
+    let lt : f.back.edge.from < m.states = below f.link.edge f.back.edge f.back.at in
     let e : x.state ≡ f.back.edge.from = ap (λ (z : Item). z.state) f.back.is in
     omega arith
 

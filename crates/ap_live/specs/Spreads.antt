@@ -5,6 +5,14 @@ use Rattle.ap_fst.specs.declared.label.Edge.{Edge}
 use Rattle.ap_symbol.specs.Fitting.{fits_lem}
 use Rattle.ap_symbol.specs.declared.symbol.Symbol.{Symbol}
 use Rattle.ap_live.specs.Fitting.{Input, picks}
+use Rattle.ap_live.specs.declared.arrivals.Arrival.{Arrival}
+
+-- an edge's place, by which this state was reached
+abbrev pub arrival : ℕ → ℕ → Arrival
+arrival to j = record { to = to; edge = j }
+
+abbrev pub arrival_to : Arrival → ℕ
+arrival_to a = a.to
 
 -- a state more, unless it is there
 abbrev pub with_state : List ℕ → ℕ → List ℕ
@@ -44,13 +52,13 @@ pub record IsOther (input : Input) (other : Option Symbol) : Type 0 where
   pub only : (x : Symbol) → fits_lem input.sensitive x input.symbol ≡ true → (x ≡ input.symbol) ⊎ (other ≡ Some x)
 
 -- what is added is reached by picked edges from one state, at the places that are seen
-pub record SpreadOne (edges : List Edge) (pick : Option Input) (from : ℕ) (seen : ℕ → Type 0) (states links states' links' : List ℕ) : Type 0 where
+pub record SpreadOne (edges : List Edge) (pick : Option Input) (from : ℕ) (seen : ℕ → Type 0) (states : List ℕ) (links : List Arrival) (states' : List ℕ) (links' : List Arrival) : Type 0 where
   pub more : List ℕ
   pub grown : states' ≡ states ++ more
   pub sound : (s : ℕ) → IsIn s more → (j : ℕ) × Picked edges pick from s j
-  pub complete : (s j : ℕ) → Picked edges pick from s j → seen j → IsIn s states' × IsIn j links'
-  pub links_sound : (j : ℕ) → IsIn j links' → IsIn j links ⊎ ((s : ℕ) × Picked edges pick from s j)
-  pub links_kept : (j : ℕ) → IsIn j links → IsIn j links'
+  pub complete : (s j : ℕ) → Picked edges pick from s j → seen j → IsIn s states' × IsIn (arrival s j) links'
+  pub links_sound : (a : Arrival) → IsIn a links' → IsIn a links ⊎ Picked edges pick from a.to a.edge
+  pub links_kept : (a : Arrival) → IsIn a links → IsIn a links'
   pub distinct : pick ≡ None → IsDistinct nat_eq states → IsDistinct nat_eq states'
 
 -- An edge that is picked leads from one of these states to a state.
@@ -60,13 +68,13 @@ pub record PickedFrom (edges : List Edge) (pick : Option Input) (froms : List �
   pub picked : Picked edges pick from to j
 
 -- what is added is reached by picked edges from these states
-pub record Spread (edges : List Edge) (pick : Option Input) (froms states links states' links' : List ℕ) : Type 0 where
+pub record Spread (edges : List Edge) (pick : Option Input) (froms states : List ℕ) (links : List Arrival) (states' : List ℕ) (links' : List Arrival) : Type 0 where
   pub more : List ℕ
   pub grown : states' ≡ states ++ more
   pub sound : (s : ℕ) → IsIn s more → (j : ℕ) × PickedFrom edges pick froms s j
-  pub complete : (s j : ℕ) → PickedFrom edges pick froms s j → IsIn s states' × IsIn j links'
-  pub links_sound : (j : ℕ) → IsIn j links' → IsIn j links ⊎ ((s : ℕ) × PickedFrom edges pick froms s j)
-  pub links_kept : (j : ℕ) → IsIn j links → IsIn j links'
+  pub complete : (s j : ℕ) → PickedFrom edges pick froms s j → IsIn s states' × IsIn (arrival s j) links'
+  pub links_sound : (a : Arrival) → IsIn a links' → IsIn a links ⊎ PickedFrom edges pick froms a.to a.edge
+  pub links_kept : (a : Arrival) → IsIn a links → IsIn a links'
   pub distinct : pick ≡ None → IsDistinct nat_eq states → IsDistinct nat_eq states'
 
 -- reached from these states by edges with an empty left side
@@ -75,6 +83,6 @@ pub data From (edges : List Edge) (base : List ℕ) : ℕ → Type 0 where
   onward : {s : ℕ} (f j : ℕ) → Picked edges None f s j → From edges base f → From edges base s
 
 -- all that is reached from these states so, with the edges
-pub record Closed (edges : List Edge) (base links states' links' : List ℕ) : Type 0 where
+pub record Closed (edges : List Edge) (base : List ℕ) (links : List Arrival) (states' : List ℕ) (links' : List Arrival) : Type 0 where
   pub spread : Spread edges None states' base links states' links'
   pub sound : (s : ℕ) → IsIn s states' → From edges base s

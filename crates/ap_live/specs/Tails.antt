@@ -7,6 +7,7 @@ use Rattle.ap_fst.specs.declared.label.Edge.{Edge}
 use Rattle.ap_live.specs.Fitting.{Input, is_empty_side}
 use Rattle.ap_live.specs.Spreads.{Picked}
 use Rattle.ap_live.specs.Rows.{Reach}
+use Rattle.ap_live.specs.declared.arrivals.Arrival.{Arrival}
 use Rattle.ap_live.specs.declared.backward.Item.{Item}
 
 -- From a state these inputs lead to a final state, with this output, last symbol first.
@@ -16,33 +17,34 @@ pub data Tail (m : Machine) : List Input → ℕ → List Symbol → Type 0 wher
   taken : {later : List Input} {s : ℕ} {back : List Symbol} (input : Input) (more : List Input) (t j : ℕ) (rest : List Symbol) → later ≡ input ∷ more → (p : Picked m.edges (Some input) s t j)
       → back ≡ rest ++ option_to_list p.edge.label.right → Tail m more t rest → Tail m later s back
 
--- an edge leads back from the second item to the first
-pub record Back (edges : List Edge) (is_silent : Bool) (x y : Item) (j : ℕ) : Type 0 where
+-- The edge by which the second item's state was reached leads back to the first item.
+pub record Back (edges : List Edge) (is_silent : Bool) (x y : Item) (link : Arrival) : Type 0 where
   pub edge : Edge
-  pub at : slice_get edges j ≡ Some edge
+  pub at : slice_get edges link.edge ≡ Some edge
   pub to_is : y.state ≡ edge.to
+  pub arrives : link.to ≡ edge.to
   pub sort : is_empty_side edge.label.left ≡ is_silent
   pub is : x ≡ (let item : Item = record { state = edge.from; back = y.back ++ option_to_list edge.label.right } in item)
 
 -- back from these items by one of these links
-pub record BackFrom (edges : List Edge) (is_silent : Bool) (links : List ℕ) (items : List Item) (x : Item) : Type 0 where
+pub record BackFrom (edges : List Edge) (is_silent : Bool) (links : List Arrival) (items : List Item) (x : Item) : Type 0 where
   pub item : Item
-  pub link : ℕ
+  pub link : Arrival
   pub listed : IsIn item items
   pub linked : IsIn link links
   pub back : Back edges is_silent x item link
 
 -- all that these links lead back to from these items
-pub record IsBack (edges : List Edge) (is_silent : Bool) (links : List ℕ) (items found : List Item) : Type 0 where
+pub record IsBack (edges : List Edge) (is_silent : Bool) (links : List Arrival) (items found : List Item) : Type 0 where
   pub sound : (x : Item) → IsIn x found → BackFrom edges is_silent links items x
   pub complete : (x : Item) → BackFrom edges is_silent links items x → IsIn x found
 
 -- back from these items by any number of empty links
-pub data BackMany (edges : List Edge) (links : List ℕ) (base : List Item) : Item → Type 0 where
+pub data BackMany (edges : List Edge) (links : List Arrival) (base : List Item) : Item → Type 0 where
   given : {x : Item} → IsIn x base → BackMany edges links base x
-  onward : {x : Item} (y : Item) (j : ℕ) → IsIn j links → Back edges true x y j → BackMany edges links base y → BackMany edges links base x
+  onward : {x : Item} (y : Item) (a : Arrival) → IsIn a links → Back edges true x y a → BackMany edges links base y → BackMany edges links base x
 
-pub record IsBackMany (edges : List Edge) (links : List ℕ) (base items : List Item) : Type 0 where
+pub record IsBackMany (edges : List Edge) (links : List Arrival) (base items : List Item) : Type 0 where
   pub sound : (x : Item) → IsIn x items → BackMany edges links base x
   pub given_in : (x : Item) → IsIn x base → IsIn x items
   pub closed : (x : Item) → BackFrom edges true links items x → IsIn x items
@@ -53,7 +55,7 @@ pub record AreItems (m : Machine) (seen later : List Input) (items : List Item) 
   pub complete : (x : Item) → Reach m.edges seen x.state → Tail m later x.state x.back → IsIn x items
 
 -- what is added is led back to from these items by one of these links
-pub record AddsBack (edges : List Edge) (is_silent : Bool) (links : List ℕ) (items old found : List Item) : Type 0 where
+pub record AddsBack (edges : List Edge) (is_silent : Bool) (links : List Arrival) (items old found : List Item) : Type 0 where
   pub sound : (x : Item) → IsIn x found → IsIn x old ⊎ BackFrom edges is_silent links items x
   pub complete : (x : Item) → BackFrom edges is_silent links items x → IsIn x found
   pub kept : (x : Item) → IsIn x old → IsIn x found

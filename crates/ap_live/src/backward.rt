@@ -1,15 +1,18 @@
-ghost use Rattle.std.specs.Prelude.{◌⊎◌, length, ◌∷◌, ◌≡◌, ◌<◌, ◌++◌, ℕ, [], List, IfOk, OnOk, IsTrue, slice_get, ◌↔◌, true};
+ghost use Rattle.std.specs.Prelude.{◌⊎◌, length, ◌∷◌, ◌≡◌, ◌<◌, ◌++◌, ℕ, [], List, IfOk, OnOk, IsTrue, slice_get, ◌↔◌, true, false};
 ghost use Rattle.std.specs.Option.{option_to_list, option_copied};
 ghost use Rattle.ap_fst.specs.Lists.{IsIn};
 ghost use Rattle.ap_live.specs.Fitting.{Input, is_empty_side};
 ghost use Rattle.ap_live.specs.Tails.{IsBack, IsBackMany, AddsBack, AreFinals, AreBacks};
 ghost use Rattle.ap_fst.specs.Silence.{HasNoEmptyCycle};
 ghost use Rattle.ap_live.specs.Rows.{AreRows};
+ghost use Rattle.ap_live.specs.Spreads.{arrival_to};
 ghost use Rattle.ap_live.specs.Outputs.{WritesWords};
 ghost use Rattle.std.specs.List.{list_all};
+ghost use Rattle.std.specs.List.Sorted.{IsNonDecreasingBy};
 ghost use Rattle.ap_symbol.specs.Words.{is_word_symbol};
 ghost use Rattle.ap_symbol.specs.declared.symbol.Symbol.{Symbol};
 
+use crate::arrivals::{Arrival, arrivals_at};
 use crate::rows::SharedRow;
 use ap_fst::{Edge, Fst, empty_cycle_law};
 use ap_symbol::{Memory, Sequence, Symbol};
@@ -25,34 +28,41 @@ pub struct Item {
     back: Symbols,
 }
 
+/// A copy with room for one symbol more.
 fn copy_symbols(alloc: Global, symbols: &Symbols) -> Result<Symbols, Memory>
     ensures { IfOk result (λ made. made ≡ symbols.now) }
 {
-    let mut made = Sequence::new(alloc);
-    for symbol in symbols.as_slice() {
+    let symbols = symbols.as_slice();
+    let mut made = Vec::with_capacity(alloc, symbols.len().saturating_add(1))?;
+    for symbol in symbols {
         made.push(symbol.copy(alloc)?)?;
     }
-    Ok(made)
+    Ok(Sequence::from_vec(made))
 }
 
-/// The item before an edge.
-fn item_before(alloc: Global, edge: &Edge, item: &Item) -> Result<Item, Memory>
-    ensures { IfOk result (λ made. made ≡ record { state = edge.now.from; back = item.now.back ++ option_to_list edge.now.label.right }) }
+/// The output before an edge, where this is the one behind it.
+fn output_before(alloc: Global, edge: &Edge, back: Symbols) -> Result<Symbols, Memory>
+    ensures { IfOk result (λ made. made ≡ back ++ option_to_list edge.now.label.right) }
 {
-    let mut back = copy_symbols(alloc, &item.back)?;
+    let mut back = back;
     match &edge.label.right {
-        None => Ok(Item {
-            state: edge.from,
-            back,
-        }),
+        None => Ok(back),
         Some(symbol) => {
             back.push(symbol.copy(alloc)?)?;
-            Ok(Item {
-                state: edge.from,
-                back,
-            })
+            Ok(back)
         }
     }
+}
+
+/// The item before an edge, where this is the output behind it.
+fn item_before(alloc: Global, edge: &Edge, back: Symbols) -> Result<Item, Memory>
+    ensures { IfOk result (λ made. made ≡ record { state = edge.now.from; back = back ++ option_to_list edge.now.label.right }) }
+{
+    let back = output_before(alloc, edge, back)?;
+    Ok(Item {
+        state: edge.from,
+        back,
+    })
 }
 
 fn is_silent(edge: &Edge) -> bool
@@ -70,38 +80,61 @@ fn edge_at(edges: &[Edge], at: usize) -> Option<&Edge>
     edges.get(at)
 }
 
-fn leads(edge: &Edge, item: &Item, silent: bool) -> bool
-    ensures { IsTrue result ↔ ((item.now.state ≡ edge.now.to) × (is_empty_side edge.now.label.left ≡ silent)) }
+/// Whether an edge of this sort leads to the item's state, and is the one by which it was reached.
+fn leads(edge: &Edge, link: Arrival, item: &Item, silent: bool) -> bool
+    ensures { IsTrue result ↔ ((item.now.state ≡ edge.now.to) × (link.to ≡ edge.now.to) × (is_empty_side edge.now.label.left ≡ silent)) }
 {
-    edge.to == item.state && is_silent(edge) == silent
+    edge.to == item.state && edge.to == link.to && is_silent(edge) == silent
 }
 
-/// Adds the item before one item by one link, if there is one.
+/// Adds the item before one item by one link, if its edge is of this sort.
 fn add_link(
     alloc: Global,
     fst: &Fst,
-    link: usize,
+    link: Arrival,
     item: &Item,
     silent: bool,
     found: &mut Vec<Item>,
 ) -> Result<(), Memory>
     ensures { OnOk result (AddsBack fst.now.edges silent (link ∷ []) (item.now ∷ []) found.old.items found.new.items) }
 {
-    let Some(edge) = edge_at(fst.edges(), link) else {
+    let Some(edge) = edge_at(fst.edges(), link.edge) else {
         return Ok(());
     };
-    if !leads(edge, item, silent) {
+    if !leads(edge, link, item, silent) {
         return Ok(());
     }
-    found.push(item_before(alloc, edge, item)?)?;
+    let back = copy_symbols(alloc, &item.back)?;
+    found.push(item_before(alloc, edge, back)?)?;
+    Ok(())
+}
+
+/// Adds the item before one item by one link, if its edge has a left symbol. The item's output is
+/// taken over and not copied.
+fn move_link(
+    alloc: Global,
+    fst: &Fst,
+    link: Arrival,
+    item: Item,
+    found: &mut Vec<Item>,
+) -> Result<(), Memory>
+    ensures { OnOk result (AddsBack fst.now.edges false (link ∷ []) (item ∷ []) found.old.items found.new.items) }
+{
+    let Some(edge) = edge_at(fst.edges(), link.edge) else {
+        return Ok(());
+    };
+    if !leads(edge, link, &item, false) {
+        return Ok(());
+    }
+    found.push(item_before(alloc, edge, item.back)?)?;
     Ok(())
 }
 
 /// Adds the items before one item, by these links.
-fn add_before(
+fn add_links(
     alloc: Global,
     fst: &Fst,
-    links: &[usize],
+    links: &[Arrival],
     item: &Item,
     silent: bool,
     found: &mut Vec<Item>,
@@ -114,19 +147,72 @@ fn add_before(
     Ok(())
 }
 
-/// The items before these, by these links.
-fn backward(
+/// Adds the items before one item, by those of these links that lead to its state.
+fn add_before(
     alloc: Global,
     fst: &Fst,
-    links: &[usize],
-    items: &[Item],
+    links: &[Arrival],
+    item: &Item,
     silent: bool,
+    found: &mut Vec<Item>,
+) -> Result<(), Memory>
+    requires { IsNonDecreasingBy arrival_to links.now }
+    ensures { OnOk result (AddsBack fst.now.edges silent links.now (item.now ∷ []) found.old.items found.new.items) }
+{
+    let here = arrivals_at(links, item.state);
+    add_links(alloc, fst, here, item, silent, found)
+}
+
+/// Adds the items before one item, by those of these links that lead to its state and whose edges
+/// have a left symbol. The last of them takes over the item's output.
+fn move_before(
+    alloc: Global,
+    fst: &Fst,
+    links: &[Arrival],
+    item: Item,
+    found: &mut Vec<Item>,
+) -> Result<(), Memory>
+    requires { IsNonDecreasingBy arrival_to links.now }
+    ensures { OnOk result (AddsBack fst.now.edges false links.now (item ∷ []) found.old.items found.new.items) }
+{
+    let here = arrivals_at(links, item.state);
+    let Some((last, others)) = here.split_last() else {
+        return Ok(());
+    };
+    add_links(alloc, fst, others, &item, false, found)?;
+    move_link(alloc, fst, *last, item, found)
+}
+
+/// The items before these, which stay, by edges with an empty left side.
+fn silently_back(
+    alloc: Global,
+    fst: &Fst,
+    links: &[Arrival],
+    items: &[Item],
 ) -> Result<Vec<Item>, Memory>
-    ensures { IfOk result (λ found. IsBack fst.now.edges silent links.now items.now found.items) }
+    requires { IsNonDecreasingBy arrival_to links.now }
+    ensures { IfOk result (λ found. IsBack fst.now.edges true links.now items.now found.items) }
 {
     let mut found = Vec::new(alloc);
     for item in items {
-        add_before(alloc, fst, links, item, silent, &mut found)?;
+        add_before(alloc, fst, links, item, true, &mut found)?;
+    }
+    Ok(found)
+}
+
+/// The items before these, which are used up, by edges with a left symbol.
+fn backward(
+    alloc: Global,
+    fst: &Fst,
+    links: &[Arrival],
+    items: Vec<Item>,
+) -> Result<Vec<Item>, Memory>
+    requires { IsNonDecreasingBy arrival_to links.now }
+    ensures { IfOk result (λ found. IsBack fst.now.edges false links.now items.items found.items) }
+{
+    let mut found = Vec::with_capacity(alloc, items.len())?;
+    for item in items {
+        move_before(alloc, fst, links, item, &mut found)?;
     }
     Ok(found)
 }
@@ -137,14 +223,15 @@ fn is_over(items: &Vec<Item>) -> bool
     items.as_slice().is_empty()
 }
 
-/// All that empty links lead back to.
-fn close_back(
+/// All that these links lead back to, round after round.
+fn rounds_back(
     alloc: Global,
     fst: &Fst,
-    links: &[usize],
+    links: &[Arrival],
     base: Vec<Item>,
 ) -> Result<Vec<Item>, Memory>
     requires no_cycle { HasNoEmptyCycle fst.now }
+    requires order { IsNonDecreasingBy arrival_to links.now }
     requires below { (x : Item) → IsIn x base.items → x.state < fst.now.states }
     ensures { IfOk result (λ items. IsBackMany fst.now.edges links.now base.items items.items) }
 {
@@ -154,12 +241,30 @@ fn close_back(
     let _ = fst.states();
     empty_cycle_law();
     'rounds: while !is_over(&front) {
-        let next = backward(alloc, fst, links, front.as_slice(), true)?;
+        let next = silently_back(alloc, fst, links, front.as_slice())?;
         items.append(&mut front)?;
         front = next;
         round += 1;
     }
     Ok(items)
+}
+
+/// All that edges with an empty left side lead back to. Most rows have none.
+fn close_back(
+    alloc: Global,
+    fst: &Fst,
+    links: &[Arrival],
+    base: Vec<Item>,
+) -> Result<Vec<Item>, Memory>
+    requires no_cycle { HasNoEmptyCycle fst.now }
+    requires order { IsNonDecreasingBy arrival_to links.now }
+    requires below { (x : Item) → IsIn x base.items → x.state < fst.now.states }
+    ensures { IfOk result (λ items. IsBackMany fst.now.edges links.now base.items items.items) }
+{
+    if links.is_empty() {
+        return Ok(base);
+    }
+    rounds_back(alloc, fst, links, base)
 }
 
 /// The final ones of these states, with an empty output.
@@ -212,13 +317,13 @@ fn outputs_back(alloc: Global, fst: &Fst, rows: &[SharedRow]) -> Result<Vec<Symb
     let mut at = rows.len() - 1;
     let last = &rows[at];
     let base = final_items(alloc, fst, last.states())?;
-    let mut items = close_back(alloc, fst, last.links(), base)?;
+    let mut items = close_back(alloc, fst, last.silent(), base)?;
     while at > 0 {
         let row = &rows[at];
-        let base = backward(alloc, fst, row.links(), items.as_slice(), false)?;
+        let base = backward(alloc, fst, row.taken(), items)?;
         at -= 1;
         let earlier = &rows[at];
-        items = close_back(alloc, fst, earlier.links(), base)?;
+        items = close_back(alloc, fst, earlier.silent(), base)?;
     }
     at_start(alloc, items)
 }

@@ -3,7 +3,7 @@ ghost use Rattle.std.specs.Option.{option_copied};
 ghost use Rattle.ap_fst.specs.Lists.{IsIn};
 ghost use Rattle.ap_fst.specs.declared.label.Edge.{Edge};
 ghost use Rattle.ap_live.specs.Fitting.{Input};
-ghost use Rattle.ap_live.specs.Rows.{IsNext, AreRows, IsKnown, Follows, IsLinked};
+ghost use Rattle.ap_live.specs.Rows.{IsNext, AreRows, IsKnown, Follows, IsLinked, Tells};
 ghost use Rattle.ap_live.specs.declared.rows.Row.{Row};
 
 use crate::picking::Pick;
@@ -17,6 +17,11 @@ const MOST_ROWS: usize = 131_072;
 
 /// At so many states and links in known rows no more are kept.
 const MOST_HELD: usize = 8_000_000;
+
+/// A row that has fewer states and edges than this, together with the row that it is computed from,
+/// is computed again as fast as it is found. It isn't kept, so that what is kept stays small on
+/// endless texts.
+const LEAST_KEPT: usize = 16;
 
 /// From one known row an input leads to another, under a flag for case. Rows are numbered in the
 /// order in which they were kept. `earlier` is one more than the place of an earlier link from the
@@ -142,6 +147,20 @@ fn is_full(known: &Known) -> bool {
     MOST_ROWS <= known.rows.as_slice().len() || MOST_HELD <= known.held
 }
 
+fn held_at(rows: &[SharedRow], at: usize) -> usize {
+    match row_at(rows, at) {
+        None => 0,
+        Some(row) => row.held(),
+    }
+}
+
+/// Whether the last row and the one before it, that it is computed from, are small.
+fn is_cheap(rows: &[SharedRow]) -> bool {
+    let last = held_at(rows, rows.len().saturating_sub(1));
+    let before = held_at(rows, rows.len().saturating_sub(2));
+    last.saturating_add(before) < LEAST_KEPT
+}
+
 /// Begins with the first row, where nothing is known.
 fn plant(known: &mut Known, alloc: Global, rows: &[SharedRow]) -> Result<(), Memory>
     ensures { (edges : List Edge) (finals : List ℕ) → IsKnown edges finals rows.now known.old.rows.items known.old.links.items known.old.path.items → IsKnown edges finals rows.now known.new.rows.items known.new.links.items known.new.path.items }
@@ -196,7 +215,8 @@ fn keep(
     Ok(())
 }
 
-/// Keeps the row after one input more, if that after one less is known and there is room.
+/// Keeps the row after one input more, if that after one less is known, there is room, and it isn't
+/// cheap to compute again.
 fn remember(
     known: &mut Known,
     alloc: Global,
@@ -208,6 +228,9 @@ fn remember(
         → IsNext edges (Some (record { symbol = input.now; sensitive = sensitive })) last.states.items row
         → IsKnown edges finals rows.now known.old.rows.items known.old.links.items known.old.path.items → IsKnown edges finals rows.now known.new.rows.items known.new.links.items known.new.path.items }
 {
+    if is_cheap(rows) {
+        return Ok(());
+    }
     if is_full(known) || known.path.as_slice().len() != rows.len().saturating_sub(1) {
         return Ok(());
     }
@@ -220,6 +243,26 @@ fn remember(
     };
     let row = row.copy()?;
     keep(known, alloc, from, row, input, sensitive)
+}
+
+/// The row that this input leads to. From no state it leads to none, and the row is shared.
+fn row_after(
+    alloc: Global,
+    fst: &Fst,
+    last: &SharedRow,
+    input: &Symbol,
+    sensitive: bool,
+) -> Result<SharedRow, Memory>
+    ensures next { IfOk result (λ row. IsNext fst.now.edges (Some (record { symbol = input.now; sensitive = sensitive })) last.now.states.items row) }
+    ensures told { IfOk result (λ row. Tells fst.now.finals last.now → Tells fst.now.finals row) }
+{
+    if last.is_void() {
+        let same = last.copy()?;
+        return Ok(same);
+    }
+    let row = next_row(alloc, fst, last.states(), Pick::Fitting(input, sensitive))?;
+    let shared = share(alloc, row)?;
+    Ok(shared)
 }
 
 /// Adds a row that is computed. After a refusal nothing is changed.
@@ -238,8 +281,8 @@ fn add_new(
     let Some(last) = rows.last() else {
         return Ok(());
     };
-    let row = next_row(alloc, fst, last.states(), Pick::Fitting(input, sensitive))?;
-    rows.push(share(alloc, row)?)?;
+    let row = row_after(alloc, fst, last, input, sensitive)?;
+    rows.push(row)?;
     let _ = plant(known, alloc, rows.as_slice());
     let _ = remember(known, alloc, rows.as_slice(), input, sensitive);
     Ok(())

@@ -2,6 +2,7 @@
 //! paths that lead on to a final state.
 #![tactic(auto)]
 
+mod arrivals;
 mod backward;
 mod known;
 mod laws;

@@ -23,8 +23,8 @@ use std::marker::Model;
 /// A transducer reads its left sides. Its symbols fit the inputs one by one, each under the flag
 /// for case of its own step.
 ///
-/// Rows that were computed are kept, and taken again where the same inputs come again. Where they
-/// have become too many, `cut` to no input lets them go.
+/// Rows that were computed are kept, unless they are small, and taken again where the same inputs
+/// come again. Where they have become too many, `cut` to no input lets them go.
 #[derive(Debug, Drop)]
 pub struct Live {
     rows: Vec<SharedRow>,

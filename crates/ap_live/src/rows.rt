@@ -1,14 +1,16 @@
 ghost use Rattle.std.specs.Prelude.{◌≡◌, ◌^◌, ◌<◌, ◌≤◌, ◌++◌, ◌-◌, ℕ, [], ◌∷◌, List, IfOk, OnOk, OnErr, IsTrue, ◌↔◌, nat_eq, length, take, true, Some, slice_get};
 ghost use Rattle.std.specs.List.{IsDistinct};
+ghost use Rattle.std.specs.List.Sorted.{IsNonDecreasingBy};
 ghost use Rattle.std.specs.Option.{option_copied};
 ghost use Rattle.ap_fst.specs.declared.label.Edge.{Edge};
 ghost use Rattle.ap_fst.specs.Lists.{IsIn};
-ghost use Rattle.ap_live.specs.Rows.{IsNext, Reach, AreRows, Tells};
+ghost use Rattle.ap_live.specs.Rows.{IsFirst, IsNext, IsOrdered, IsVoid, Reach, AreRows, Tells};
 ghost use Rattle.ap_fst.specs.Machines.{Machine};
 ghost use Rattle.ap_live.specs.declared.rows.Row.{Row};
 ghost use Rattle.ap_live.specs.Fitting.{Input, pick_of, picks};
-ghost use Rattle.ap_live.specs.Spreads.{Adds, with_state, SpreadOne, Spread, Closed, AnyPlace, HasLeft, IsOther};
+ghost use Rattle.ap_live.specs.Spreads.{Adds, with_state, SpreadOne, Spread, Closed, AnyPlace, HasLeft, IsOther, arrival_to};
 
+use crate::arrivals::{Arrival, sort_arrivals};
 use crate::picking::{Pick, other_symbol};
 use ap_fst::Fst;
 use ap_symbol::{Memory, Symbol};
@@ -59,7 +61,7 @@ fn spread_left(
     left: Option<&Symbol>,
     pick: Pick<'_>,
     states: &mut Vec<usize>,
-    links: &mut Vec<usize>,
+    links: &mut Vec<Arrival>,
 ) -> Result<(), Memory>
     requires { (e : Edge) → e.label.left ≡ option_copied left → picks (pick_of pick) e ≡ true }
     ensures { OnOk result (SpreadOne fst.now.edges (pick_of pick.entry) from (HasLeft fst.now.edges (option_copied left.entry)) states.old.items links.old.items states.new.items links.new.items) }
@@ -68,7 +70,10 @@ fn spread_left(
     let (low, high) = fst.span_by(from, left);
     for j in low..high {
         let edge = &edges[j];
-        links.push(j)?;
+        links.push(Arrival {
+            to: edge.to,
+            edge: j,
+        })?;
         enter(states, edge.to, pick)?;
     }
     Ok(())
@@ -82,7 +87,7 @@ fn spread_fitting(
     input: &Symbol,
     other: Option<&Symbol>,
     states: &mut Vec<usize>,
-    links: &mut Vec<usize>,
+    links: &mut Vec<Arrival>,
 ) -> Result<(), Memory>
     requires { (i : Input) × (pick_of pick ≡ Some i) × (i.symbol ≡ input.now) × IsOther i (option_copied other) }
     ensures { OnOk result (SpreadOne fst.now.edges (pick_of pick.entry) from AnyPlace states.old.items links.old.items states.new.items links.new.items) }
@@ -105,7 +110,7 @@ fn spread_from(
     pick: Pick<'_>,
     other: Option<&Symbol>,
     states: &mut Vec<usize>,
-    links: &mut Vec<usize>,
+    links: &mut Vec<Arrival>,
 ) -> Result<(), Memory>
     requires { (i : Input) → pick_of pick ≡ Some i → IsOther i (option_copied other) }
     ensures { OnOk result (SpreadOne fst.now.edges (pick_of pick.entry) from AnyPlace states.old.items links.old.items states.new.items links.new.items) }
@@ -129,7 +134,7 @@ fn spread(
     pick: Pick<'_>,
     other: Option<&Symbol>,
     states: &mut Vec<usize>,
-    links: &mut Vec<usize>,
+    links: &mut Vec<Arrival>,
 ) -> Result<(), Memory>
     requires { (i : Input) → pick_of pick ≡ Some i → IsOther i (option_copied other) }
     ensures { OnOk result (Spread fst.now.edges (pick_of pick.entry) froms.now states.old.items links.old.items states.new.items links.new.items) }
@@ -141,7 +146,7 @@ fn spread(
 }
 
 /// Adds all that these states reach by edges with an empty left side.
-fn close(fst: &Fst, states: &mut Vec<usize>, links: &mut Vec<usize>) -> Result<(), Memory>
+fn close(fst: &Fst, states: &mut Vec<usize>, links: &mut Vec<Arrival>) -> Result<(), Memory>
     requires distinct { IsDistinct nat_eq states.old.items }
     requires below { (s : ℕ) → IsIn s states.old.items → s < fst.now.states }
     ensures { OnOk result (Closed fst.now.edges states.old.items links.old.items states.new.items links.new.items) }
@@ -156,12 +161,14 @@ fn close(fst: &Fst, states: &mut Vec<usize>, links: &mut Vec<usize>) -> Result<(
     Ok(())
 }
 
-/// The states reached after so many inputs, each once, the places of the edges by which each was
-/// reached, and whether one of the states is final.
+/// The states reached after so many inputs, each once, the edges by which each was reached, and
+/// whether one of the states is final. Edges that took the last input and edges with an empty left
+/// side stand apart.
 #[derive(Debug, Drop)]
 pub struct Row {
     pub states: Vec<usize>,
-    pub links: Vec<usize>,
+    pub taken: Vec<Arrival>,
+    pub silent: Vec<Arrival>,
     pub ends: bool,
 }
 
@@ -176,7 +183,8 @@ fn holds_final(fst: &Fst, states: &[usize]) -> bool
     false
 }
 
-/// A row that is shared, so that a copy takes no memory. Contracts see the row.
+/// A row that is shared, so that a copy takes no memory. Contracts see the row. Its edges stand in
+/// the order of the states that they lead to.
 #[derive(Debug, Drop)]
 pub struct SharedRow {
     row: Rc<Row>,
@@ -184,10 +192,13 @@ pub struct SharedRow {
 
 impl Model for SharedRow {
     ghost use Rattle.ap_live.specs.declared.rows.Row.{Row};
+    ghost use Rattle.ap_live.specs.Rows.{IsOrdered};
 
     ghost Value = { Row };
 
     ghost view = { λ s. s.row.value };
+
+    ghost invariant = { λ s. IsOrdered s.row.value };
 }
 
 impl SharedRow {
@@ -197,16 +208,33 @@ impl SharedRow {
         self.row.states.as_slice()
     }
 
-    pub(crate) fn links(&self) -> &[usize]
-        ensures { result.now ≡ self.now.links.items }
+    /// The edges that took the last input.
+    pub(crate) fn taken(&self) -> &[Arrival]
+        ensures value { result.now ≡ self.now.taken.items }
+        ensures order { IsNonDecreasingBy arrival_to result.now }
     {
-        self.row.links.as_slice()
+        self.row.taken.as_slice()
+    }
+
+    /// The edges with an empty left side.
+    pub(crate) fn silent(&self) -> &[Arrival]
+        ensures value { result.now ≡ self.now.silent.items }
+        ensures order { IsNonDecreasingBy arrival_to result.now }
+    {
+        self.row.silent.as_slice()
     }
 
     pub(crate) fn ends(&self) -> bool
         ensures { result ≡ self.now.ends }
     {
         self.row.ends
+    }
+
+    /// Whether no state and no edge is there.
+    pub(crate) fn is_void(&self) -> bool
+        ensures { IsTrue result → IsVoid self.now }
+    {
+        self.states().is_empty() && self.taken().is_empty() && self.silent().is_empty()
     }
 
     /// An equal row, which shares the memory.
@@ -218,17 +246,49 @@ impl SharedRow {
         })
     }
 
-    /// How many states and links it holds.
+    /// How many states and edges it holds.
     pub(crate) fn held(&self) -> usize {
-        self.states().len().saturating_add(self.links().len())
+        self.states()
+            .len()
+            .saturating_add(self.taken().len())
+            .saturating_add(self.silent().len())
     }
 }
 
 pub(crate) fn share(alloc: Global, row: Row) -> Result<SharedRow, Memory>
+    requires { IsOrdered row }
     ensures { IfOk result (λ made. made ≡ row) }
 {
     Ok(SharedRow {
         row: Rc::new(alloc, row)?,
+    })
+}
+
+/// The row of these states and of all that edges with an empty left side lead to from them.
+fn closed_row(
+    alloc: Global,
+    fst: &Fst,
+    base: Vec<usize>,
+    taken: Vec<Arrival>,
+) -> Result<Row, Memory>
+    requires distinct { IsDistinct nat_eq base.items }
+    requires below { (s : ℕ) → IsIn s base.items → s < fst.now.states }
+    requires order { IsNonDecreasingBy arrival_to taken.items }
+    ensures taken { IfOk result (λ row. row.taken.items ≡ taken.items) }
+    ensures closed { IfOk result (λ row. Closed fst.now.edges base.items [] row.states.items row.silent.items) }
+    ensures order { IfOk result (λ row. IsOrdered row) }
+    ensures told { IfOk result (λ row. Tells fst.now.finals row) }
+{
+    let mut states = base;
+    let mut silent = Vec::new(alloc);
+    close(fst, &mut states, &mut silent)?;
+    sort_arrivals(&mut silent);
+    let ends = holds_final(fst, states.as_slice());
+    Ok(Row {
+        states,
+        taken,
+        silent,
+        ends,
     })
 }
 
@@ -240,38 +300,30 @@ pub(crate) fn next_row(
     pick: Pick<'_>,
 ) -> Result<Row, Memory>
     ensures next { IfOk result (λ row. IsNext fst.now.edges (pick_of pick.entry) last.now row) }
+    ensures order { IfOk result (λ row. IsOrdered row) }
     ensures told { IfOk result (λ row. Tells fst.now.finals row) }
 {
     let _ = fst.states();
     let mut states = Vec::new(alloc);
-    let mut links = Vec::new(alloc);
+    let mut taken = Vec::new(alloc);
     let other = other_symbol(pick);
-    spread(fst, last, pick, other.as_ref(), &mut states, &mut links)?;
+    spread(fst, last, pick, other.as_ref(), &mut states, &mut taken)?;
     sort_states(&mut states);
-    close(fst, &mut states, &mut links)?;
-    let ends = holds_final(fst, states.as_slice());
-    Ok(Row {
-        states,
-        links,
-        ends,
-    })
+    sort_arrivals(&mut taken);
+    let row = closed_row(alloc, fst, states, taken)?;
+    Ok(row)
 }
 
 fn first_row(alloc: Global, fst: &Fst) -> Result<Row, Memory>
-    ensures closed { IfOk result (λ row. Closed fst.now.edges (0 ∷ []) [] row.states.items row.links.items) }
+    ensures first { IfOk result (λ row. IsFirst fst.now.edges row) }
+    ensures order { IfOk result (λ row. IsOrdered row) }
     ensures told { IfOk result (λ row. Tells fst.now.finals row) }
 {
     let _ = fst.states();
     let mut states = Vec::new(alloc);
-    let mut links = Vec::new(alloc);
     states.push(0)?;
-    close(fst, &mut states, &mut links)?;
-    let ends = holds_final(fst, states.as_slice());
-    Ok(Row {
-        states,
-        links,
-        ends,
-    })
+    let row = closed_row(alloc, fst, states, Vec::new(alloc))?;
+    Ok(row)
 }
 
 /// The rows before any input.

@@ -129,3 +129,31 @@ fn the_same_inputs_give_the_same_outputs_again(rt: HostRuntime) -> Result<(), Fa
     }
     Ok(())
 }
+
+/// `a` and then a letter from `b` to `u`, to that letter.
+fn wide(alloc: Global) -> Result<Fst, Fail> {
+    let mut all = Draft::nothing(alloc)?;
+    for c in "bcdefghijklmnopqrstu".chars() {
+        let word = pair(alloc, 'a', 'x')?.join(pair(alloc, c, c)?)?;
+        all = all.either(word)?;
+    }
+    let fst = without_empty(alloc, &all)?;
+    Ok(trim(alloc, &fst)?)
+}
+
+#[test]
+fn rows_of_many_states_are_found_again(rt: HostRuntime) -> Result<(), Fail> {
+    let alloc = rt.alloc();
+    let fst = wide(alloc)?;
+    let mut live = Live::start(alloc, &fst)?;
+    for _ in 0..3 {
+        for (second, want) in [('b', "xb/"), ('k', "xk/"), ('u', "xu/"), ('v', "")] {
+            live.step(&fst, &Symbol::Letter('a'), true)?;
+            live.step(&fst, &Symbol::Letter(second), true)?;
+            let text = outputs(alloc, &fst, &live)?;
+            assert_eq!(rt; text.as_slice(), want.as_bytes());
+            live.cut(0);
+        }
+    }
+    Ok(())
+}

@@ -1,8 +1,7 @@
 use Rattle.std.proofs.Common.{ap, ◌∙◌, sym, subst, List, ℕ, take, drop, length, ◌+◌, ◌-◌, ◌<◌, false, ◌≡◌, arith, slice_get}
 use Rattle.ap_live.specs.Tails.{AreFinals, IsBack, IsBackMany, AreItems}
-use Rattle.ap_live.specs.declared.backward.Item.{Item}
+use Rattle.ap_live.specs.declared.arrivals.Arrival.{Arrival}
 use Rattle.ap_live.proofs.TailLaws.{items_last, items_before, finals_below, back_below, backs_by, if_ok_more, row_read}
-use Rattle.ap_fst.specs.Lists.{IsIn}
 use Rattle.ap_live.proofs.Spreading.{from_in}
 use Rattle.ap_live.proofs.Backing.{clean_back, clean_many, clean_finals}
 use Rattle.ap_live.proofs.backward.outputs_back.Goals as goal
@@ -19,8 +18,8 @@ loop-at-init c =
       items = λ seen live. items_last c.args.fst.now seen c.args.rows.now c.index-rows-at.result (length c.args.rows.now - 1) c.in_ok-base.base.items c.in_ok-items.items.items live (omega arith)
           (row_read c.args.rows.now (length c.args.rows.now - 1) c.index-rows-at.result at c.index-rows-at.is)
           (subst (λ (z : List ℕ). AreFinals c.args.fst.now z c.in_ok-base.base.items) c.states.ensures c.in_ok-base.ensures)
-          (subst (λ (z : List ℕ). IsBackMany c.args.fst.now.edges z c.in_ok-base.base.items c.in_ok-items.items.items) c.links.ensures c.in_ok-items.ensures);
-      clean = clean_many c.args.fst.now c.links.result.now c.in_ok-base.base.items c.in_ok-items.items.items c.requires.writes c.in_ok-items.ensures (clean_finals c.args.fst.now c.states.result.now c.in_ok-base.base.items c.in_ok-base.ensures);
+          (subst (λ (z : List Arrival). IsBackMany c.args.fst.now.edges z c.in_ok-base.base.items c.in_ok-items.items.items) c.silent.ensures.value c.in_ok-items.ensures);
+      clean = clean_many c.args.fst.now c.silent.result.now c.in_ok-base.base.items c.in_ok-items.items.items c.requires.writes c.in_ok-items.ensures (clean_finals c.args.fst.now c.states.result.now c.in_ok-base.base.items c.in_ok-base.ensures);
     }
 
 pub close_back-requires-in-loop-at-clause-below : goal.close_back-requires-in-loop-at-clause-below
@@ -38,12 +37,10 @@ loop-at-preserved c =
           (ap (λ z. slice_get c.args.rows.now z) one ∙ row_read c.args.rows.now c.loop-at.at c.index-rows-at-in-loop-at.result rng c.index-rows-at-in-loop-at.is)
           (row_read c.args.rows.now (c.loop-at.at - 1) c.index-rows-at-in-loop-at-2.result (omega arith) c.index-rows-at-in-loop-at-2.is)
           (subst (λ (z : ℕ). AreItems c.args.fst.now (take z seen) (drop z seen) c.loop-at.items.items) (sym one) (c.loop-at.invariant.items seen live))
-          (subst (λ (z : List ℕ). IsBack c.args.fst.now.edges false z c.loop-at.items.items c.in_ok-base-2.base.items) c.links-in-loop-at.ensures
-          (subst (λ (z : List Item). IsBack c.args.fst.now.edges false c.links-in-loop-at.result.now z c.in_ok-base-2.base.items) c.as_slice.ensures.value c.in_ok-base-2.ensures))
-          (subst (λ (z : List ℕ). IsBackMany c.args.fst.now.edges z c.in_ok-base-2.base.items c.in_ok-items-2.items.items) c.links-in-loop-at-2.ensures c.in_ok-items-2.ensures);
-      clean = clean_many c.args.fst.now c.links-in-loop-at-2.result.now c.in_ok-base-2.base.items c.in_ok-items-2.items.items c.requires.writes c.in_ok-items-2.ensures
-          (clean_back c.args.fst.now false c.links-in-loop-at.result.now c.as_slice.result.now c.in_ok-base-2.base.items c.requires.writes c.in_ok-base-2.ensures
-          (λ z i. c.loop-at.invariant.clean z (subst (λ (w : List Item). IsIn z w) c.as_slice.ensures.value i)));
+          (subst (λ (z : List Arrival). IsBack c.args.fst.now.edges false z c.loop-at.items.items c.in_ok-base-2.base.items) c.taken.ensures.value c.in_ok-base-2.ensures)
+          (subst (λ (z : List Arrival). IsBackMany c.args.fst.now.edges z c.in_ok-base-2.base.items c.in_ok-items-2.items.items) c.silent-in-loop-at.ensures.value c.in_ok-items-2.ensures);
+      clean = clean_many c.args.fst.now c.silent-in-loop-at.result.now c.in_ok-base-2.base.items c.in_ok-items-2.items.items c.requires.writes c.in_ok-items-2.ensures
+          (clean_back c.args.fst.now false c.taken.result.now c.loop-at.items.items c.in_ok-base-2.base.items c.requires.writes c.in_ok-base-2.ensures c.loop-at.invariant.clean);
     }
 
 pub returns-clause-words : goal.returns-clause-words

@@ -1,14 +1,18 @@
+use Rattle.std.proofs.Common.{subst, sym, List, []}
+use Rattle.ap_live.specs.Fitting.{pick_of}
+use Rattle.ap_live.specs.Spreads.{Spread}
+use Rattle.ap_live.specs.declared.arrivals.Arrival.{Arrival}
 use Rattle.ap_live.proofs.Spreading.{spread_below, spread_fresh, spread_sorted, to_in}
 use Rattle.ap_live.proofs.rows.next_row.Goals as goal
 
-pub close-requires-clause-below : goal.close-requires-clause-below
-close-requires-clause-below c = spread_below _ _ _ _ _ _ (to_in c.args.fst.now c.states.ensures.sound)
-    (spread_sorted _ _ _ _ _ _ c.sort_states.ensures.members c.sort_states.ensures.distinct (spread_fresh _ _ _ _ _ _ _ c.new-states.ensures.items c.new-links.ensures.items c.in_ok-spread.ensures))
+pub closed_row-requires-clause-below : goal.closed_row-requires-clause-below
+closed_row-requires-clause-below c = spread_below _ _ _ _ _ _ (to_in c.args.fst.now c.states.ensures.sound)
+    (spread_sorted _ _ _ _ _ _ _ c.sort_states.ensures.members c.sort_states.ensures.distinct c.sort_arrivals.ensures.members (spread_fresh _ _ _ _ _ _ _ c.new-states.ensures.items c.new-taken.ensures.items c.in_ok-spread.ensures))
 
 pub returns-clause-next : goal.returns-clause-next
 returns-clause-next c = record {
   base = c.sort_states.new.states.items;
-  links = c.spread.new.links.items;
-  taken = spread_sorted _ _ _ _ _ _ c.sort_states.ensures.members c.sort_states.ensures.distinct (spread_fresh _ _ _ _ _ _ _ c.new-states.ensures.items c.new-links.ensures.items c.in_ok-spread.ensures);
-  closed = c.in_ok-close.ensures;
+  taken = subst (λ (z : List Arrival). Spread c.args.fst.now.edges (pick_of c.args.pick) c.args.last.now [] [] c.sort_states.new.states.items z) (sym c.in_ok-row.ensures.taken)
+      (spread_sorted _ _ _ _ _ _ _ c.sort_states.ensures.members c.sort_states.ensures.distinct c.sort_arrivals.ensures.members (spread_fresh _ _ _ _ _ _ _ c.new-states.ensures.items c.new-taken.ensures.items c.in_ok-spread.ensures));
+  closed = c.in_ok-row.ensures.closed;
 }

@@ -3,7 +3,7 @@ use Rattle.ap_fst.specs.Lists.{IsIn}
 use Rattle.ap_live.specs.Tails.{BackMany, BackFrom}
 use Rattle.ap_live.proofs.Backing.{Stands}
 use Rattle.ap_live.specs.declared.backward.Item.{Item}
-use Rattle.ap_live.proofs.backward.close_back.Given as goal
+use Rattle.ap_live.proofs.backward.rounds_back.Given as goal
 
 abbrev pub invariant-rounds : goal.invariant-rounds
 invariant-rounds l = record {
