@@ -4,7 +4,6 @@ use Rattle.std.proofs.Math.Seq.{take-length}
 use Rattle.std.specs.Option.{option_to_list}
 use Rattle.ap_fst.specs.Lists.{IsIn}
 use Rattle.ap_fst.specs.declared.label.Edge.{Edge}
-use Rattle.ap_live.specs.Fitting.{is_empty_side}
 use Rattle.ap_live.specs.Spreads.{arrival_to}
 use Rattle.ap_live.specs.Tails.{Back, BackFrom, IsBack, AddsBack, IsBackMany, BackMany, AreFinals, given, onward}
 use Rattle.ap_fst.specs.Silence.{SilentWalk, still, step, HasNoEmptyCycle}
@@ -20,6 +19,7 @@ use Rattle.ap_symbol.specs.declared.symbol.Symbol.{Symbol}
 use Rattle.ap_live.specs.declared.arrivals.Arrival.{Arrival}
 use Rattle.ap_live.specs.declared.backward.Item.{Item}
 use Rattle.ap_live.proofs.Spreading.{in_front, in_back, in_either, from_in, in_from_place, both_true}
+use Rattle.ap_live.proofs.Others.{side_none}
 
 only_back : (edges : List Edge) (b : Bool) (j : Arrival) (y x : Item) → BackFrom edges b (j ∷ []) (y ∷ []) x → Back edges b x y j
 only_back edges b j y x f =
@@ -146,10 +146,6 @@ one_back edges b j y z e at h =
     let there : Some h.edge ≡ Some e = sym h.at ∙ at in
     let same : h.edge ≡ e = cc in
     h.is ∙ ap (λ (x : Edge). (let item : Item = record { state = x.from; back = y.back ++ option_to_list x.label.right } in item)) same
-
-side_none : (o : Option Symbol) → is_empty_side o ≡ true → o ≡ None
-side_none None e = refl
-side_none (Some x) e = cc
 
 none_in : (xs : List Item) → length xs ≡ 0 → (s : Item) → IsIn s xs → ⊥
 none_in [] e s i = elim i [ ]

@@ -36,6 +36,7 @@ use Rattle.ap_live.proofs.Spreading.{both_true, to_in}
 use Rattle.ap_live.proofs.OutputLaws.{IsWay, reverse-option, way_silent, way_taken, tail_from_output}
 use Rattle.ap_live.proofs.LiveLaws.{beginning}
 use Rattle.ap_live.proofs.WordOrder.{in_order_sound, in_order_there, in_order_sorted, in_order_some, some_word, sorted_same, sorted_exact}
+use Rattle.ap_live.proofs.Others.{side_none}
 
 -- ---- the edges from a state
 
@@ -82,10 +83,6 @@ from_through go edges v i =
     record { edge = m.source; listed = m.listed; rest = k.source; rest_in = k.listed; is = k.image }
 
 -- ---- what is found is an output
-
-side_none : (o : Option Symbol) → is_empty_side o ≡ true → o ≡ None
-side_none None e = refl
-side_none (Some x) e = cc
 
 ended_by : (m : Machine) (s : ℕ) (v : List Symbol) (b : Bool) → list_any (λ t. eqb s t) m.finals ≡ b → IsIn v (if b then [] ∷ [] else []) → IsWay m s [] v
 ended_by m s v true e (inl f) = record { labels = []; last = s; final = in_from_any s m.finals e; walk = ends refl; fit = refl; is = f }

@@ -1,5 +1,6 @@
 pub mod Spreading
 pub mod Others
+pub mod Running
 pub mod Arriving
 pub mod RowLaws
 pub mod KnownLaws

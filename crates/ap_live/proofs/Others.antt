@@ -2,10 +2,9 @@
 use Rattle.std.proofs.Common.{◌≡◌, ◌⊎◌, inl, inr, ℕ, Bool, true, false, List, refl, sym, ◌∙◌, ap, subst, Option, Some, None}
 use Rattle.std.proofs.lemmas.Option.{none-some, same_Some}
 use Rattle.ap_symbol.specs.Case.{lower_lem}
-use Rattle.ap_symbol.specs.Fitting.{fits_lem}
 use Rattle.ap_symbol.specs.declared.symbol.Symbol.{Symbol}
 use Rattle.ap_symbol.specs.declared.symbol.Symbol.TheVariants.{Letter}
-use Rattle.ap_symbol.proofs.FittingSymbols.{fits_itself, fits_is}
+use Rattle.ap_symbol.proofs.FittingSymbols.{fits_is}
 use Rattle.ap_fst.specs.declared.label.Edge.{Edge}
 use Rattle.ap_live.specs.Fitting.{Input, picks, fits_side, is_empty_side}
 use Rattle.ap_live.specs.Spreads.{Picked, IsOther, HasLeft}
@@ -82,23 +81,7 @@ one_side edges pick input x other is same there o from s j p = elim (side_is inp
   | inr (z, e, f) ↦ absurd (none-some z (sym there ∙ f))
 ]
 
-side_none : (o : Option Symbol) → is_empty_side o ≡ true → o ≡ None
+-- an empty side
+pub side_none : (o : Option Symbol) → is_empty_side o ≡ true → o ≡ None
 side_none None e = refl
 side_none (Some x) e = cc
-
-pub silent_side : (edges : List Edge) (pick : Option Input) → pick ≡ None → (from s j : ℕ) → Picked edges pick from s j → HasLeft edges None j
-silent_side edges pick is from s j p =
-    let h : is_empty_side p.edge.label.left ≡ true = ap (λ (z : Option Input). picks z p.edge) (sym is) ∙ p.passes in
-    place_has edges pick from s j None p (side_none p.edge.label.left h)
-
--- and the other way
-
-pub input_passes : (pick : Option Input) (input : Input) (x : Symbol) (e : Edge) → pick ≡ Some input → input.symbol ≡ x → e.label.left ≡ Some x → picks pick e ≡ true
-input_passes pick input x e is same left =
-    ap (λ (z : Option Input). picks z e) is ∙ ap (fits_side input) left ∙ ap (λ (z : Symbol). fits_lem input.sensitive x z) same ∙ fits_itself input.sensitive x
-
-pub other_passes : (pick : Option Input) (input : Input) (y : Symbol) (other : Option Symbol) (e : Edge) → pick ≡ Some input → other ≡ Some y → IsOther input other → e.label.left ≡ Some y → picks pick e ≡ true
-other_passes pick input y other e is there o left = ap (λ (z : Option Input). picks z e) is ∙ ap (fits_side input) left ∙ o.fits y there
-
-pub silent_passes : (pick : Option Input) (e : Edge) → pick ≡ None → e.label.left ≡ None → picks pick e ≡ true
-silent_passes pick e is left = ap (λ (z : Option Input). picks z e) is ∙ ap is_empty_side left

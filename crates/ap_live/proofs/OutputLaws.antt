@@ -15,6 +15,7 @@ use Rattle.ap_live.specs.Spreads.{Picked}
 use Rattle.ap_live.specs.Tails.{Tail, stop, silent, taken}
 use Rattle.ap_live.specs.Outputs.{IsOutput}
 use Rattle.ap_live.proofs.Spreading.{both_true}
+use Rattle.ap_live.proofs.Others.{side_none}
 
 -- a walk from a state to a final one, whose left word fits and whose right word is this
 pub record IsWay (m : Machine) (s : ℕ) (later : List Input) (output : List Symbol) : Type 0 where
@@ -57,10 +58,6 @@ way_taken m s t j input more later rest output e (Some x) at f g l n q o w = rec
   fit = subst (λ (z : List Input). IsTrue (fits_inputs (left_word (e.label ∷ w.labels)) z)) (sym q) (subst (λ (y : Option Symbol). IsTrue (fits_inputs (option_to_list y ++ left_word w.labels) (input ∷ more))) (sym l) (both_true (fits_lem input.sensitive x input.symbol) (fits_inputs (left_word w.labels) more) n w.fit));
   is = o ∙ ap (λ y. option_to_list e.label.right ++ y) w.is;
 }
-
-side_none : (o : Option Symbol) → is_empty_side o ≡ true → o ≡ None
-side_none None e = refl
-side_none (Some x) e = cc
 
 pub way_from_tail : (m : Machine) (later : List Input) (s : ℕ) (back : List Symbol) → Tail m later s back → IsWay m s later (reverse back)
 way_from_tail m later s back (stop e f z) = record { labels = []; last = s; final = f; walk = ends refl; fit = subst (λ (x : List Input). IsTrue (fits_inputs [] x)) (sym e) refl; is = ap reverse z }

@@ -5,7 +5,7 @@ use Rattle.std.proofs.lemmas.List.{take-append-le, take_more}
 use Rattle.std.proofs.Math.Seq.{take-length}
 use Rattle.std.specs.Prelude.{◌&&◌}
 use Rattle.std.specs.List.{list_any, IsDistinct}
-use Rattle.std.proofs.lemmas.Bool.{cases_eq, cases_lt}
+use Rattle.std.proofs.lemmas.Bool.{cases_eq, cases_lt, true≢false}
 use Rattle.std.proofs.lemmas.Bool.Decides.{nat_tests}
 use Rattle.std.proofs.lemmas.Map.Keys.{IsDistinct-push}
 use Rattle.std.proofs.lemmas.Cmp.{nat_eq_equiv}
@@ -24,8 +24,7 @@ use Rattle.ap_fst.specs.Machines.{Machine, IsMachine}
 use Rattle.ap_fst.specs.declared.label.Edge.{Edge}
 use Rattle.ap_live.specs.Fitting.{Input, picks}
 use Rattle.ap_live.specs.declared.arrivals.Arrival.{Arrival}
-use Rattle.ap_live.specs.Spreads.{arrival, arrival_to, with_state, Adds, SpreadOne, Picked, Spread, PickedFrom, From, given, onward, Closed, AnyPlace, HasLeft, HasLeftBelow}
-use Rattle.ap_symbol.specs.declared.symbol.Symbol.{Symbol}
+use Rattle.ap_live.specs.Spreads.{arrival, arrival_to, with_state, Adds, SpreadOne, Picked, Spread, PickedFrom, From, given, onward, Closed, AnyPlace, IsPlace}
 
 pub in_front : {X : Type 0} (x : X) (xs ys : List X) → IsIn x xs → IsIn x (xs ++ ys)
 in_front x [] ys h = elim h [ ]
@@ -88,53 +87,49 @@ adds_pushed pick states s states' fits e =
       distinct = λ n d. absurd (fits n);
     })
 
-pub spread_none : (edges : List Edge) (pick : Option Input) (from low : ℕ) (left : Option Symbol) (states : List ℕ) (links : List Arrival)
-    → ((j : ℕ) (e : Edge) → slice_get edges j ≡ Some e → e.from ≡ from → e.label.left ≡ left → low ≤ j) → SpreadOne edges pick from (HasLeftBelow edges left low) states links states links
-spread_none edges pick from low left states links below = record {
+-- nothing is added, where no edge that is picked is seen
+pub spread_none : (edges : List Edge) (pick : Option Input) (from : ℕ) (seen : ℕ → Type 0) (states : List ℕ) (links : List Arrival) → ((s j : ℕ) → Picked edges pick from s j → seen j → ⊥) → SpreadOne edges pick from seen states links states links
+spread_none edges pick from seen states links none = record {
   more = [];
   grown = sym (append-nil states);
   sound = λ s i. elim i [ ];
-  complete = λ s j p (l, h). let k : low ≤ j = below j p.edge p.at (sym p.from_is) (l p.edge p.at) in absurd (omega arith);
+  complete = λ s j p q. absurd (none s j p q);
   links_sound = λ a i. inl i;
   links_kept = λ a i. i;
   distinct = λ n d. d;
 }
 
--- an edge more, that is picked
-pub spread_take : (edges : List Edge) (pick : Option Input) (from j j' : ℕ) (left : Option Symbol) (states : List ℕ) (links : List Arrival) (states' : List ℕ) (links' : List Arrival) (states'' : List ℕ) (links'' : List Arrival) (e : Edge) → j' ≡ j + 1 → slice_get edges j ≡ Some e → e.from ≡ from
-    → picks pick e ≡ true → Adds pick states' e.to states'' → links'' ≡ links' ++ arrival e.to j ∷ [] → SpreadOne edges pick from (HasLeftBelow edges left j) states links states' links' → SpreadOne edges pick from (HasLeftBelow edges left j') states links states'' links''
-spread_take edges pick from j j' left states links states' links' states'' links'' e n at leaves good a linked h =
-    let p' : Picked edges pick from e.to j = record { edge = e; at = at; from_is = sym leaves; to_is = refl; passes = good } in
+one_edge : (edges : List Edge) (pick : Option Input) (from s k j : ℕ) (p : Picked edges pick from s k) (e : Edge) → k ≡ j → slice_get edges j ≡ Some e → p.edge ≡ e
+one_edge edges pick from s k j p e same at = same_Some p.edge e (sym p.at ∙ ap (slice_get edges) same ∙ at)
+
+-- one edge, that is picked
+pub spread_edge : (edges : List Edge) (pick : Option Input) (j : ℕ) (states : List ℕ) (links : List Arrival) (states' : List ℕ) (links' : List Arrival) (e : Edge) → slice_get edges j ≡ Some e
+    → picks pick e ≡ true → Adds pick states e.to states' → links' ≡ links ++ arrival e.to j ∷ [] → SpreadOne edges pick e.from (IsPlace j) states links states' links'
+spread_edge edges pick j states links states' links' e at good a linked =
+    let p' : Picked edges pick e.from e.to j = record { edge = e; at = at; from_is = refl; to_is = refl; passes = good } in
     let new : Arrival = arrival e.to j in
-    let S : List ℕ → ℕ → Type 0 = λ xs s. IsIn s xs in
     let L : List Arrival → Arrival → Type 0 = λ xs x. IsIn x xs in
     record {
-      more = h.more ++ a.more;
-      grown = a.grown ∙ ap (λ x. x ++ a.more) h.grown ∙ append_assoc states h.more a.more;
-      sound = λ s i. elim (in_either s h.more a.more i) [
-        | inl k ↦ h.sound s k
-        | inr k ↦ (j, (let Q : ℕ → Type 0 = λ x. Picked edges pick from x j in subst Q (sym (a.only s k)) p'))
+      more = a.more;
+      grown = a.grown;
+      sound = λ s i. (j, (let Q : ℕ → Type 0 = λ x. Picked edges pick e.from x j in subst Q (sym (a.only s i)) p'));
+      complete = λ s k p same.
+          let to : s ≡ e.to = p.to_is ∙ ap (λ (x : Edge). x.to) (one_edge edges pick e.from s k j p e same at) in (
+            subst (λ (x : ℕ). IsIn x states') (sym to) a.there,
+            subst (λ (xs : List Arrival). L xs (arrival s k)) (sym linked) (in_back (arrival s k) links (new ∷ []) (inl (ap (λ x. arrival x k) to ∙ ap (λ x. arrival e.to x) same))),
+          );
+      links_sound = λ b i. elim (in_either b links (new ∷ []) (subst (λ (xs : List Arrival). L xs b) linked i)) [
+        | inl x ↦ inl x
+        | inr x ↦ elim x [ inl q ↦ inr (let Q : Arrival → Type 0 = λ x. Picked edges pick e.from x.to x.edge in subst Q (sym q) p') | inr z ↦ elim z [ ] ]
       ];
-      complete = λ s k p (l, lt). elim (cases_lt k j) [
-        | inl below ↦ let both : IsIn s states' × IsIn (arrival s k) links' = h.complete s k p (l, below) in (
-          subst (λ (xs : List ℕ). S xs s) (sym a.grown) (in_front s states' a.more both.0),
-          subst (λ (xs : List Arrival). L xs (arrival s k)) (sym linked) (in_front (arrival s k) links' (new ∷ []) both.1),
-        )
-        | inr le ↦ let same : k ≡ j = omega arith in
-            let there : Some p.edge ≡ Some e = sym p.at ∙ ap (slice_get edges) same ∙ at in
-            let alike : p.edge ≡ e = cc in
-            let to : s ≡ e.to = p.to_is ∙ ap (λ (x : Edge). x.to) alike in (
-              subst (λ (x : ℕ). S states'' x) (sym to) a.there,
-              subst (λ (xs : List Arrival). L xs (arrival s k)) (sym linked) (in_back (arrival s k) links' (new ∷ []) (inl (ap (λ x. arrival x k) to ∙ ap (λ x. arrival e.to x) same))),
-            )
-      ];
-      links_sound = λ b i. elim (in_either b links' (new ∷ []) (subst (λ (xs : List Arrival). L xs b) linked i)) [
-        | inl x ↦ h.links_sound b x
-        | inr x ↦ elim x [ inl q ↦ inr (let Q : Arrival → Type 0 = λ x. Picked edges pick from x.to x.edge in subst Q (sym q) p') | inr z ↦ elim z [ ] ]
-      ];
-      links_kept = λ b i. subst (λ (xs : List Arrival). L xs b) (sym linked) (in_front b links' (new ∷ []) (h.links_kept b i));
-      distinct = λ n d. a.distinct n (h.distinct n d);
+      links_kept = λ b i. subst (λ (xs : List Arrival). L xs b) (sym linked) (in_front b links (new ∷ []) i);
+      distinct = a.distinct;
     }
+
+-- one edge, that isn't picked
+pub spread_skip : (edges : List Edge) (pick : Option Input) (j : ℕ) (states : List ℕ) (links : List Arrival) (e : Edge) → slice_get edges j ≡ Some e → picks pick e ≡ false → SpreadOne edges pick e.from (IsPlace j) states links states links
+spread_skip edges pick j states links e at bad = spread_none edges pick e.from (IsPlace j) states links
+    (λ s k p same. true≢false (sym p.passes ∙ ap (picks pick) (one_edge edges pick e.from s k j p e same at) ∙ bad))
 
 -- other places are seen, where each of them that is picked was seen
 pub spread_seen : (edges : List Edge) (pick : Option Input) (from : ℕ) (seen seen' : ℕ → Type 0) (states : List ℕ) (links : List Arrival) (states' : List ℕ) (links' : List Arrival) → ((s j : ℕ) → Picked edges pick from s j → seen' j → seen j)
@@ -149,20 +144,14 @@ spread_seen edges pick from seen seen' states links states' links' was h = recor
   distinct = h.distinct;
 }
 
--- all edges of the state with the left side are seen
-pub spread_left : (edges : List Edge) (pick : Option Input) (from high top : ℕ) (left : Option Symbol) (states : List ℕ) (links : List Arrival) (states' : List ℕ) (links' : List Arrival) → high ≤ top → ((j : ℕ) (e : Edge) → slice_get edges j ≡ Some e → e.from ≡ from → e.label.left ≡ left → j < high)
-    → SpreadOne edges pick from (HasLeftBelow edges left top) states links states' links' → SpreadOne edges pick from (HasLeft edges left) states links states' links'
-spread_left edges pick from high top left states links states' links' le above h =
-    spread_seen edges pick from (HasLeftBelow edges left top) (HasLeft edges left) states links states' links' (λ s j p l. (l, (let k : j < high = above j p.edge p.at (sym p.from_is) (l p.edge p.at) in omega arith))) h
-
 -- at some places, and then at others
-pub spread_two : (edges : List Edge) (pick : Option Input) (from : ℕ) (seen seen' : ℕ → Type 0) (states : List ℕ) (links : List Arrival) (states' : List ℕ) (links' : List Arrival) (states'' : List ℕ) (links'' : List Arrival) → ((s j : ℕ) → Picked edges pick from s j → seen j ⊎ seen' j)
-    → SpreadOne edges pick from seen states links states' links' → SpreadOne edges pick from seen' states' links' states'' links'' → SpreadOne edges pick from AnyPlace states links states'' links''
-spread_two edges pick from seen seen' states links states' links' states'' links'' either h k = record {
+pub spread_two : (edges : List Edge) (pick : Option Input) (from : ℕ) (seen seen' seen'' : ℕ → Type 0) (states : List ℕ) (links : List Arrival) (states' : List ℕ) (links' : List Arrival) (states'' : List ℕ) (links'' : List Arrival) → ((s j : ℕ) → Picked edges pick from s j → seen'' j → seen j ⊎ seen' j)
+    → SpreadOne edges pick from seen states links states' links' → SpreadOne edges pick from seen' states' links' states'' links'' → SpreadOne edges pick from seen'' states links states'' links''
+spread_two edges pick from seen seen' seen'' states links states' links' states'' links'' either h k = record {
   more = h.more ++ k.more;
   grown = k.grown ∙ ap (λ x. x ++ k.more) h.grown ∙ append_assoc states h.more k.more;
   sound = λ s i. elim (in_either s h.more k.more i) [ inl x ↦ h.sound s x | inr x ↦ k.sound s x ];
-  complete = λ s j p any. elim (either s j p) [
+  complete = λ s j p any. elim (either s j p any) [
     | inl q ↦ let both : IsIn s states' × IsIn (arrival s j) links' = h.complete s j p q in (subst (λ (xs : List ℕ). IsIn s xs) (sym k.grown) (in_front s states' k.more both.0), k.links_kept (arrival s j) both.1)
     | inr q ↦ k.complete s j p q
   ];
@@ -170,6 +159,15 @@ spread_two edges pick from seen seen' states links states' links' states'' links
   links_kept = λ a i. k.links_kept a (h.links_kept a i);
   distinct = λ n d. k.distinct n (h.distinct n d);
 }
+
+-- one edge of the state more
+pub spread_more : (edges : List Edge) (pick : Option Input) (from j : ℕ) (e : Edge) (seen seen' : ℕ → Type 0) (states : List ℕ) (links : List Arrival) (states' : List ℕ) (links' : List Arrival) (states'' : List ℕ) (links'' : List Arrival) → e.from ≡ from → ((k : ℕ) → seen' k → seen k ⊎ (k ≡ j))
+    → SpreadOne edges pick from seen states links states' links' → SpreadOne edges pick e.from (IsPlace j) states' links' states'' links'' → SpreadOne edges pick from seen' states links states'' links''
+spread_more edges pick from j e seen seen' states links states' links' states'' links'' leaves either h k =
+    spread_two edges pick from seen (IsPlace j) seen' states links states' links' states'' links'' (λ s i p q. either i q) h (subst (λ (x : ℕ). SpreadOne edges pick x (IsPlace j) states' links' states'' links'') leaves k)
+
+pub below_or_at : (bound k : ℕ) → k < bound + 1 → (k < bound) ⊎ (k ≡ bound)
+below_or_at bound k lt = elim (cases_lt k bound) [ inl below ↦ inl below | inr le ↦ inr (omega arith) ]
 
 -- from one state
 pub spread_one : (edges : List Edge) (pick : Option Input) (from : ℕ) (states : List ℕ) (links : List Arrival) (states' : List ℕ) (links' : List Arrival) → SpreadOne edges pick from AnyPlace states links states' links' → Spread edges pick (from ∷ []) states links states' links'

@@ -10,7 +10,7 @@ use Rattle.ap_fst.specs.Machines.{Machine}
 use Rattle.ap_fst.specs.declared.label.Edge.{Edge}
 use Rattle.ap_live.specs.Fitting.{Input, picks, is_empty_side, fits_side}
 use Rattle.ap_live.specs.Spreads.{Picked, arrival}
-use Rattle.ap_live.specs.Rows.{Reach, begin, EntersSilently, EntersTaking, IsRow, AreRows}
+use Rattle.ap_live.specs.Rows.{Reach, begin, EntersTaking, IsRow, AreRows}
 use Rattle.ap_live.specs.Tails.{Tail, stop, BaseTail, stops, takes, AreBase, AreItems, AreFinals, AreBacks, Back, BackFrom, IsBack, IsBackMany, BackMany, given, onward}
 use Rattle.ap_live.specs.Tails as tails
 use Rattle.ap_live.specs.Rows as rows

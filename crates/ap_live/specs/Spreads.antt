@@ -38,6 +38,14 @@ pub record Picked (edges : List Edge) (pick : Option Input) (from to j : ℕ) : 
 abbrev pub AnyPlace : ℕ → Type 0
 AnyPlace j = Unit {0}
 
+-- this place alone
+abbrev pub IsPlace : ℕ → ℕ → Type 0
+IsPlace place j = j ≡ place
+
+-- any place below a bound
+abbrev pub PlaceBelow : ℕ → ℕ → Type 0
+PlaceBelow bound j = j < bound
+
 -- the edge at the place has this left side
 abbrev pub HasLeft : List Edge → Option Symbol → ℕ → Type 0
 HasLeft edges left j = (e : Edge) → slice_get edges j ≡ Some e → e.label.left ≡ left

@@ -1,4 +1,4 @@
-ghost use Rattle.std.specs.Prelude.{◌⊎◌, length, ◌∷◌, ◌≡◌, ◌<◌, ◌++◌, ℕ, [], List, IfOk, OnOk, IsTrue, slice_get, ◌↔◌, true, false};
+ghost use Rattle.std.specs.Prelude.{◌⊎◌, length, ◌∷◌, ◌≡◌, ◌<◌, ◌++◌, [], List, IfOk, OnOk, IsTrue, slice_get, ◌↔◌, true, false};
 ghost use Rattle.std.specs.Option.{option_to_list, option_copied};
 ghost use Rattle.ap_fst.specs.Lists.{IsIn};
 ghost use Rattle.ap_live.specs.Fitting.{Input, is_empty_side};

@@ -1,15 +1,14 @@
 ghost use Rattle.std.specs.Prelude.{◌≡◌, ◌++◌, take, ◌∷◌, ◌-◌, ℕ, [], List, IfOk, OnOk, OnErr, IsTrue, length, slice_get, Some};
 ghost use Rattle.std.specs.Option.{option_copied};
-ghost use Rattle.ap_fst.specs.Lists.{IsIn};
 ghost use Rattle.ap_fst.specs.declared.label.Edge.{Edge};
 ghost use Rattle.ap_live.specs.Fitting.{Input};
 ghost use Rattle.ap_live.specs.Rows.{IsNext, AreRows, IsKnown, Follows, IsLinked, Tells};
 ghost use Rattle.ap_live.specs.declared.rows.Row.{Row};
 
-use crate::picking::Pick;
+use crate::picking::{Pick, is_symbol};
 use crate::rows::{SharedRow, next_row, share};
 use ap_fst::Fst;
-use ap_symbol::{Memory, Symbol, fits};
+use ap_symbol::{Memory, Symbol};
 use std::alloc::Global;
 
 /// At so many known rows no more are kept.
@@ -62,12 +61,6 @@ pub(crate) fn nothing_known(alloc: Global) -> Known
         heads: Vec::new(alloc),
         held: 0,
     }
-}
-
-fn is_symbol(a: &Symbol, b: &Symbol) -> bool
-    ensures { IsTrue result → a.now ≡ b.now }
-{
-    fits(a, b, true)
 }
 
 fn is_link(link: &Link, from: usize, input: &Symbol, sensitive: bool) -> bool
@@ -249,6 +242,7 @@ fn remember(
 fn row_after(
     alloc: Global,
     fst: &Fst,
+    hints: &[usize],
     last: &SharedRow,
     input: &Symbol,
     sensitive: bool,
@@ -260,7 +254,8 @@ fn row_after(
         let same = last.copy()?;
         return Ok(same);
     }
-    let row = next_row(alloc, fst, last.states(), Pick::Fitting(input, sensitive))?;
+    let pick = Pick::Fitting(input, sensitive);
+    let row = next_row(alloc, fst, hints, last.states(), pick)?;
     let shared = share(alloc, row)?;
     Ok(shared)
 }
@@ -270,6 +265,7 @@ fn add_new(
     rows: &mut Vec<SharedRow>,
     known: &mut Known,
     fst: &Fst,
+    hints: &[usize],
     input: &Symbol,
     sensitive: bool,
 ) -> Result<(), Memory>
@@ -281,7 +277,7 @@ fn add_new(
     let Some(last) = rows.last() else {
         return Ok(());
     };
-    let row = row_after(alloc, fst, last, input, sensitive)?;
+    let row = row_after(alloc, fst, hints, last, input, sensitive)?;
     rows.push(row)?;
     let _ = plant(known, alloc, rows.as_slice());
     let _ = remember(known, alloc, rows.as_slice(), input, sensitive);
@@ -294,6 +290,7 @@ pub(crate) fn add_row(
     rows: &mut Vec<SharedRow>,
     known: &mut Known,
     fst: &Fst,
+    hints: &[usize],
     input: &Symbol,
     sensitive: bool,
 ) -> Result<(), Memory>
@@ -302,7 +299,7 @@ pub(crate) fn add_row(
     ensures err { OnErr result ((rows.new.items ≡ rows.old.items) × (known.new.rows.items ≡ known.old.rows.items) × (known.new.links.items ≡ known.old.links.items) × (known.new.path.items ≡ known.old.path.items)) }
 {
     match find(known, rows.as_slice().len(), input, sensitive) {
-        None => add_new(rows, known, fst, input, sensitive),
+        None => add_new(rows, known, fst, hints, input, sensitive),
         Some(to) => add_known(rows, known, to),
     }
 }

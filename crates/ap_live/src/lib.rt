@@ -4,6 +4,7 @@
 
 mod arrivals;
 mod backward;
+mod hints;
 mod known;
 mod laws;
 mod live;

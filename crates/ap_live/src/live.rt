@@ -8,6 +8,7 @@ ghost use Rattle.ap_fst.specs.Silence.{HasNoEmptyCycle};
 ghost use Rattle.ap_fst.specs.Trimming.{IsTrimmed};
 
 use crate::backward::backs_of;
+use crate::hints::hints_of;
 use crate::known::{Known, add_row, cut_rows, nothing_known};
 use crate::rows::{SharedRow, ends_finally, first_rows, reaches_none};
 use crate::wording::ordered_words;
@@ -25,10 +26,14 @@ use std::marker::Model;
 ///
 /// Rows that were computed are kept, unless they are small, and taken again where the same inputs
 /// come again. Where they have become too many, `cut` to no input lets them go.
+///
+/// `hints` has the places where the edges of states begin, in the transducer that it was started
+/// for. They are tried before they are used, so that a wrong one costs time alone.
 #[derive(Debug, Drop)]
 pub struct Live {
     rows: Vec<SharedRow>,
     known: Known,
+    hints: Vec<usize>,
     is_void: bool,
 }
 
@@ -56,11 +61,13 @@ impl Live {
     pub fn start(alloc: Global, fst: &Fst) -> Result<Live, Memory>
         ensures { IfOk result (λ live. IsLive fst.now [] live) }
     {
-        let rows = first_rows(alloc, fst)?;
+        let hints = hints_of(alloc, fst)?;
+        let rows = first_rows(alloc, fst, hints.as_slice())?;
         let is_void = has_no_final(fst);
         Ok(Live {
             rows,
             known: nothing_known(alloc),
+            hints,
             is_void,
         })
     }
@@ -72,7 +79,15 @@ impl Live {
         ensures ok { OnOk result ((seen : List Input) → IsLive fst.now seen self.old → IsLive fst.now (seen ++ record { symbol = input.now; sensitive = sensitive } ∷ []) self.new) }
         ensures err { OnErr result (self.new ≡ self.old) }
     {
-        add_row(&mut self.rows, &mut self.known, fst, input, sensitive)
+        let hints = self.hints.as_slice();
+        add_row(
+            &mut self.rows,
+            &mut self.known,
+            fst,
+            hints,
+            input,
+            sensitive,
+        )
     }
 
     /// The outputs of the inputs so far, for the same transducer, which has no cycle of edges with

@@ -1,9 +1,11 @@
-ghost use Rattle.std.specs.Prelude.{◌≡◌, false, Some};
+ghost use Rattle.std.specs.Prelude.{◌≡◌, ◌↔◌, IsTrue, false, Some};
+ghost use Rattle.std.specs.Option.{option_copied};
 ghost use Rattle.ap_symbol.specs.declared.symbol.Symbol.TheVariants.{Letter};
-ghost use Rattle.ap_live.specs.Fitting.{Input, pick_of};
+ghost use Rattle.ap_live.specs.Fitting.{Input, pick_of, picks, fits_side};
 ghost use Rattle.ap_live.specs.Spreads.{IsOther};
 
-use ap_symbol::{Symbol, lower};
+use ap_fst::Edge;
+use ap_symbol::{Symbol, fits, lower};
 
 /// Which edges are picked: those with an empty left side, or those that fit an input, where the
 /// flag says whether case counts.
@@ -44,5 +46,41 @@ pub(crate) fn other_symbol(pick: Pick<'_>) -> Option<Symbol>
     match pick {
         Pick::Silent => None,
         Pick::Fitting(input, sensitive) => other_case(input, sensitive),
+    }
+}
+
+pub(crate) fn is_symbol(a: &Symbol, b: &Symbol) -> bool
+    ensures { IsTrue result ↔ (a.now ≡ b.now) }
+{
+    fits(a, b, true)
+}
+
+fn is_other(symbol: &Symbol, other: Option<&Symbol>) -> bool
+    ensures { IsTrue result ↔ (option_copied other.entry ≡ Some symbol.now) }
+{
+    match other {
+        None => false,
+        Some(wanted) => is_symbol(wanted, symbol),
+    }
+}
+
+/// Whether the side has a symbol, and it is the input or the other that fits it.
+fn is_fitting(side: &Option<Symbol>, input: &Symbol, other: Option<&Symbol>) -> bool
+    ensures { (i : Input) → i.symbol ≡ input.now → IsOther i (option_copied other.entry) → result ≡ fits_side i side.now }
+{
+    match side {
+        None => false,
+        Some(symbol) => is_symbol(symbol, input) || is_other(symbol, other),
+    }
+}
+
+/// Whether the edge is picked. `other` is the symbol that fits the input beside the input itself.
+pub(crate) fn is_picked(edge: &Edge, pick: Pick<'_>, other: Option<&Symbol>) -> bool
+    requires { (i : Input) → pick_of pick ≡ Some i → IsOther i (option_copied other) }
+    ensures { result ≡ picks (pick_of pick.entry) edge.now }
+{
+    match pick {
+        Pick::Silent => edge.label.left.is_none(),
+        Pick::Fitting(input, _) => is_fitting(&edge.label.left, input, other),
     }
 }

@@ -1,4 +1,4 @@
-ghost use Rattle.std.specs.Prelude.{◌≡◌, ◌^◌, ◌<◌, ◌≤◌, ◌++◌, ◌-◌, ℕ, [], ◌∷◌, List, IfOk, OnOk, OnErr, IsTrue, ◌↔◌, nat_eq, length, take, true, Some, slice_get};
+ghost use Rattle.std.specs.Prelude.{◌≡◌, ◌<◌, ◌-◌, ℕ, [], List, IfOk, OnOk, IsTrue, ◌↔◌, nat_eq, true, Some, None, slice_get};
 ghost use Rattle.std.specs.List.{IsDistinct};
 ghost use Rattle.std.specs.List.Sorted.{IsNonDecreasingBy};
 ghost use Rattle.std.specs.Option.{option_copied};
@@ -8,11 +8,13 @@ ghost use Rattle.ap_live.specs.Rows.{IsFirst, IsNext, IsOrdered, IsVoid, Reach, 
 ghost use Rattle.ap_fst.specs.Machines.{Machine};
 ghost use Rattle.ap_live.specs.declared.rows.Row.{Row};
 ghost use Rattle.ap_live.specs.Fitting.{Input, pick_of, picks};
-ghost use Rattle.ap_live.specs.Spreads.{Adds, with_state, SpreadOne, Spread, Closed, AnyPlace, HasLeft, IsOther, arrival_to};
+ghost use Rattle.ap_live.specs.Runs.{IsRun, Leaves, LeavesSilently};
+ghost use Rattle.ap_live.specs.Spreads.{Adds, with_state, SpreadOne, Spread, Closed, AnyPlace, IsPlace, HasLeft, IsOther, arrival_to};
 
 use crate::arrivals::{Arrival, sort_arrivals};
-use crate::picking::{Pick, other_symbol};
-use ap_fst::Fst;
+use crate::hints::{first_edge, has_many};
+use crate::picking::{Pick, is_picked, other_symbol};
+use ap_fst::{Edge, Fst};
 use ap_symbol::{Memory, Symbol};
 use std::alloc::Global;
 use std::marker::Model;
@@ -53,28 +55,62 @@ fn sort_states(states: &mut Vec<usize>)
     states.dedup();
 }
 
-/// Adds what one state reaches by the edges with this left side, or with an empty one, which are
-/// picked. They are found by halving.
-fn spread_left(
-    fst: &Fst,
-    from: usize,
-    left: Option<&Symbol>,
+/// Adds what a picked edge leads to.
+fn add_edge(
+    edge: &Edge,
+    place: usize,
     pick: Pick<'_>,
     states: &mut Vec<usize>,
     links: &mut Vec<Arrival>,
 ) -> Result<(), Memory>
-    requires { (e : Edge) → e.label.left ≡ option_copied left → picks (pick_of pick) e ≡ true }
-    ensures { OnOk result (SpreadOne fst.now.edges (pick_of pick.entry) from (HasLeft fst.now.edges (option_copied left.entry)) states.old.items links.old.items states.new.items links.new.items) }
+    ensures { OnOk result ((edges : List Edge) → slice_get edges place ≡ Some edge.now → picks (pick_of pick.entry) edge.now ≡ true
+        → SpreadOne edges (pick_of pick.entry) edge.now.from (IsPlace place) states.old.items links.old.items states.new.items links.new.items) }
+{
+    links.push(Arrival {
+        to: edge.to,
+        edge: place,
+    })?;
+    enter(states, edge.to, pick)?;
+    Ok(())
+}
+
+/// Adds what an edge leads to, if it is picked.
+fn try_edge(
+    edge: &Edge,
+    place: usize,
+    pick: Pick<'_>,
+    other: Option<&Symbol>,
+    states: &mut Vec<usize>,
+    links: &mut Vec<Arrival>,
+) -> Result<(), Memory>
+    requires { (i : Input) → pick_of pick ≡ Some i → IsOther i (option_copied other) }
+    ensures { OnOk result ((edges : List Edge) → slice_get edges place ≡ Some edge.now
+        → SpreadOne edges (pick_of pick.entry) edge.now.from (IsPlace place) states.old.items links.old.items states.new.items links.new.items) }
+{
+    if !is_picked(edge, pick, other) {
+        return Ok(());
+    }
+    add_edge(edge, place, pick, states, links)?;
+    Ok(())
+}
+
+/// Adds what one state reaches by the edges with this left symbol, which are picked. They are found
+/// by halving.
+fn spread_left(
+    fst: &Fst,
+    from: usize,
+    left: &Symbol,
+    pick: Pick<'_>,
+    states: &mut Vec<usize>,
+    links: &mut Vec<Arrival>,
+) -> Result<(), Memory>
+    requires { (e : Edge) → e.label.left ≡ Some left.now → picks (pick_of pick) e ≡ true }
+    ensures { OnOk result (SpreadOne fst.now.edges (pick_of pick.entry) from (HasLeft fst.now.edges (Some left.now)) states.old.items links.old.items states.new.items links.new.items) }
 {
     let edges = fst.edges();
-    let (low, high) = fst.span_by(from, left);
+    let (low, high) = fst.span_by(from, Some(left));
     for j in low..high {
-        let edge = &edges[j];
-        links.push(Arrival {
-            to: edge.to,
-            edge: j,
-        })?;
-        enter(states, edge.to, pick)?;
+        add_edge(&edges[j], j, pick, states, links)?;
     }
     Ok(())
 }
@@ -92,20 +128,76 @@ fn spread_fitting(
     requires { (i : Input) × (pick_of pick ≡ Some i) × (i.symbol ≡ input.now) × IsOther i (option_copied other) }
     ensures { OnOk result (SpreadOne fst.now.edges (pick_of pick.entry) from AnyPlace states.old.items links.old.items states.new.items links.new.items) }
 {
-    spread_left(fst, from, Some(input), pick, states, links)?;
+    spread_left(fst, from, input, pick, states, links)?;
     match other {
         None => Ok(()),
         Some(symbol) => {
-            spread_left(fst, from, Some(symbol), pick, states, links)?;
+            spread_left(fst, from, symbol, pick, states, links)?;
             Ok(())
         }
     }
+}
+
+/// Whether the edge leaves the state, and has an empty left side.
+fn leaves_silently(edge: &Edge, from: usize) -> bool
+    ensures { IsTrue result ↔ LeavesSilently from edge.now }
+{
+    edge.from == from && edge.label.left.is_none()
+}
+
+/// Adds what one state reaches by its edges with an empty left side. They come before its others, so
+/// that one look tells where there is none.
+fn spread_silent(
+    fst: &Fst,
+    from: usize,
+    first: usize,
+    states: &mut Vec<usize>,
+    links: &mut Vec<Arrival>,
+) -> Result<(), Memory>
+    requires { IsRun fst.now.edges (Leaves from) first }
+    ensures { OnOk result (SpreadOne fst.now.edges None from AnyPlace states.old.items links.old.items states.new.items links.new.items) }
+{
+    let edges = fst.edges();
+    for j in first..edges.len() {
+        let edge = &edges[j];
+        if !leaves_silently(edge, from) {
+            return Ok(());
+        }
+        add_edge(edge, j, Pick::Silent, states, links)?;
+    }
+    Ok(())
+}
+
+/// Adds what one state reaches by the edges that are picked. It goes over all edges of the state.
+fn spread_few(
+    fst: &Fst,
+    from: usize,
+    first: usize,
+    pick: Pick<'_>,
+    other: Option<&Symbol>,
+    states: &mut Vec<usize>,
+    links: &mut Vec<Arrival>,
+) -> Result<(), Memory>
+    requires run { IsRun fst.now.edges (Leaves from) first }
+    requires other { (i : Input) → pick_of pick ≡ Some i → IsOther i (option_copied other) }
+    ensures { OnOk result (SpreadOne fst.now.edges (pick_of pick.entry) from AnyPlace states.old.items links.old.items states.new.items links.new.items) }
+{
+    let edges = fst.edges();
+    for place in first..edges.len() {
+        let edge = &edges[place];
+        if edge.from != from {
+            return Ok(());
+        }
+        try_edge(edge, place, pick, other, states, links)?;
+    }
+    Ok(())
 }
 
 /// Adds what one state reaches by the edges that are picked. `other` is the symbol that fits the
 /// input beside the input itself.
 fn spread_from(
     fst: &Fst,
+    hints: &[usize],
     from: usize,
     pick: Pick<'_>,
     other: Option<&Symbol>,
@@ -115,13 +207,18 @@ fn spread_from(
     requires { (i : Input) → pick_of pick ≡ Some i → IsOther i (option_copied other) }
     ensures { OnOk result (SpreadOne fst.now.edges (pick_of pick.entry) from AnyPlace states.old.items links.old.items states.new.items links.new.items) }
 {
+    let first = first_edge(fst, hints, from);
     match pick {
         Pick::Silent => {
-            spread_left(fst, from, None, pick, states, links)?;
+            spread_silent(fst, from, first, states, links)?;
             Ok(())
         }
         Pick::Fitting(input, _) => {
-            spread_fitting(fst, from, pick, input, other, states, links)?;
+            if has_many(hints, from, first) {
+                spread_fitting(fst, from, pick, input, other, states, links)?;
+                return Ok(());
+            }
+            spread_few(fst, from, first, pick, other, states, links)?;
             Ok(())
         }
     }
@@ -130,6 +227,7 @@ fn spread_from(
 /// Adds what these states reach by the edges that are picked.
 fn spread(
     fst: &Fst,
+    hints: &[usize],
     froms: &[usize],
     pick: Pick<'_>,
     other: Option<&Symbol>,
@@ -140,13 +238,18 @@ fn spread(
     ensures { OnOk result (Spread fst.now.edges (pick_of pick.entry) froms.now states.old.items links.old.items states.new.items links.new.items) }
 {
     for from in froms {
-        spread_from(fst, *from, pick, other, states, links)?;
+        spread_from(fst, hints, *from, pick, other, states, links)?;
     }
     Ok(())
 }
 
 /// Adds all that these states reach by edges with an empty left side.
-fn close(fst: &Fst, states: &mut Vec<usize>, links: &mut Vec<Arrival>) -> Result<(), Memory>
+fn close(
+    fst: &Fst,
+    hints: &[usize],
+    states: &mut Vec<usize>,
+    links: &mut Vec<Arrival>,
+) -> Result<(), Memory>
     requires distinct { IsDistinct nat_eq states.old.items }
     requires below { (s : ℕ) → IsIn s states.old.items → s < fst.now.states }
     ensures { OnOk result (Closed fst.now.edges states.old.items links.old.items states.new.items links.new.items) }
@@ -155,7 +258,7 @@ fn close(fst: &Fst, states: &mut Vec<usize>, links: &mut Vec<Arrival>) -> Result
     let mut at = 0;
     while at < states.len() {
         let from = states[at];
-        spread_from(fst, from, Pick::Silent, None, states, links)?;
+        spread_from(fst, hints, from, Pick::Silent, None, states, links)?;
         at += 1;
     }
     Ok(())
@@ -268,6 +371,7 @@ pub(crate) fn share(alloc: Global, row: Row) -> Result<SharedRow, Memory>
 fn closed_row(
     alloc: Global,
     fst: &Fst,
+    hints: &[usize],
     base: Vec<usize>,
     taken: Vec<Arrival>,
 ) -> Result<Row, Memory>
@@ -281,7 +385,7 @@ fn closed_row(
 {
     let mut states = base;
     let mut silent = Vec::new(alloc);
-    close(fst, &mut states, &mut silent)?;
+    close(fst, hints, &mut states, &mut silent)?;
     sort_arrivals(&mut silent);
     let ends = holds_final(fst, states.as_slice());
     Ok(Row {
@@ -296,6 +400,7 @@ fn closed_row(
 pub(crate) fn next_row(
     alloc: Global,
     fst: &Fst,
+    hints: &[usize],
     last: &[usize],
     pick: Pick<'_>,
 ) -> Result<Row, Memory>
@@ -307,14 +412,15 @@ pub(crate) fn next_row(
     let mut states = Vec::new(alloc);
     let mut taken = Vec::new(alloc);
     let other = other_symbol(pick);
-    spread(fst, last, pick, other.as_ref(), &mut states, &mut taken)?;
+    let partner = other.as_ref();
+    spread(fst, hints, last, pick, partner, &mut states, &mut taken)?;
     sort_states(&mut states);
     sort_arrivals(&mut taken);
-    let row = closed_row(alloc, fst, states, taken)?;
+    let row = closed_row(alloc, fst, hints, states, taken)?;
     Ok(row)
 }
 
-fn first_row(alloc: Global, fst: &Fst) -> Result<Row, Memory>
+fn first_row(alloc: Global, fst: &Fst, hints: &[usize]) -> Result<Row, Memory>
     ensures first { IfOk result (λ row. IsFirst fst.now.edges row) }
     ensures order { IfOk result (λ row. IsOrdered row) }
     ensures told { IfOk result (λ row. Tells fst.now.finals row) }
@@ -322,17 +428,21 @@ fn first_row(alloc: Global, fst: &Fst) -> Result<Row, Memory>
     let _ = fst.states();
     let mut states = Vec::new(alloc);
     states.push(0)?;
-    let row = closed_row(alloc, fst, states, Vec::new(alloc))?;
+    let row = closed_row(alloc, fst, hints, states, Vec::new(alloc))?;
     Ok(row)
 }
 
 /// The rows before any input.
-pub(crate) fn first_rows(alloc: Global, fst: &Fst) -> Result<Vec<SharedRow>, Memory>
+pub(crate) fn first_rows(
+    alloc: Global,
+    fst: &Fst,
+    hints: &[usize],
+) -> Result<Vec<SharedRow>, Memory>
     ensures rows { IfOk result (λ rows. AreRows fst.now.edges [] rows.items) }
     ensures told { IfOk result (λ rows. (at : ℕ) (row : Row) → slice_get rows.items at ≡ Some row → Tells fst.now.finals row) }
 {
     let mut rows = Vec::new(alloc);
-    let row = first_row(alloc, fst)?;
+    let row = first_row(alloc, fst, hints)?;
     rows.push(share(alloc, row)?)?;
     Ok(rows)
 }

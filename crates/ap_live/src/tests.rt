@@ -157,3 +157,18 @@ fn rows_of_many_states_are_found_again(rt: HostRuntime) -> Result<(), Fail> {
     }
     Ok(())
 }
+
+#[test]
+fn hints_for_another_transducer_are_not_taken(rt: HostRuntime) -> Result<(), Fail> {
+    let alloc = rt.alloc();
+    let other = transducer(alloc)?;
+    let fst = wide(alloc)?;
+    for (second, want) in [('b', "xb/"), ('k', "xk/"), ('u', "xu/"), ('v', "")] {
+        let mut live = Live::start(alloc, &other)?;
+        live.step(&fst, &Symbol::Letter('a'), true)?;
+        live.step(&fst, &Symbol::Letter(second), true)?;
+        let text = outputs(alloc, &fst, &live)?;
+        assert_eq!(rt; text.as_slice(), want.as_bytes());
+    }
+    Ok(())
+}
