@@ -1,19 +1,19 @@
 -- Cycles of edges with an empty left side.
-use Rattle.std.proofs.Common.{◌≡◌, inl, inr, ℕ, ◌+◌, ◌<◌, ◌≤◌, zero, suc, Bool, true, false, not, eqb, List, [], ◌∷◌, ◌++◌, length, length-append, refl, sym, ◌∙◌, ap, subst, arith, Some, None}
+use Rattle.std.proofs.Common.{◌≡◌, inl, inr, ℕ, ◌+◌, ◌<◌, ◌≤◌, zero, suc, Bool, true, false, not, eqb, List, [], ◌∷◌, ◌++◌, length, length-append, refl, sym, ◌∙◌, ap, subst, arith, Option, Some, None}
 use Rattle.std.specs.Prelude.{◌↔◌, slice_get, IsTrue}
 use Rattle.std.specs.Option.{option_to_list, is_some}
 use Rattle.std.specs.List.{filter, IsDistinct, AllByRecursion}
 use Rattle.std.proofs.lemmas.Bool.{cases_eq}
 use Rattle.std.proofs.lemmas.Bool.Decides.{nat_tests}
-use Rattle.std.proofs.lemmas.Option.{none-some, same_Some}
+use Rattle.std.proofs.lemmas.Option.{none-some, same_Some, slice_get_within}
 use Rattle.std.proofs.lemmas.Map.Steps.{length-le_from_distinct_below}
 use Rattle.ap_fst.specs.Lists.{IsIn}
-use Rattle.ap_fst.specs.Graphs.{arc_from, forward, place_of, Reaches, begins, follows}
+use Rattle.ap_fst.specs.Graphs.{arc_from, forward, Reaches, begins, follows}
 use Rattle.ap_fst.specs.Machines.{Machine, IsMachine}
 use Rattle.ap_fst.specs.Walks.{Walk, ends, goes, AcceptsLabels}
 use Rattle.ap_fst.specs.Sides.{left_word}
 use Rattle.ap_fst.specs.Trimming.{IsTrimmed, IsReached, IsFinishing}
-use Rattle.ap_fst.specs.Silence.{is_silent, SilentWalk, still, step, IsOnEmptyCycle, HasNoEmptyCycle, Rises, HasBoundedRuns}
+use Rattle.ap_fst.specs.Silence.{is_silent, SilentWalk, still, step, IsOnEmptyCycle, HasNoEmptyCycle, KeepsUp, Rises, RiseBefore, HasBoundedRuns}
 use Rattle.ap_fst.specs.declared.graph.Arc.{Arc}
 use Rattle.ap_fst.specs.declared.label.Label.{Label}
 use Rattle.ap_fst.specs.declared.label.Edge.{Edge}
@@ -22,26 +22,32 @@ use Rattle.ap_fst.proofs.Growing.{in_from_any}
 use Rattle.ap_fst.proofs.WalkLaws.{walk_then, walk_edge, walk_within}
 use Rattle.ap_fst.proofs.SilenceLaws.{silent_arcs_of, silent_none, none_silent, first_none, left_word_then}
 
--- ---- an order that each such edge raises
+-- ---- numbers that no such edge lowers
 
-rises_along : (edges : List Edge) (order : List ℕ) → ((e : Edge) → IsIn e edges → is_silent e ≡ true → Rises order e) → (s n t a : ℕ) → place_of order s ≡ Some a → SilentWalk edges s n t → (b : ℕ) × (place_of order t ≡ Some b) × (a + n ≤ b)
-rises_along edges order all s zero t a p (still e) = (a, ap (place_of order) (sym e) ∙ p, omega arith)
-rises_along edges order all s (suc n) t a p (step u j e walk at silent f g) =
-    let r : (b : ℕ) × (place_of order u ≡ Some b) × (a + n ≤ b) = rises_along edges order all s n u a p walk in
-    let up : Rises order e = all e (in_from_place edges j e at) (none_silent e silent) in
-    let one : r.0 ≡ up.from_place = same_Some r.0 up.from_place (sym r.1 ∙ ap (place_of order) f ∙ up.from_at) in
-    let le : a + n ≤ r.0 = r.2 in
-    let lt : up.from_place < up.to_place = up.rises in
-    (up.to_place, ap (place_of order) g ∙ up.to_at, omega arith)
+kept_along : (number : ℕ → Option ℕ) (edges : List Edge) → ((e : Edge) → IsIn e edges → is_silent e ≡ true → KeepsUp number e) → (s n t a : ℕ) → number s ≡ Some a → SilentWalk edges s n t → (b : ℕ) × (number t ≡ Some b) × (a ≤ b)
+kept_along number edges all s zero t a p (still e) = (a, ap number (sym e) ∙ p, omega arith)
+kept_along number edges all s (suc n) t a p (step u j e walk at silent f g) =
+    let r : (b : ℕ) × (number u ≡ Some b) × (a ≤ b) = kept_along number edges all s n u a p walk in
+    let k : KeepsUp number e = all e (in_from_place edges j e at) (none_silent e silent) in
+    let one : r.0 ≡ k.from = same_Some r.0 k.from (sym r.1 ∙ ap number f ∙ k.numbers.from_number) in
+    let so_far : a ≤ r.0 = r.2 in
+    let on : k.from ≤ k.to = k.keeps in
+    (k.to, ap number g ∙ k.numbers.to_number, omega arith)
 
-pub no_cycle_by_order : (edges : List Edge) (order : List ℕ) → ((e : Edge) → IsIn e edges → is_silent e ≡ true → Rises order e) → (j : ℕ) → IsOnEmptyCycle edges j → ⊥
-no_cycle_by_order edges order all j c =
-    let up : Rises order c.edge = all c.edge (in_from_place edges j c.edge c.at) (none_silent c.edge c.silent) in
-    let r : (b : ℕ) × (place_of order c.edge.from ≡ Some b) × (up.to_place + c.length ≤ b) = rises_along edges order all c.edge.to c.length c.edge.from up.to_place up.to_at c.back in
-    let one : r.0 ≡ up.from_place = same_Some r.0 up.from_place (sym r.1 ∙ up.from_at) in
-    let lt : up.from_place < up.to_place = up.rises in
-    let le : up.to_place + c.length ≤ r.0 = r.2 in
+-- what leads to a higher number lies on no cycle
+no_cycle_on_rise : (number : ℕ → Option ℕ) (edges : List Edge) (j : ℕ) → ((e : Edge) → IsIn e edges → is_silent e ≡ true → KeepsUp number e) → (c : IsOnEmptyCycle edges j) → Rises number c.edge → ⊥
+no_cycle_on_rise number edges j all c up =
+    let r : (b : ℕ) × (number c.edge.from ≡ Some b) × (up.to ≤ b) = kept_along number edges all c.edge.to c.length c.edge.from up.to up.numbers.to_number c.back in
+    let one : r.0 ≡ up.from = same_Some r.0 up.from (sym r.1 ∙ up.numbers.from_number) in
+    let lt : up.from < up.to = up.rises in
+    let le : up.to ≤ r.0 = r.2 in
     omega arith
+
+pub no_cycle_before : (number : ℕ → Option ℕ) (edges : List Edge) (j : ℕ) → ((e : Edge) → IsIn e edges → is_silent e ≡ true → KeepsUp number e) → RiseBefore number edges j → (i : ℕ) → i < j → IsOnEmptyCycle edges i → ⊥
+no_cycle_before number edges j all up i lt c = no_cycle_on_rise number edges i all c (up i c.edge lt c.at (none_silent c.edge c.silent))
+
+pub no_cycle_at_all : (number : ℕ → Option ℕ) (edges : List Edge) → ((e : Edge) → IsIn e edges → is_silent e ≡ true → KeepsUp number e) → RiseBefore number edges (length edges) → (j : ℕ) → IsOnEmptyCycle edges j → ⊥
+no_cycle_at_all number edges all up j c = no_cycle_before number edges (length edges) all up j (slice_get_within edges j c.edge c.at) c
 
 -- ---- by search
 

@@ -4,8 +4,9 @@ use Rattle.std.specs.Prelude.{slice_get}
 use Rattle.std.specs.List.{filter, Contains}
 use Rattle.std.specs.List.Sorted.{IsPermutation, IsNonDecreasingBy, IsPartitionPoint}
 use Rattle.std.proofs.lemmas.Bool.{cases_lt, cases_Bool, cond-true, cond-false}
+use Rattle.std.proofs.lemmas.List.{take_all, get_or-drop, get_or-take, length-drop, length-take-le}
 use Rattle.std.proofs.lemmas.Bool.Decides.{nat_tests}
-use Rattle.std.proofs.lemmas.List.Sorted.{Contains-permutation, IsPermutation-sym}
+use Rattle.std.proofs.lemmas.List.Sorted.{Contains-permutation, IsPermutation-sym, IsNonDecreasingBy-drop}
 use Rattle.std.proofs.lemmas.Option.{same_Some, none-some, slice_get_within, get_or_from_slice_get}
 use Rattle.std.specs.declared.cmp.Ordering.{Ordering}
 use Rattle.std.specs.declared.cmp.Ordering.TheVariants.{Less}
@@ -179,6 +180,66 @@ key_range {X} key s xs low high l lend h hend =
       below = before;
       above = after;
     }
+
+-- what a list holds from a place on
+abbrev pub rest_from : {X : Type 0} → ℕ → List X → List X
+rest_from low xs = take (length xs - low) (drop low xs)
+
+pub rest_is : {X : Type 0} (low : ℕ) (xs : List X) → rest_from low xs ≡ drop low xs
+rest_is low xs = let long : length (drop low xs) ≡ length xs - low = length-drop low xs in take_all (length xs - low) (drop low xs) (omega arith)
+
+rest_at : {X : Type 0} (low : ℕ) (xs : List X) (k : ℕ) (d : X) → low ≤ k → get_or (rest_from low xs) (k - low) d ≡ get_or xs k d
+rest_at low xs k d le = ap (λ z. get_or z (k - low) d) (rest_is low xs) ∙ get_or-drop low xs (k - low) d ∙ ap (λ i. get_or xs i d) (let e : low + (k - low) ≡ k = omega arith in e)
+
+pub rest_length : {X : Type 0} (low : ℕ) (xs : List X) → length (rest_from low xs) ≡ length xs - low
+rest_length low xs = ap length (rest_is low xs) ∙ length-drop low xs
+
+pub rest_sorted : {X : Type 0} (key : X → ℕ) (low : ℕ) (xs : List X) → IsNonDecreasingBy key xs → IsNonDecreasingBy key (rest_from low xs)
+rest_sorted {X} key low xs up = let P : List X → Type 0 = λ z. IsNonDecreasingBy key z in subst P (sym (rest_is low xs)) (IsNonDecreasingBy-drop key low xs up)
+
+-- up to this place the keys are at most s, and from there on above
+abbrev pub IsEnd : {X : Type 0} → (X → ℕ) → ℕ → List X → ℕ → Type 0
+IsEnd key s xs high = IsPartitionPoint (λ x. leb (key x) s ≡ true) (λ x. leb (key x) s ≡ false) xs high
+
+-- found in the rest of a list, where all before are within
+end_behind : {X : Type 0} (key : X → ℕ) (s : ℕ) (xs : List X) (low more : ℕ) → ((k : ℕ) (d : X) → k < low → key (get_or xs k d) ≤ s) → IsEnd key s (rest_from low xs) more → IsEnd key s xs (low + more)
+end_behind key s xs low more before p = (
+  λ k d from lt. elim (cases_lt k low) [
+    | inl below ↦ let h : key (get_or xs k d) ≤ s = before k d below in grind (arith, nat_tests)
+    | inr le ↦ ap (λ x. leb (key x) s) (sym (rest_at low xs k d le)) ∙ p.0 (k - low) d (omega arith) (omega arith)
+  ],
+  λ k d from lt.
+      let long : length (rest_from low xs) ≡ length xs - low = rest_length low xs in
+      ap (λ x. leb (key x) s) (sym (rest_at low xs k d (omega arith))) ∙ p.1 (k - low) d (omega arith) (omega arith),
+)
+
+-- where keys do not fall: found among the first items
+pub end_near : {X : Type 0} (key : X → ℕ) (s : ℕ) (xs : List X) (near high : ℕ) → IsNonDecreasingBy key xs → near ≤ length xs → high < near → IsEnd key s (take near xs) high → IsEnd key s xs high
+end_near key s xs near high up end lt p = (
+  λ k d from below. ap (λ x. leb (key x) s) (sym (get_or-take near xs k d (omega arith))) ∙ p.0 k d from below,
+  λ k d from within.
+      let long : length (take near xs) ≡ near = length-take-le near xs end in
+      let t : leb (key (get_or (take near xs) high d)) s ≡ false = p.1 high d (omega arith) (omega arith) in
+      let u : leb (key (get_or xs high d)) s ≡ false = ap (λ x. leb (key x) s) (sym (get_or-take near xs high d lt)) ∙ t in
+      let more : key (get_or xs high d) ≤ key (get_or xs k d) = up high k d from within in
+      grind (arith, nat_tests),
+)
+
+-- not found among the first items, but in the rest
+pub end_far : {X : Type 0} (key : X → ℕ) (s : ℕ) (xs : List X) (near high more : ℕ) → near ≤ high → IsEnd key s (take near xs) high → IsEnd key s (rest_from near xs) more → IsEnd key s xs (near + more)
+end_far key s xs near high more le p q = end_behind key s xs near more (λ k d lt.
+    let t : leb (key (get_or (take near xs) k d)) s ≡ true = p.0 k d (omega arith) (omega arith) in
+    let u : leb (key (get_or xs k d)) s ≡ true = ap (λ x. leb (key x) s) (sym (get_or-take near xs k d lt)) ∙ t in
+    grind (arith, nat_tests)) q
+
+-- the part with one key, from its beginning and from where it ends in the rest
+pub key_range_on : {X : Type 0} (key : X → ℕ) (s : ℕ) (xs : List X) (low more : ℕ) → IsPartitionPoint (λ x. ltb (key x) s ≡ true) (λ x. ltb (key x) s ≡ false) xs low → low ≤ length xs
+    → IsEnd key s (rest_from low xs) more → more ≤ length (rest_from low xs) → IsKeyRange key s xs low (low + more)
+key_range_on key s xs low more l lend h hend =
+    let long : length (rest_from low xs) ≡ length xs - low = rest_length low xs in
+    key_range key s xs low (low + more) l lend
+    (end_behind key s xs low more (λ k d lt. let t : ltb (key (get_or xs k d)) s ≡ true = l.0 k d (omega arith) lt in grind (arith, nat_tests)) h)
+    (omega arith)
 
 -- ---- ascending lists
 

@@ -1,9 +1,9 @@
-use Rattle.std.proofs.Common.{◌≡◌, ◌≢◌, ◌⊎◌, inl, inr, ℕ, ◌+◌, ◌<◌, ◌≤◌, List, [], ◌∷◌, ◌++◌, refl, sym, ◌∙◌, ap, subst, append_assoc, arith, Option, Some, None}
+use Rattle.std.proofs.Common.{◌≡◌, inl, inr, ℕ, ◌+◌, ◌<◌, List, [], ◌∷◌, ◌++◌, refl, sym, ◌∙◌, ap, subst, append_assoc, arith, Some, None}
 use Rattle.std.specs.Prelude.{◌↔◌, IsTrue}
 use Rattle.std.specs.Option.{option_to_list}
 use Rattle.ap_fst.specs.Lists.{IsIn}
 use Rattle.ap_fst.specs.Sketches.{Sketch, IsWithin, IsSketch}
-use Rattle.ap_fst.specs.Paths.{Path, here, on, Accepts, IsOptional, IsMoreThanNone, Repeats, done, more}
+use Rattle.ap_fst.specs.Paths.{Path, here, on, IsOptional, IsMoreThanNone, Repeats, done, more}
 use Rattle.ap_fst.specs.declared.draft.Move.{Move}
 use Rattle.ap_fst.specs.declared.label.Label.{Label}
 use Rattle.ap_fst.specs.Sides.{has_side}

@@ -1,6 +1,5 @@
-use Rattle.std.specs.Prelude.{◌≡◌, ℕ, ◌<◌, ◌≤◌, Bool, not, List, [], ◌++◌, Some, None, length, suc, zero, slice_get}
+use Rattle.std.specs.Prelude.{◌≡◌, ℕ, ◌<◌, ◌≤◌, Bool, not, true, List, [], ◌++◌, Option, Some, None, length, suc, zero, slice_get}
 use Rattle.std.specs.Option.{is_some}
-use Rattle.ap_fst.specs.Graphs.{place_of}
 use Rattle.ap_fst.specs.Machines.{Machine}
 use Rattle.ap_fst.specs.Walks.{AcceptsLabels}
 use Rattle.ap_fst.specs.Sides.{left_word}
@@ -39,13 +38,28 @@ pub record IsFirstOnEmptyCycle (edges : List Edge) (j : ℕ) : Type 0 where
   pub on : IsOnEmptyCycle edges j
   pub first : (i : ℕ) → i < j → IsOnEmptyCycle edges i → ⊥
 
--- an edge between two states of a list, from the earlier to the later
-pub record Rises (order : List ℕ) (e : Edge) : Type 0 where
-  pub from_place : ℕ
-  pub to_place : ℕ
-  pub from_at : place_of order e.from ≡ Some from_place
-  pub to_at : place_of order e.to ≡ Some to_place
-  pub rises : from_place < to_place
+-- the states that an edge leaves and enters have these numbers
+pub record HasNumbers (number : ℕ → Option ℕ) (e : Edge) (from to : ℕ) : Type 0 where
+  pub from_number : number e.from ≡ Some from
+  pub to_number : number e.to ≡ Some to
+
+-- an edge between two states with numbers, to one that is no lower
+pub record KeepsUp (number : ℕ → Option ℕ) (e : Edge) : Type 0 where
+  pub from : ℕ
+  pub to : ℕ
+  pub numbers : HasNumbers number e from to
+  pub keeps : from ≤ to
+
+-- an edge between two states with numbers, from the lower to the higher
+pub record Rises (number : ℕ → Option ℕ) (e : Edge) : Type 0 where
+  pub from : ℕ
+  pub to : ℕ
+  pub numbers : HasNumbers number e from to
+  pub rises : from < to
+
+-- each edge before this place whose left side is empty leads to a higher number
+abbrev pub RiseBefore : (ℕ → Option ℕ) → List Edge → ℕ → Type 0
+RiseBefore number edges j = (i : ℕ) (e : Edge) → i < j → slice_get edges i ≡ Some e → is_silent e ≡ true → Rises number e
 
 -- A run of labels with empty left sides within a label string.
 pub record IsSilentRun (labels middle : List Label) : Type 0 where

@@ -1,135 +1,79 @@
-ghost use Rattle.std.specs.Prelude.{◌≡◌, ◌↔◌, ◌<◌, ℕ, IsTrue, IfOk, true, slice_get, Some, length, None, List, map};
-ghost use Rattle.std.specs.Option.{MatchOption, option_copied};
+ghost use Rattle.std.specs.Prelude.{◌≡◌, ◌↔◌, ◌<◌, ℕ, IsTrue, IfOk, true, slice_get, length, map, nat_eq};
+ghost use Rattle.std.specs.Option.{MatchOption, IfSome, option_copied};
 ghost use Rattle.std.specs.List.{filter};
 ghost use Rattle.std.specs.List.Sorted.{IsNonDecreasingBy};
 ghost use Rattle.ap_fst.specs.Lists.{IsIn};
 ghost use Rattle.ap_fst.specs.Graphs.{arc_from, forward};
 ghost use Rattle.ap_fst.specs.Machines.{Machine, IsMachine};
 ghost use Rattle.ap_fst.specs.Trimming.{IsTrimmed};
-ghost use Rattle.ap_fst.specs.Silence.{is_silent, Rises, IsOnEmptyCycle, IsFirstOnEmptyCycle, HasNoEmptyCycle, HasBoundedRuns, SilentWalk};
+ghost use Rattle.indexmap.specs.IndexMap.{get};
+ghost use Rattle.ap_fst.specs.Silence.{is_silent, HasNumbers, KeepsUp, Rises, RiseBefore, IsOnEmptyCycle, IsFirstOnEmptyCycle, HasNoEmptyCycle, HasBoundedRuns, SilentWalk};
 ghost use Rattle.ap_fst.specs.declared.label.Edge.{Edge};
 
 use crate::arcs::silent_arcs;
+use crate::components::component_numbers;
 use crate::fst::Fst;
-use crate::graph::{Arc, StateSet, arcs_from, reach, sort_arcs};
+use crate::graph::{Arc, reach};
 use crate::label::Edge;
 use ap_symbol::Memory;
 use indexmap::IndexMap;
 use std::alloc::Global;
 
-fn turned(alloc: Global, arcs: &[Arc]) -> Result<Vec<Arc>, Memory>
-    ensures { IfOk result (λ made. IsNonDecreasingBy arc_from made.items) }
+/// The numbers of the states that an edge leaves and enters.
+fn numbers_at(numbers: &IndexMap<usize, usize>, edge: &Edge) -> Option<(usize, usize)>
+    ensures { IfSome result (λ r. HasNumbers (get nat_eq numbers.now) edge.now r.0 r.1) }
 {
-    let mut made = Vec::with_capacity(alloc, arcs.len())?;
-    for arc in arcs {
-        made.push(Arc {
-            from: arc.to,
-            to: arc.from,
-        })?;
-    }
-    sort_arcs(&mut made);
-    Ok(made)
+    let from = numbers.get(&edge.from)?;
+    let to = numbers.get(&edge.to)?;
+    Some((*from, *to))
 }
 
-/// Counts an arc into a state, and puts the state into the order after its last.
-fn count_arc(
-    counts: &mut IndexMap<usize, usize>,
-    entering: &[Arc],
-    state: usize,
-    order: &mut StateSet,
-) -> Result<(), Memory>
-    requires { IsNonDecreasingBy arc_from entering.now }
+fn edge_keeps_up(numbers: &IndexMap<usize, usize>, edge: &Edge) -> bool
+    ensures { IsTrue result → is_silent edge.now ≡ true → KeepsUp (get nat_eq numbers.now) edge.now }
 {
-    let before = match counts.get(&state) {
-        Some(count) => *count,
-        None => 0,
-    };
-    let count = before.saturating_add(1);
-    counts.insert(state, count)?;
-    if count >= arcs_from(entering, state).len() {
-        order.add(state)?;
+    if edge.label.left.is_some() {
+        return true;
     }
-    Ok(())
-}
-
-fn count_arcs(
-    counts: &mut IndexMap<usize, usize>,
-    entering: &[Arc],
-    arcs: &[Arc],
-    order: &mut StateSet,
-) -> Result<(), Memory>
-    requires { IsNonDecreasingBy arc_from entering.now }
-{
-    for arc in arcs {
-        count_arc(counts, entering, arc.to, order)?;
-    }
-    Ok(())
-}
-
-fn add_sources(entering: &[Arc], arcs: &[Arc], order: &mut StateSet) -> Result<(), Memory>
-    requires { IsNonDecreasingBy arc_from entering.now }
-{
-    for arc in arcs {
-        if arcs_from(entering, arc.from).is_empty() {
-            order.add(arc.from)?;
-        }
-    }
-    Ok(())
-}
-
-/// The states of the arcs, each after all from which an arc leads to it, but for those behind a
-/// cycle. What it gives is tested before it is relied on.
-fn order_of(alloc: Global, arcs: &[Arc]) -> Result<StateSet, Memory>
-    requires { IsNonDecreasingBy arc_from arcs.now }
-{
-    let entering = turned(alloc, arcs)?;
-    let mut counts = IndexMap::new(alloc);
-    let mut order = StateSet::new(alloc);
-    add_sources(entering.as_slice(), arcs, &mut order)?;
-    let mut at = 0;
-    while let Some(state) = order.get(at) {
-        count_arcs(
-            &mut counts,
-            entering.as_slice(),
-            arcs_from(arcs, state),
-            &mut order,
-        )?;
-        at += 1;
-    }
-    Ok(order)
-}
-
-fn edge_rises(order: &StateSet, edge: &Edge) -> bool
-    ensures { IsTrue result → Rises order.now edge.now }
-{
-    let Some(from) = order.place(edge.from) else {
+    let Some((from, to)) = numbers_at(numbers, edge) else {
         return false;
     };
-    let Some(to) = order.place(edge.to) else {
+    from <= to
+}
+
+/// Whether no edge with an empty left side leads to a state with a lower number.
+fn all_keep_up(numbers: &IndexMap<usize, usize>, edges: &[Edge]) -> bool
+    ensures { IsTrue result → (e : Edge) → IsIn e edges.now → is_silent e ≡ true → KeepsUp (get nat_eq numbers.now) e }
+{
+    for edge in edges {
+        if !edge_keeps_up(numbers, edge) {
+            return false;
+        }
+    }
+    true
+}
+
+fn edge_rises(numbers: &IndexMap<usize, usize>, edge: &Edge) -> bool
+    ensures { IsTrue result → is_silent edge.now ≡ true → Rises (get nat_eq numbers.now) edge.now }
+{
+    if edge.label.left.is_some() {
+        return true;
+    }
+    let Some((from, to)) = numbers_at(numbers, edge) else {
         return false;
     };
     from < to
 }
 
-fn fits_order(order: &StateSet, edge: &Edge) -> bool
-    ensures { IsTrue result → is_silent edge.now ≡ true → Rises order.now edge.now }
+/// The place of the first edge with an empty left side that doesn't lead to a higher number.
+fn first_level(numbers: &IndexMap<usize, usize>, edges: &[Edge]) -> Option<usize>
+    ensures { MatchOption result (RiseBefore (get nat_eq numbers.now) edges.now (length edges.now)) (λ j. RiseBefore (get nat_eq numbers.now) edges.now j) }
 {
-    if edge.label.left.is_some() {
-        return true;
-    }
-    edge_rises(order, edge)
-}
-
-/// Whether each edge with an empty left side leads from an earlier state to a later one.
-fn all_rise(order: &StateSet, edges: &[Edge]) -> bool
-    ensures { IsTrue result → (e : Edge) → IsIn e edges.now → is_silent e ≡ true → Rises order.now e }
-{
-    for edge in edges {
-        if !fits_order(order, edge) {
-            return false;
+    for (at, edge) in edges.iter().enumerate() {
+        if !edge_rises(numbers, edge) {
+            return Some(at);
         }
     }
-    true
+    None
 }
 
 fn edge_at(edges: &[Edge], at: usize) -> Option<&Edge>
@@ -167,19 +111,41 @@ fn first_on_cycle(alloc: Global, arcs: &[Arc], edges: &[Edge]) -> Result<Option<
     Ok(None)
 }
 
+/// The first edge on a cycle, by the numbers of the states: an edge to a higher number lies on no
+/// cycle where none leads to a lower one, so the first that leads to the same number is tried alone.
+/// Where the numbers don't serve, it is found by a search from each edge.
+fn first_by_numbers(
+    alloc: Global,
+    numbers: &IndexMap<usize, usize>,
+    arcs: &[Arc],
+    edges: &[Edge],
+) -> Result<Option<usize>, Memory>
+    requires arcs { arcs.now ≡ map forward (filter is_silent edges.now) }
+    requires sorted { IsNonDecreasingBy arc_from arcs.now }
+    ensures { IfOk result (λ answer. MatchOption answer ((j : ℕ) → IsOnEmptyCycle edges.now j → ⊥) (λ j. IsFirstOnEmptyCycle edges.now j)) }
+{
+    if !all_keep_up(numbers, edges) {
+        return first_on_cycle(alloc, arcs, edges);
+    }
+    let Some(at) = first_level(numbers, edges) else {
+        return Ok(None);
+    };
+    if is_on_cycle(alloc, arcs, edges, at)? {
+        return Ok(Some(at));
+    }
+    first_on_cycle(alloc, arcs, edges)
+}
+
 /// The place in `edges` of the first edge that lies on a cycle of edges with an empty left side.
-/// Where there is no such cycle it is linear in the edges, but for the look-ups of states; else it
-/// searches from each edge up to that one. It takes memory by the edges and not by the number of states.
+/// It is linear in the edges, but for the look-ups of states, and takes memory by the edges and not
+/// by the number of states.
 pub fn empty_cycle(alloc: Global, fst: &Fst) -> Result<Option<usize>, Memory>
     ensures { IfOk result (λ answer. MatchOption answer (HasNoEmptyCycle fst.now) (λ j. IsFirstOnEmptyCycle fst.now.edges j)) }
 {
     let edges = fst.edges();
     let arcs = silent_arcs(alloc, edges)?;
-    let order = order_of(alloc, arcs.as_slice())?;
-    if all_rise(&order, edges) {
-        return Ok(None);
-    }
-    let answer = first_on_cycle(alloc, arcs.as_slice(), edges)?;
+    let numbers = component_numbers(alloc, arcs.as_slice())?;
+    let answer = first_by_numbers(alloc, &numbers, arcs.as_slice(), edges)?;
     Ok(answer)
 }
 

@@ -12,6 +12,9 @@ use crate::order::compare_left;
 use ap_symbol::Symbol;
 use std::marker::Model;
 
+/// Edges among which an end is looked for first: most states have no more with one left side.
+const NEAR: usize = 8;
+
 fn low_of(edges: &[Edge], state: usize) -> usize
     requires { IsNonDecreasingBy edge_from edges.now }
     ensures point { IsPartitionPoint (λ e. nat_lt (edge_from e) state ≡ true) (λ e. nat_lt (edge_from e) state ≡ false) edges.now result }
@@ -28,14 +31,28 @@ fn high_of(edges: &[Edge], state: usize) -> usize
     edges.partition_point(|e| e.from <= state)
 }
 
-/// Where the edges of a state begin and end, by halving.
+/// The same point, looked for among the first few edges before the rest.
+fn near_high_of(edges: &[Edge], state: usize) -> usize
+    requires { IsNonDecreasingBy edge_from edges.now }
+    ensures point { IsPartitionPoint (λ e. nat_le (edge_from e) state ≡ true) (λ e. nat_le (edge_from e) state ≡ false) edges.now result }
+    ensures bound { result ≤ length edges.now }
+{
+    let near = edges.len().min(NEAR);
+    let high = high_of(&edges[..near], state);
+    if high < near {
+        return high;
+    }
+    near + high_of(&edges[near..], state)
+}
+
+/// Where the edges of a state begin and end: the beginning by halving, the end from there on.
 fn range_of(edges: &[Edge], state: usize) -> (usize, usize)
     requires { IsNonDecreasingBy edge_from edges.now }
     ensures { IsKeyRange edge_from state edges.now result.0 result.1 }
 {
     let low = low_of(edges, state);
-    let high = high_of(edges, state);
-    (low, high)
+    let more = near_high_of(&edges[low..], state);
+    (low, low + more)
 }
 
 fn part_of(edges: &[Edge], state: usize) -> &[Edge]
@@ -62,14 +79,29 @@ fn high_by(edges: &[Edge], state: usize, left: Option<&Symbol>) -> usize
     edges.partition_point(|e| compare_left(e, state, left).is_le())
 }
 
-/// Where the edges of a state with this left side begin and end, by halving.
+/// The same point, looked for among the first few edges before the rest.
+fn near_high_by(edges: &[Edge], state: usize, left: Option<&Symbol>) -> usize
+    requires { IsNonDecreasingBy (left_place state (option_copied left)) edges.now }
+    ensures point { IsPartitionPoint (λ e. nat_le (left_place state (option_copied left.entry) e) 1 ≡ true) (λ e. nat_le (left_place state (option_copied left.entry) e) 1 ≡ false) edges.now result }
+    ensures bound { result ≤ length edges.now }
+{
+    let near = edges.len().min(NEAR);
+    let high = high_by(&edges[..near], state, left);
+    if high < near {
+        return high;
+    }
+    near + high_by(&edges[near..], state, left)
+}
+
+/// Where the edges of a state with this left side begin and end: the beginning by halving, the end
+/// from there on.
 fn range_by(edges: &[Edge], state: usize, left: Option<&Symbol>) -> (usize, usize)
     requires { IsNonDecreasingBy (left_place state (option_copied left)) edges.now }
     ensures { IsKeyRange (left_place state (option_copied left.entry)) 1 edges.now result.0 result.1 }
 {
     let low = low_by(edges, state, left);
-    let high = high_by(edges, state, left);
-    (low, high)
+    let more = near_high_by(&edges[low..], state, left);
+    (low, low + more)
 }
 
 fn is_listed(states: &[usize], state: usize) -> bool

@@ -23,7 +23,8 @@ pub(crate) fn sort_arcs(arcs: &mut Vec<Arc>)
     arcs.sort_unstable_by_key(|a| a.from);
 }
 
-fn low_of(arcs: &[Arc], state: usize) -> usize
+/// Where the arcs of a state begin, by halving.
+pub(crate) fn low_of(arcs: &[Arc], state: usize) -> usize
     requires { IsNonDecreasingBy arc_from arcs.now }
     ensures point { IsPartitionPoint (λ a. nat_lt (arc_from a) state ≡ true) (λ a. nat_lt (arc_from a) state ≡ false) arcs.now result }
     ensures bound { result ≤ length arcs.now }

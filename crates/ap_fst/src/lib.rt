@@ -4,6 +4,7 @@
 
 mod arcs;
 mod compiled;
+mod components;
 mod cycles;
 mod draft;
 mod fst;

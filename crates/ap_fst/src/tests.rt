@@ -1,6 +1,8 @@
+use crate::components::component_numbers;
 use crate::cycles::empty_cycle;
 use crate::draft::Draft;
 use crate::fst::Fst;
+use crate::graph::{Arc, sort_arcs};
 use crate::label::{Edge, Label};
 use crate::removal::without_empty;
 use crate::silence::empty_side;
@@ -123,5 +125,50 @@ fn a_letter_at_most_once(rt: HostRuntime) -> Result<(), Fail> {
     let fst = small(alloc, draft.opt()?)?;
     assert!(rt; fst.is_final(0));
     assert_eq!(rt; fst.edges().len(), 1);
+    Ok(())
+}
+
+/// A draft that reads nothing and writes one letter.
+fn silent_draft(alloc: Global, c: char) -> Result<Draft, Fail> {
+    let label = Label {
+        left: None,
+        right: Some(Symbol::Letter(c)),
+    };
+    Ok(Draft::letter(alloc, label)?)
+}
+
+#[test]
+fn the_first_of_two_cycles_behind_a_chain_is_found(rt: HostRuntime) -> Result<(), Fail> {
+    let alloc = rt.alloc();
+    let chain = silent_draft(alloc, 'a')?.join(silent_draft(alloc, 'b')?)?;
+    let pair = silent_draft(alloc, 'c')?.join(silent_draft(alloc, 'd')?)?;
+    let front = chain.join(pair.plus()?)?.join(silent_draft(alloc, 'e')?)?;
+    let whole = front.join(silent_draft(alloc, 'f')?.plus()?)?;
+    let fst = small(alloc, whole)?;
+    let text = edges_text(alloc, &fst)?;
+    assert_eq!(rt; text.as_str(), "0-a1 1-b2 2-c3 3-d4 4-c3 4-e5 5-f6 6-f6 ");
+    assert_eq!(rt; empty_cycle(alloc, &fst)?, Some(3));
+    Ok(())
+}
+
+fn push_arc(arcs: &mut Vec<Arc>, from: usize, to: usize) -> Result<(), Fail> {
+    arcs.push(Arc { from, to })?;
+    Ok(())
+}
+
+#[test]
+fn states_on_one_cycle_share_a_number(rt: HostRuntime) -> Result<(), Fail> {
+    let alloc = rt.alloc();
+    let mut arcs = Vec::new(alloc);
+    push_arc(&mut arcs, 8, 5)?;
+    push_arc(&mut arcs, 5, 2)?;
+    push_arc(&mut arcs, 2, 5)?;
+    push_arc(&mut arcs, 2, 1)?;
+    sort_arcs(&mut arcs);
+    let numbers = component_numbers(alloc, arcs.as_slice())?;
+    assert_eq!(rt; numbers.get(&8).copied(), Some(0));
+    assert_eq!(rt; numbers.get(&5).copied(), Some(1));
+    assert_eq!(rt; numbers.get(&2).copied(), Some(1));
+    assert_eq!(rt; numbers.get(&1).copied(), Some(3));
     Ok(())
 }

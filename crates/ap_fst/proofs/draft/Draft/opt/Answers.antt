@@ -1,4 +1,3 @@
-use Rattle.std.proofs.Common.{refl}
 use Rattle.ap_fst.specs.Sketches.{Sketch}
 use Rattle.ap_fst.proofs.Stars.{opt_is_sketch, opt_law}
 use Rattle.ap_fst.proofs.draft.Draft.opt.Goals as goal
