@@ -225,12 +225,6 @@ take_taken (x ∷ xs) zero (suc k) h = absurd (omega arith)
 take_taken (x ∷ xs) (suc n) zero h = refl
 take_taken (x ∷ xs) (suc n) (suc k) h = ap (λ z. x ∷ z) (take_taken xs n k (omega arith))
 
-take_whole : {X : Type 0} (xs : List X) (n : ℕ) → length xs ≤ n → take n xs ≡ xs
-take_whole [] zero h = refl
-take_whole [] (suc n) h = refl
-take_whole (x ∷ xs) zero h = absurd (omega arith)
-take_whole (x ∷ xs) (suc n) h = ap (λ z. x ∷ z) (take_whole xs n (omega arith))
-
 pub rows_cut : (edges : List Edge) (seen : List Input) (rows rows' : List Row) (n : ℕ) → n < length rows → rows' ≡ take (n + 1) rows → AreRows edges seen rows → AreRows edges (take n seen) rows'
 rows_cut edges seen rows rows' n lt e live =
     let c : length rows ≡ length seen + 1 = live.count in
@@ -244,26 +238,3 @@ rows_cut edges seen rows rows' n lt e live =
           let low : k < n + 1 = g.1 in
           subst (λ (z : List Input). IsRow edges z row) (sym (take_taken seen n k (omega arith))) (live.each k row g.0);
     }
-
-pub rows_whole : (edges : List Edge) (seen : List Input) (rows : List Row) (n : ℕ) → length rows ≤ n + 1 → AreRows edges seen rows → AreRows edges (take n seen) rows
-rows_whole edges seen rows n le live =
-    let c : length rows ≡ length seen + 1 = live.count in
-    subst (λ (z : List Input). AreRows edges z rows) (sym (take_whole seen n (omega arith))) live
-
-length-take : {X : Type 0} (n : ℕ) (xs : List X) → length (take n xs) ≤ length xs
-length-take zero [] = omega arith
-length-take (suc n) [] = omega arith
-length-take zero (x ∷ xs) = omega arith
-length-take (suc n) (x ∷ xs) = let k : length (take n xs) ≤ length xs = length-take n xs in omega arith
-
--- the last rows dropped, till so many inputs are left
-pub cut_law : (edges : List Edge) (seen : List Input) (old new : List Row) (n : ℕ) → length new ≤ n + 1 → new ≡ take (length new) old → (length new ≡ length old) ⊎ (n + 1 ≤ length new) → AreRows edges seen old → AreRows edges (take n seen) new
-cut_law edges seen old new n few front (inl e) live =
-    let same : new ≡ old = front ∙ ap (λ k. take k old) e ∙ take-length old in
-    subst (λ (z : List Row). AreRows edges (take n seen) z) (sym same) (rows_whole edges seen old n (omega arith) live)
-cut_law edges seen old new n few front (inr le) live =
-    let long : length new ≡ n + 1 = omega arith in
-    let is : new ≡ take (n + 1) old = front ∙ ap (λ k. take k old) long in
-    let low : length (take (n + 1) old) ≤ length old = length-take (n + 1) old in
-    let same : length new ≡ length (take (n + 1) old) = ap (length {A = Row}) is in
-    rows_cut edges seen old new n (omega arith) is live
