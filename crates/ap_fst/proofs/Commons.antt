@@ -12,7 +12,8 @@ use Rattle.std.proofs.lemmas.Cmp.{nat_cmp_total}
 use Rattle.std.proofs.lemmas.List.Kept.{IsStrictlySortedBy-dedup, Contains-dedup_nat, Contains-from_dedup}
 use Rattle.std.proofs.lemmas.Option.{same_Some, slice_get_within}
 use Rattle.ap_fst.specs.Lists.{IsIn, Ascends}
-use Rattle.ap_fst.specs.Graphs.{AddsCommon}
+use Rattle.ap_fst.specs.Graphs.{AddsCommon, IsSharedAt, AreBelow}
+use Rattle.ap_fst.specs.Removal.{AddsWhere}
 use Rattle.ap_fst.proofs.Listing.{in_front, in_back, in_either, in_from_place, placed_in, IsPlaced, in_contains, contains_in, in_permutation, from_permutation}
 
 pub adds_none : (a b : List ℕ) (at : ℕ) (old : List ℕ) → ((s : ℕ) → slice_get a at ≡ Some s → IsIn s b → ⊥) → AddsCommon a b at old old
@@ -80,3 +81,26 @@ dedup_holds old xs ys a b p e h s = (
   λ i. (h s).0 (from_permutation s old xs p (contains_in s xs (Contains-from_dedup eqb xs s (in_contains s (dedup eqb xs) (subst (λ (z : List ℕ). IsIn s z) e i))))),
   λ k. subst (λ (z : List ℕ). IsIn s z) (sym e) (contains_in s (dedup eqb xs) (Contains-dedup_nat xs s (in_contains s xs (in_permutation s old xs p ((h s).1 k))))),
 )
+
+-- ---- below a bound
+
+pub below_begun : (a b both : List ℕ) → both ≡ [] → AreBelow a b 0 both
+below_begun a b both e s = let P : List ℕ → Type 0 = λ z. IsIn s z in (λ i. elim (subst P e i) [ ], λ k. let l : s < 0 = k.0 in absurd (omega arith))
+
+pub below_on : (a b : List ℕ) (n : ℕ) (old new : List ℕ) → AddsWhere (IsSharedAt a b n) old new → AreBelow a b n old → AreBelow a b (n + 1) new
+below_on a b n old new g r s = (
+  λ i. elim (g.only s i) [
+    | inl k ↦ let h : (s < n) × IsIn s a × IsIn s b = (r s).0 k in let l : s < n = h.0 in (omega arith, h.1, h.2)
+    | inr h ↦ let f : s ≡ n = h.0 in (omega arith, h.1, h.2)
+  ],
+  λ h. let l : s < n + 1 = h.0 in elim (cases_lt s n) [
+    | inl lt ↦ g.stays s ((r s).1 (lt, h.1, h.2))
+    | inr le ↦ let f : s ≡ n = omega arith in g.there s (f, h.1, h.2)
+  ],
+)
+
+pub below_all : (a b both : List ℕ) (n : ℕ) → ((s : ℕ) → IsIn s a → s < n) → AreBelow a b n both → (s : ℕ) → IsIn s both ↔ IsIn s a × IsIn s b
+below_all a b both n low r s = (λ i. (((r s).0 i).1, ((r s).0 i).2), λ h. (r s).1 (low s h.0, h.0, h.1))
+
+pub below_end : (a b both : List ℕ) (n bound : ℕ) → n ≡ bound → AreBelow a b n both → AreBelow a b bound both
+below_end a b both n bound e r = subst (λ (z : ℕ). AreBelow a b z both) e r

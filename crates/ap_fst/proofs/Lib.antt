@@ -1,5 +1,6 @@
 pub mod Listing
 pub mod Growing
+pub mod MarkLaws
 pub mod Commons
 pub mod PlaceLaws
 pub mod WalkLaws

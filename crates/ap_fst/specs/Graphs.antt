@@ -1,4 +1,4 @@
-use Rattle.std.specs.Prelude.{◌≡◌, ◌⊎◌, ℕ, ◌==◌, List, [], ◌∷◌, ◌++◌, Option, Some, slice_get, position, if◌then◌else◌}
+use Rattle.std.specs.Prelude.{◌≡◌, ◌⊎◌, ◌↔◌, ℕ, ◌<◌, ◌==◌, List, [], ◌∷◌, ◌++◌, Option, Some, slice_get, position, if◌then◌else◌}
 use Rattle.std.specs.List.{list_any, filter}
 use Rattle.ap_fst.specs.Lists.{IsIn}
 use Rattle.ap_fst.specs.declared.graph.Arc.{Arc}
@@ -46,3 +46,11 @@ pub record AddsCommon (a b : List ℕ) (at : ℕ) (old new : List ℕ) : Type 0 
   pub only : (s : ℕ) → IsIn s new → IsIn s old ⊎ ((slice_get a at ≡ Some s) × IsIn s b)
   pub stays : (s : ℕ) → IsIn s old → IsIn s new
   pub there : (s : ℕ) → slice_get a at ≡ Some s → IsIn s b → IsIn s new
+
+-- this state, where both lists hold it
+abbrev pub IsSharedAt : List ℕ → List ℕ → ℕ → ℕ → Type 0
+IsSharedAt a b state s = (s ≡ state) × IsIn s a × IsIn s b
+
+-- the states below a bound that two lists share
+abbrev pub AreBelow : List ℕ → List ℕ → ℕ → List ℕ → Type 0
+AreBelow a b bound both = (s : ℕ) → IsIn s both ↔ (s < bound) × IsIn s a × IsIn s b

@@ -7,6 +7,7 @@ pub mod Paths
 pub mod Machines
 pub mod Walks
 pub mod Graphs
+pub mod Marks
 pub mod Trimming
 pub mod Silence
 pub mod Quiet

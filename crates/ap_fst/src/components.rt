@@ -25,12 +25,13 @@ struct Descent {
 }
 
 impl Descent {
-    fn new(alloc: Global) -> Descent {
-        Descent {
-            entered: StateSet::new(alloc),
+    /// A walk that has entered no state, with marks for the states below this number.
+    fn new(alloc: Global, marks: usize) -> Result<Descent, Memory> {
+        Ok(Descent {
+            entered: StateSet::new(alloc, marks)?,
             path: Vec::new(alloc),
             finished: Vec::new(alloc),
-        }
+        })
     }
 
     /// Enters a state, unless it was entered before.
@@ -84,7 +85,7 @@ impl Descent {
 fn finish_order(alloc: Global, arcs: &[Arc]) -> Result<Vec<usize>, Memory>
     requires { IsNonDecreasingBy arc_from arcs.now }
 {
-    let mut descent = Descent::new(alloc);
+    let mut descent = Descent::new(alloc, arcs.len().saturating_add(1))?;
     for arc in arcs {
         descent.finish(arcs, arc.from)?;
     }

@@ -13,7 +13,7 @@ ghost use Rattle.ap_fst.specs.declared.label.Edge.{Edge};
 use crate::arcs::silent_arcs;
 use crate::components::component_numbers;
 use crate::fst::Fst;
-use crate::graph::{Arc, reach};
+use crate::graph::{Arc, reach_near};
 use crate::label::Edge;
 use ap_symbol::Memory;
 use indexmap::IndexMap;
@@ -93,7 +93,7 @@ fn is_on_cycle(alloc: Global, arcs: &[Arc], edges: &[Edge], at: usize) -> Result
     if edge.label.left.is_some() {
         return Ok(false);
     }
-    let reached = reach(alloc, arcs, &[edge.to])?;
+    let reached = reach_near(alloc, arcs, &[edge.to])?;
     let answer = reached.contains(edge.from);
     Ok(answer)
 }

@@ -10,6 +10,7 @@ mod draft;
 mod fst;
 mod graph;
 mod label;
+mod numbering;
 mod order;
 mod removal;
 mod silence;

@@ -14,8 +14,9 @@ ghost use Rattle.ap_fst.specs.declared.label.Edge.{Edge};
 
 use crate::draft::{Draft, Move};
 use crate::fst::Fst;
-use crate::graph::{Arc, StateSet, arcs_from, reach, sort_arcs};
+use crate::graph::{Arc, StateSet, arcs_from, reach, reach_near, sort_arcs};
 use crate::label::{Edge, Edges, Finals};
+use crate::numbering::Numbering;
 use crate::order::compare_edges;
 use ap_symbol::Memory;
 use std::alloc::Global;
@@ -112,7 +113,7 @@ fn loud_arcs(alloc: Global, moves: &[Move]) -> Result<Vec<Arc>, Memory>
     Ok(arcs)
 }
 
-fn add_target(next: &Move, kept: &mut StateSet) -> Result<(), Memory>
+fn add_target(next: &Move, kept: &mut Numbering) -> Result<(), Memory>
     ensures { OnOk result (Grows kept.old (loud_targets (next.now ∷ [])) kept.new) }
 {
     if next.label.is_some() {
@@ -122,10 +123,10 @@ fn add_target(next: &Move, kept: &mut StateSet) -> Result<(), Memory>
 }
 
 /// The start, and the states that labelled moves enter. The place of a state is its new number.
-fn kept_states(alloc: Global, start: usize, moves: &[Move]) -> Result<StateSet, Memory>
+fn kept_states(alloc: Global, start: usize, moves: &[Move]) -> Result<Numbering, Memory>
     ensures { IfOk result (λ kept. Grows (start ∷ []) (loud_targets moves.now) kept) }
 {
-    let mut kept = StateSet::of(alloc, start)?;
+    let mut kept = Numbering::of(alloc, start)?;
     for next in moves {
         add_target(next, &mut kept)?;
     }
@@ -135,7 +136,7 @@ fn kept_states(alloc: Global, start: usize, moves: &[Move]) -> Result<StateSet, 
 fn add_move(
     alloc: Global,
     moves: &[Move],
-    kept: &StateSet,
+    kept: &Numbering,
     number: usize,
     arc: Arc,
     edges: &mut Vec<Edge>,
@@ -162,7 +163,7 @@ fn add_move(
 fn add_moves_of(
     alloc: Global,
     moves: &[Move],
-    kept: &StateSet,
+    kept: &Numbering,
     number: usize,
     arcs: &[Arc],
     edges: &mut Vec<Edge>,
@@ -179,7 +180,7 @@ fn add_near_at(
     alloc: Global,
     moves: &[Move],
     loud: &[Arc],
-    kept: &StateSet,
+    kept: &Numbering,
     near: &StateSet,
     number: usize,
     at: usize,
@@ -200,7 +201,7 @@ fn add_near(
     alloc: Global,
     moves: &[Move],
     loud: &[Arc],
-    kept: &StateSet,
+    kept: &Numbering,
     near: &StateSet,
     number: usize,
     edges: &mut Vec<Edge>,
@@ -219,7 +220,7 @@ fn add_number(
     moves: &[Move],
     quiet: &[Arc],
     loud: &[Arc],
-    kept: &StateSet,
+    kept: &Numbering,
     number: usize,
     edges: &mut Vec<Edge>,
 ) -> Result<(), Memory>
@@ -230,7 +231,7 @@ fn add_number(
     let Some(state) = kept.get(number) else {
         return Ok(());
     };
-    let near = reach(alloc, quiet, &[state])?;
+    let near = reach_near(alloc, quiet, &[state])?;
     add_near(alloc, moves, loud, kept, &near, number, edges)?;
     Ok(())
 }
@@ -240,7 +241,7 @@ fn all_edges(
     moves: &[Move],
     quiet: &[Arc],
     loud: &[Arc],
-    kept: &StateSet,
+    kept: &Numbering,
 ) -> Result<Vec<Edge>, Memory>
     requires quiet { IsNonDecreasingBy arc_from quiet.now }
     requires loud { IsNonDecreasingBy arc_from loud.now }
@@ -263,7 +264,7 @@ fn sort_edges(edges: &mut Vec<Edge>)
 }
 
 fn add_final(
-    kept: &StateSet,
+    kept: &Numbering,
     back: &StateSet,
     number: usize,
     finals: &mut Finals,
@@ -280,7 +281,7 @@ fn add_final(
 }
 
 /// The numbers of the states that are among these.
-fn final_numbers(alloc: Global, kept: &StateSet, back: &StateSet) -> Result<Finals, Memory>
+fn final_numbers(alloc: Global, kept: &Numbering, back: &StateSet) -> Result<Finals, Memory>
     ensures ascend { IfOk result (λ finals. Ascends nat_cmp finals) }
     ensures members { IfOk result (λ finals. (n : ℕ) → IsIn n finals ↔ IsNumberIn kept.now back.now n) }
 {

@@ -1,8 +1,9 @@
-ghost use Rattle.std.specs.Prelude.{◌≡◌, ◌↔◌, ◌++◌, ℕ, List, IfOk, OnOk};
+ghost use Rattle.std.specs.Prelude.{◌≡◌, ◌↔◌, ◌++◌, ℕ, List, Some, IsTrue, slice_get, IfOk, OnOk};
 ghost use Rattle.std.specs.List.{flat_map};
 ghost use Rattle.std.specs.Ordering.{nat_cmp};
 ghost use Rattle.ap_fst.specs.Lists.{IsIn, Ascends};
-ghost use Rattle.ap_fst.specs.Graphs.{place_of, AddsCommon};
+ghost use Rattle.ap_fst.specs.Graphs.{place_of, AddsCommon, IsSharedAt, AreBelow};
+ghost use Rattle.ap_fst.specs.Removal.{AddsWhere};
 ghost use Rattle.ap_fst.specs.Walks.{AcceptsLabels};
 ghost use Rattle.ap_fst.specs.Trimming.{IsUseful, IsTrimmed, IsTrimOf, kept_edge, kept_state};
 ghost use Rattle.ap_fst.specs.declared.label.Label.{Label};
@@ -27,13 +28,54 @@ fn add_common(a: &StateSet, b: &StateSet, at: usize, both: &mut Vec<usize>) -> R
     Ok(())
 }
 
-fn both_lists(alloc: Global, a: &StateSet, b: &StateSet) -> Result<Vec<usize>, Memory>
+/// The states that are in both, in the order of the first.
+fn both_listed(alloc: Global, a: &StateSet, b: &StateSet) -> Result<Vec<usize>, Memory>
     ensures { IfOk result (λ both. (s : ℕ) → IsIn s both.items ↔ IsIn s a.now × IsIn s b.now) }
 {
-    let mut both = Vec::new(alloc);
+    let mut both = Vec::with_capacity(alloc, a.len())?;
     for at in 0..a.len() {
         add_common(a, b, at, &mut both)?;
     }
+    Ok(both)
+}
+
+fn add_if_shared(
+    a: &StateSet,
+    b: &StateSet,
+    state: usize,
+    both: &mut Vec<usize>,
+) -> Result<(), Memory>
+    ensures { OnOk result (AddsWhere (IsSharedAt a.now b.now state) both.old.items both.new.items) }
+{
+    if !a.contains(state) {
+        return Ok(());
+    }
+    if !b.contains(state) {
+        return Ok(());
+    }
+    both.push(state)?;
+    Ok(())
+}
+
+/// The states below a bound that are in both, ascending.
+fn both_below(alloc: Global, a: &StateSet, b: &StateSet, bound: usize) -> Result<Vec<usize>, Memory>
+    ensures { IfOk result (λ both. AreBelow a.now b.now bound both.items) }
+{
+    let mut both = Vec::with_capacity(alloc, a.len())?;
+    for state in 0..bound {
+        add_if_shared(a, b, state, &mut both)?;
+    }
+    Ok(both)
+}
+
+/// The states that are in both: ascending where the first has a bound.
+fn both_lists(alloc: Global, a: &StateSet, b: &StateSet) -> Result<Vec<usize>, Memory>
+    ensures { IfOk result (λ both. (s : ℕ) → IsIn s both.items ↔ IsIn s a.now × IsIn s b.now) }
+{
+    let Some(bound) = a.bound() else {
+        return both_listed(alloc, a, b);
+    };
+    let both = both_below(alloc, a, b, bound)?;
     Ok(both)
 }
 
@@ -62,11 +104,23 @@ fn useful_states(alloc: Global, fst: &Fst) -> Result<Vec<usize>, Memory>
     Ok(states)
 }
 
-/// The new number of a state, by halving.
+fn stands_at_own_place(states: &[usize], state: usize) -> bool
+    ensures { IsTrue result → slice_get states.now state ≡ Some state }
+{
+    if state >= states.len() {
+        return false;
+    }
+    states[state] == state
+}
+
+/// The new number of a state: its own where it stands at its own place, and else by halving.
 fn number_of(states: &[usize], state: usize) -> Option<usize>
     requires { Ascends nat_cmp states.now }
     ensures { result ≡ place_of states.now state }
 {
+    if stands_at_own_place(states, state) {
+        return Some(state);
+    }
     states.binary_search(&state).ok()
 }
 
@@ -88,7 +142,7 @@ fn kept_edges(alloc: Global, states: &[usize], edges: &[Edge]) -> Result<Edges, 
     requires { Ascends nat_cmp states.now }
     ensures { IfOk result (λ kept. kept ≡ flat_map (kept_edge states.now) edges.now) }
 {
-    let mut kept = Edges::new(alloc);
+    let mut kept = Edges::from_vec(Vec::with_capacity(alloc, edges.len())?);
     for edge in edges {
         add_edge(alloc, states, edge, &mut kept)?;
     }

@@ -1,6 +1,6 @@
 use Rattle.std.proofs.Common.{◌-◌, ◌^◌}
 use Rattle.ap_fst.proofs.Growing.{IsReaching}
-use Rattle.ap_fst.proofs.graph.reach.Given as goal
+use Rattle.ap_fst.proofs.graph.reach_into.Given as goal
 
 abbrev pub invariant-loop-state : goal.invariant-loop-state
 invariant-loop-state l = IsReaching l.arcs l.starts l.set l.at
