@@ -8,8 +8,8 @@ use ap_fst::{Edge, Fst};
 use ap_symbol::Memory;
 use std::alloc::Global;
 
-/// Up to so many edges of a state are gone over. More are halved, over all edges, which reads from
-/// about twice as many places of memory.
+/// A state that at most so many edges leave has few: they stand side by side, so that to go over them
+/// is faster than to halve over all edges.
 const FEW: usize = 8;
 
 /// Lengthens hints to so many, by this place.
