@@ -22,6 +22,10 @@ const MOST_HELD: usize = 8_000_000;
 /// endless texts.
 const LEAST_KEPT: usize = 16;
 
+/// How many guesses are kept: a guess is the last link that was kept for a row and a letter, or for
+/// another row and letter at the same place. It is checked before it is followed.
+const GUESSES: usize = 65_536;
+
 /// From one known row an input leads to another, under a flag for case. Rows are numbered in the
 /// order in which they were kept. `earlier` is one more than the place of an earlier link from the
 /// same row, or 0.
@@ -38,14 +42,15 @@ pub struct Link {
 /// one as inputs have asked for.
 ///
 /// `path` has the numbers of the rows so far, as long as these are known. `heads` has for each known
-/// row one more than the place of its last link, or 0; links are checked when they are found by it.
-/// `held` counts the states and links of known rows.
+/// row one more than the place of its last link, or 0; `guesses` has such places by row and letter.
+/// Links are checked when they are found by them. `held` counts the states and links of known rows.
 #[derive(Debug, Drop)]
 pub struct Known {
     pub rows: Vec<SharedRow>,
     pub links: Vec<Link>,
     pub path: Vec<usize>,
     heads: Vec<usize>,
+    guesses: Vec<usize>,
     held: usize,
 }
 
@@ -59,6 +64,7 @@ pub(crate) fn nothing_known(alloc: Global) -> Known
         links: Vec::new(alloc),
         path: Vec::new(alloc),
         heads: Vec::new(alloc),
+        guesses: Vec::new(alloc),
         held: 0,
     }
 }
@@ -70,7 +76,7 @@ fn is_link(link: &Link, from: usize, input: &Symbol, sensitive: bool) -> bool
 }
 
 /// Where this input leads from this row, among the links from the one before this place on.
-fn linked(
+fn chained(
     links: &[Link],
     head: usize,
     from: usize,
@@ -100,6 +106,49 @@ fn head_of(heads: &[usize], from: usize) -> usize {
     }
 }
 
+/// The place of the guess for a letter from this row.
+fn place_of_guess(from: usize, input: &Symbol) -> usize {
+    match input {
+        Symbol::Letter(c) => from.wrapping_mul(31).wrapping_add(*c as usize) % GUESSES,
+        _ => 0,
+    }
+}
+
+/// Where this input leads from this row, if the link before this place says so.
+fn guessed(
+    links: &[Link],
+    guess: usize,
+    from: usize,
+    input: &Symbol,
+    sensitive: bool,
+) -> Option<usize>
+    ensures { (to : ℕ) → result ≡ Some to → IsLinked links.now from (record { symbol = input.now; sensitive = sensitive }) to }
+{
+    if guess == 0 || links.len() < guess {
+        return None;
+    }
+    let link = &links[guess - 1];
+    if is_link(link, from, input, sensitive) {
+        return Some(link.to);
+    }
+    None
+}
+
+/// Where this input leads from this row: by the guess, or else by the links of the row.
+fn linked(known: &Known, from: usize, input: &Symbol, sensitive: bool) -> Option<usize>
+    ensures { (to : ℕ) → result ≡ Some to → IsLinked known.now.links.items from (record { symbol = input.now; sensitive = sensitive }) to }
+{
+    let links = known.links.as_slice();
+    let guess = head_of(known.guesses.as_slice(), place_of_guess(from, input));
+    match guessed(links, guess, from, input, sensitive) {
+        Some(to) => Some(to),
+        None => {
+            let head = head_of(known.heads.as_slice(), from);
+            chained(links, head, from, input, sensitive)
+        }
+    }
+}
+
 /// The number of the known row that this input leads to from the last of so many rows.
 fn find(known: &Known, count: usize, input: &Symbol, sensitive: bool) -> Option<usize>
     ensures { (edges : List Edge) (finals : List ℕ) (rows : List Row) (to : ℕ) → result ≡ Some to → count ≡ length rows → IsKnown edges finals rows known.now.rows.items known.now.links.items known.now.path.items
@@ -111,8 +160,7 @@ fn find(known: &Known, count: usize, input: &Symbol, sensitive: bool) -> Option<
     let Some(from) = known.path.last() else {
         return None;
     };
-    let head = head_of(known.heads.as_slice(), *from);
-    linked(known.links.as_slice(), head, *from, input, sensitive)
+    linked(known, *from, input, sensitive)
 }
 
 fn row_at(rows: &[SharedRow], at: usize) -> Option<&SharedRow>
@@ -164,6 +212,7 @@ fn plant(known: &mut Known, alloc: Global, rows: &[SharedRow]) -> Result<(), Mem
     let Some(first) = row_at(rows, 0) else {
         return Ok(());
     };
+    known.guesses = vec![in alloc; 0; GUESSES]?;
     known.rows.push(first.copy()?)?;
     known.path.push(0)?;
     known.heads.push(0)?;
@@ -203,7 +252,9 @@ fn keep(
         to,
         earlier,
     })?;
-    set_head(&mut known.heads, from, known.links.as_slice().len());
+    let head = known.links.as_slice().len();
+    set_head(&mut known.heads, from, head);
+    set_head(&mut known.guesses, place_of_guess(from, input), head);
     known.path.push(to)?;
     Ok(())
 }
@@ -314,6 +365,7 @@ fn forget(known: &mut Known)
     known.links.clear();
     known.path.clear();
     known.heads.clear();
+    known.guesses.clear();
     known.held = 0;
 }
 

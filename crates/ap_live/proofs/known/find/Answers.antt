@@ -1,7 +1,5 @@
-use Rattle.std.proofs.Common.{◌≡◌, ◌-◌, ap, ◌∙◌, sym, subst, arith, Some, List, ℕ, length, slice_get}
+use Rattle.std.proofs.Common.{◌≡◌, ◌-◌, ap, ◌∙◌, sym, arith, Some, List, ℕ, length, slice_get}
 use Rattle.ap_live.specs.Fitting.{Input}
-use Rattle.ap_live.specs.Rows.{IsLinked}
-use Rattle.ap_live.specs.declared.known.Link.{Link}
 use Rattle.ap_live.proofs.KnownLaws.{follows}
 use Rattle.ap_live.proofs.known.find.Goals as goal
 
@@ -11,4 +9,4 @@ returns c = λ edges finals rows to t n is.
     let at : slice_get c.args.known.now.path.items (length c.args.known.now.path.items - 1) ≡ Some c.in-Some.from.now = sym (c.in-Some.ensures.value ∙ ap (λ (z : List ℕ). slice_get z (length z - 1)) c.deref.ensures.value) in
     let input : Input = record { symbol = c.args.input.now; sensitive = c.args.sensitive } in
     follows edges finals rows c.args.known.now.rows.items c.args.known.now.links.items c.args.known.now.path.items c.args.input.now c.args.sensitive c.args.count c.in-Some.from.now to pn n at is
-    (subst (λ (z : List Link). IsLinked z c.in-Some.from.now input to) c.as_slice-3.ensures.value (c.linked.ensures to t))
+    (c.linked.ensures to t)

@@ -1,4 +1,4 @@
-use Rattle.ap_live.proofs.known.linked.Given as goal
+use Rattle.ap_live.proofs.known.chained.Given as goal
 
 abbrev pub decreases-chain : goal.decreases-chain
 decreases-chain l = l.at
