@@ -1,7 +1,7 @@
 -- What `lt-comp` stores and writes.
-use Rattle.std.proofs.Common.{◌≡◌, ℕ, ◌<◌, Bool, true, false, List, ap, sym, ◌∙◌, subst, refl, inl, inr, ◌⊎◌, ◌&&◌}
+use Rattle.std.proofs.Common.{◌≡◌, ℕ, false, List, ap, ◌∙◌, subst, refl, inl, inr, ◌⊎◌, ◌&&◌}
 use Rattle.ap_outside.specs.Causes.{Rose}
-use Rattle.ap_outside.specs.Told.{Puts, PutsFront, Stores, StoresSome}
+use Rattle.ap_outside.specs.Told.{Puts, PutsFront, Stores}
 use Rattle.ap_dix.specs.declared.dictionary.Dictionary.{Dictionary}
 use Rattle.ap_dix.specs.declared.dictionary.Direction.{Direction}
 use Rattle.ap_fst.specs.Sections.{Parts}
@@ -10,15 +10,15 @@ use Rattle.ap_binary.specs.Spelling.{Spells}
 use Rattle.ap_binary.specs.Text.{compiled_text}
 use Rattle.ap_tool.specs.declared.content.Content.TheVariants.{Entries}
 use Rattle.ap_tool.specs.declared.status.Status.{Status}
-use Rattle.ap_tool.specs.declared.status.Status.TheVariants.{Done, FileFault, WriteFault, Memory}
+use Rattle.ap_tool.specs.declared.status.Status.TheVariants.{Done, WriteFault, Memory}
 use Rattle.ap_tool.specs.declared.words.Command.TheVariants.{Comp}
 use Rattle.ap_tool.specs.Messages.{name_at}
-use Rattle.ap_tool.specs.Standing.{Standing, standing, PutsAll, PutsSome}
+use Rattle.ap_tool.specs.Standing.{Standing}
 use Rattle.ap_tool.specs.Stream.{HasInputSides}
 use Rattle.ap_tool.specs.Opening.{FilesStanding, IsFileRefusal, Opens, is_compiled_file, IsAccepted}
 use Rattle.ap_tool.specs.Compiling.{summary, IsStored, CompilesOrStops, StoresOrStops, IsUncompiled}
 use Rattle.ap_tool.specs.Answer.{Outside, outside, IsAnswer, IsAnswerTo, IsCommandAnswer}
-use Rattle.ap_tool.specs.Clauses.{IsCalm, IsHonestCompiling, IsCompiledExactly}
+use Rattle.ap_tool.specs.Clauses.{IsCalm, IsCompiledExactly}
 use Rattle.ap_tool.proofs.Entries.{first-input}
 use Rattle.ap_tool.proofs.Endings.{calm-not-rose, text-told}
 use Rattle.ap_tool.proofs.Honesty.{Laws, refused, same-entries}
@@ -76,14 +76,6 @@ pub compiled : (words : List (List ℕ)) (way : Direction) (dix out : ℕ) (name
     → StoresOrStops d way out out_name g h k l status → (source : Standing) → IsCommandAnswer words (outside f source k) (outside h source l) status (Comp way dix out)
 compiled words way dix out name out_name f g h k l status d e e' o same s =
     opened words way dix out name f g h k l status d e o same (inr (subst (λ n. StoresOrStops d way out n g h k l status) e' s))
-
--- memory ran out before the store
-pub unstored : (d : Dictionary) (way : Direction) (out : ℕ) (name : List ℕ) (f g : FilesStanding) (k l : Standing) (status : Status) → status ≡ Memory → g ≡ f → l ≡ k → StoresOrStops d way out name f g k l status
-unstored d way out name f g k l status e same same' = inr (inr (record { memory = e; unstored = same; unwritten = same' }))
-
--- the store failed
-pub store-fault : (d : Dictionary) (way : Direction) (out : ℕ) (name : List ℕ) (f g : FilesStanding) (k : Standing) → HasInputSides way (Entries d) → StoresSome f.contents g.contents name → Rose f.store_faults g.store_faults → StoresOrStops d way out name f g k k (FileFault out)
-store-fault d way out name f g k sides held rose = inr (inl (record { sides = sides; status_is = refl; held = held; rose = rose; unwritten = refl }))
 
 is-stored : (d : Dictionary) (way : Direction) (name text : List ℕ) (f g : FilesStanding) (p : Parts) → IsCompiledFrom d way p → text ≡ compiled_text p → Spells text p → Stores f.contents g.contents name text → IsStored d way name f g p
 is-stored d way name text f g p made e s stored = record { made = made; stored = subst (λ t. Stores f.contents g.contents name t) e stored; spelled = subst (λ t. Spells t p) e s }

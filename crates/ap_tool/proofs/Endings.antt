@@ -1,12 +1,12 @@
-use Rattle.std.proofs.Common.{◌≡◌, ◌≢◌, ℕ, ◌+◌, ◌-◌, ◌^◌, ◌<◌, ◌≤◌, min, List, [], ◌∷◌, ◌++◌, Bool, true, false, arith, subst, sym, ap, ◌∙◌, refl, inl, inr, ◌⊎◌, Option, Some, None, Result, Ok, Err, length}
+use Rattle.std.proofs.Common.{◌≡◌, ◌≢◌, ℕ, ◌-◌, ◌^◌, ◌<◌, List, Bool, true, false, arith, subst, sym, ap, ◌∙◌, refl, inl, inr, Option, Some, None, Result, Ok, Err, length}
 use Rattle.std.specs.Prelude.{◌↔◌}
-use Rattle.std.specs.Option.{IfSome, option_map}
+use Rattle.std.specs.Option.{IfSome}
 use Rattle.ap_outside.specs.Causes.{Rose}
-use Rattle.ap_outside.specs.Told.{Takes, IsEnd, Puts, Stores, StoresSome}
+use Rattle.ap_outside.specs.Told.{Stores, StoresSome}
 use Rattle.ap_dix.specs.declared.dictionary.Dictionary.{Dictionary}
 use Rattle.ap_dix.specs.declared.dictionary.Direction.{Direction}
 use Rattle.ap_dix.specs.declared.dictionary.Direction.TheVariants.{Lr}
-use Rattle.ap_stream.specs.Told.{Told, ends_in}
+use Rattle.ap_stream.specs.Told.{ends_in}
 use Rattle.ap_stream.specs.declared.fault.StreamFault.{StreamFault}
 use Rattle.ap_stream.specs.declared.fault.StreamFault.TheVariants as fault
 use Rattle.ap_analysis.specs.Lexicon.{Lexicon}
@@ -14,7 +14,7 @@ use Rattle.ap_analysis.specs.Whole.{analysis}
 use Rattle.ap_tool.specs.declared.content.Content.{Content}
 use Rattle.ap_tool.specs.declared.content.Content.TheVariants.{Entries}
 use Rattle.ap_tool.specs.declared.status.Status.{Status}
-use Rattle.ap_tool.specs.declared.status.Status.TheVariants.{Done, Usage, FileFault, ReadFault, WriteFault, BadDictionary, BadRules, BadCompiled, Malformed, Limit, Memory}
+use Rattle.ap_tool.specs.declared.status.Status.TheVariants.{Done, Usage, FileFault, ReadFault, WriteFault, BadDictionary, BadCompiled, Malformed, Limit, Memory}
 use Rattle.ap_tool.specs.declared.intake.Ending.{Ending}
 use Rattle.ap_tool.specs.declared.intake.Ending.TheVariants.{Clean, Failed, TooLong}
 use Rattle.ap_tool.specs.declared.driving.Stop.{Stop}
@@ -24,16 +24,16 @@ use Rattle.ap_tool.specs.declared.words.Command.TheVariants.{Proc, Expand, Comp}
 use Rattle.ap_tool.specs.declared.words.UsageFault.{UsageFault}
 use Rattle.ap_tool.specs.Words.{command_of, file_of, out_of, has_stream, usage}
 use Rattle.ap_tool.specs.Listing.{IsListed, RunsOut, listing}
-use Rattle.ap_tool.specs.Compiling.{summary, IsStored, CompilesAll, IsStoreFault, CompilesOrStops}
+use Rattle.ap_tool.specs.Compiling.{summary, CompilesAll, IsStoreFault, CompilesOrStops}
 use Rattle.ap_tool.specs.Messages.{name_at}
 use Rattle.ap_tool.specs.Standing.{Standing, PutsAll, PutsSome}
 use Rattle.ap_tool.specs.Intake.{IsIntake, input_max}
-use Rattle.ap_tool.specs.Driving.{whole, Completes, Halts, Fails, Drives, text_ending}
+use Rattle.ap_tool.specs.Driving.{whole, Completes, Halts, Drives, text_ending}
 use Rattle.ap_tool.specs.Output.{IsLexicon}
-use Rattle.ap_tool.specs.Stream.{status_of_ending, status_of_fault, status_of_driving, HasInputSides, IsFirstEmptyInput, Runs, Streams, IsEmptySide, IsIdle, StreamsOrStops}
+use Rattle.ap_tool.specs.Stream.{status_of_ending, status_of_fault, status_of_driving, HasInputSides, IsFirstEmptyInput, StreamsOrStops}
 use Rattle.ap_tool.specs.Opening.{FilesStanding, IsFileRefusal, HasText, Opens, IsAccepted, Flaw, OfDictionary, OfCompiled, IsFaultOf, file_max}
-use Rattle.ap_tool.specs.Answer.{Outside, IsAnswer, IsAnswerTo, IsCommandAnswer, Refuses, Proceeds, Expands, Compiles}
-use Rattle.ap_tool.specs.Clauses.{IsCalm, IsBadDictionary, IsBadCompiled, HasFaultOf, IsEmptySideOf, IsFaultFor, IsFileTooLong, Holds, IsFileOf, TakesNothing, AreKept, IsKept, FailsToLoad, FailsToStore, IsFileFault, IsProc, GivesAll, GivesFault, IsReadFault, IsMalformed, IsLimit, IsInputTooLong, GivesCompiled, IsDone}
+use Rattle.ap_tool.specs.Answer.{Outside, IsAnswer, IsAnswerTo, Refuses, Proceeds, Expands, Compiles}
+use Rattle.ap_tool.specs.Clauses.{IsCalm, IsBadDictionary, IsBadCompiled, HasFaultOf, IsEmptySideOf, IsFaultFor, IsFileTooLong, Holds, TakesNothing, AreKept, IsKept, FailsToStore, IsFileFault, IsProc, GivesAll, GivesFault, IsReadFault, IsMalformed, IsLimit, IsInputTooLong, GivesCompiled, IsDone}
 use Rattle.ap_tool.proofs.Meaning.{completes-output, halts-outputs, fails-rose}
 
 -- the ways in which a command ends, told apart by its status

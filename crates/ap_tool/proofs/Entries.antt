@@ -16,7 +16,7 @@ use Rattle.ap_fst.specs.declared.compiled.Kind2.TheVariants.{Standard, Inconditi
 use Rattle.ap_fst.specs.declared.label.Label.{Label}
 use Rattle.ap_compile.specs.Compiling.{AcceptsStrings, IsCompiledFrom}
 use Rattle.ap_compile.specs.Empties.{HasEmptyEntry, IsEmptyEntry, IsFirstEmpty, section_entries}
-use Rattle.ap_compile.specs.Labels.{derived_label, derived_labels}
+use Rattle.ap_compile.specs.Labels.{derived_labels}
 use Rattle.ap_stream.specs.Told.{Told, Ending}
 use Rattle.ap_analysis.specs.Lexicon.{Lexicon, IsLexiconOf, Spelled, lexicon_of}
 use Rattle.ap_analysis.specs.Laws.{relation_of}

@@ -1,9 +1,8 @@
-use Rattle.std.proofs.Common.{◌≡◌, ◌≢◌, ℕ, ◌+◌, ◌-◌, ◌^◌, ◌<◌, ◌≤◌, ◌&&◌, Bool, true, false, List, [], ◌∷◌, ◌++◌, arith, subst, sym, ap, ◌∙◌, refl, inl, inr, ◌⊎◌, Option, Some, None, Result, Ok, Err, length, append-nil, length-append, append_assoc, take}
-use Rattle.std.specs.Option.{IfSome, option_map}
+use Rattle.std.proofs.Common.{◌≡◌, ◌≢◌, ℕ, ◌+◌, ◌-◌, ◌<◌, ◌≤◌, ◌&&◌, Bool, true, false, List, ◌++◌, arith, subst, sym, ap, ◌∙◌, refl, inl, inr, ◌⊎◌, Option, Some, None, Result, Ok, Err, length, append-nil, length-append, append_assoc, take}
+use Rattle.std.specs.Option.{option_map}
 use Rattle.std.proofs.lemmas.Bool.{le-ltb, lt-ltb}
 use Rattle.std.proofs.lemmas.List.{take_all}
 use Rattle.std.proofs.Math.Seq.{take-append-add}
-use Rattle.ap_outside.specs.Causes.{Rose}
 use Rattle.ap_outside.specs.Told.{Takes, IsEnd, Puts}
 use Rattle.ap_dix.specs.declared.dictionary.Dictionary.{Dictionary}
 use Rattle.ap_dix.specs.declared.dictionary.Direction.{Direction}
@@ -11,11 +10,10 @@ use Rattle.ap_dix.specs.declared.dictionary.Direction.TheVariants.{Lr}
 use Rattle.ap_dix.specs.declared.refusal.DixFault.{DixFault}
 use Rattle.ap_dix.specs.Spelling.{Spells, IsFirstFault}
 use Rattle.ap_dix.specs.Refusals.{kind_number}
-use Rattle.ap_fst.specs.Sections.{Parts}
 use Rattle.ap_binary.specs.declared.refusal.BinaryFault.{BinaryFault}
 use Rattle.ap_binary.specs.Refusals.{kind_number as compiled_number}
 use Rattle.ap_binary.proofs.Once.{one_spelled, one_fault as one_compiled_fault, never_both}
-use Rattle.ap_stream.specs.Told.{Told, Ending as TextEnding, Clean as Whole, Cut, ends_in}
+use Rattle.ap_stream.specs.Told.{Told, Ending as TextEnding, Clean as Whole, ends_in}
 use Rattle.ap_stream.specs.declared.fault.StreamFault.{StreamFault}
 use Rattle.ap_stream.specs.declared.fault.StreamFault.TheVariants as fault
 use Rattle.ap_analysis.specs.Lexicon.{Lexicon}
@@ -30,19 +28,18 @@ use Rattle.ap_tool.specs.declared.driving.Stop.{Stop}
 use Rattle.ap_tool.specs.declared.driving.Stop.TheVariants.{Write, Fault}
 use Rattle.ap_tool.specs.declared.words.Command.{Command}
 use Rattle.ap_tool.specs.declared.words.Command.TheVariants.{Proc, Expand, Comp}
-use Rattle.ap_tool.specs.declared.words.UsageFault.{UsageFault}
-use Rattle.ap_tool.specs.Words.{command_of, file_of}
-use Rattle.ap_tool.specs.Listing.{IsListed, RunsOut, listing}
+use Rattle.ap_tool.specs.Words.{file_of}
+use Rattle.ap_tool.specs.Listing.{IsListed, listing}
 use Rattle.ap_tool.specs.Compiling.{CompilesOrStops}
 use Rattle.ap_tool.specs.Messages.{name_at}
-use Rattle.ap_tool.specs.Standing.{Standing, PutsAll, PutsSome}
+use Rattle.ap_tool.specs.Standing.{Standing}
 use Rattle.ap_tool.specs.Intake.{TakesCalmly, IsIntake, input_max}
 use Rattle.ap_tool.specs.Driving.{whole, Course, Onward, Ended, IsTaken, text_ending, Completes, Halts, Drives}
 use Rattle.ap_tool.specs.Output.{IsLexicon, IsOutput}
-use Rattle.ap_tool.specs.Stream.{status_of_ending, status_of_fault, status_of_driving, stream_status, IsFirstEmptyInput, Streams, StreamsOrStops}
-use Rattle.ap_tool.specs.Opening.{FilesStanding, IsFileRefusal, HasText, Opens, is_compiled_file, SpellsAs, IsAccepted, Flaw, OfDictionary, OfCompiled, status_of_flaw, IsFlawAs, IsFaultOf, file_max}
+use Rattle.ap_tool.specs.Stream.{status_of_ending, status_of_fault, status_of_driving, stream_status, IsFirstEmptyInput, StreamsOrStops}
+use Rattle.ap_tool.specs.Opening.{FilesStanding, IsFileRefusal, Opens, is_compiled_file, SpellsAs, IsAccepted, Flaw, OfDictionary, OfCompiled, status_of_flaw, IsFlawAs, IsFaultOf, file_max}
 use Rattle.ap_tool.specs.Answer.{Outside, IsAnswer, IsAnswerTo, IsCommandAnswer, Refuses, Proceeds, Expands, Compiles}
-use Rattle.ap_tool.specs.Clauses.{IsCalm, cut_input, ending_of, Holds, IsFileOf, IsHonestListing, IsListedExactly, IsHonest, IsExact, IsComplete, AreOutputs, GivesUp, Reads, IsUntouched, IsEmptySideOf, IsFaultFor, RefusesFaulty, RefusesLong}
+use Rattle.ap_tool.specs.Clauses.{IsCalm, cut_input, ending_of, Holds, IsFileOf, IsListedExactly, IsHonest, IsExact, IsComplete, AreOutputs, GivesUp, IsUntouched, IsEmptySideOf, IsFaultFor, RefusesFaulty, RefusesLong}
 use Rattle.ap_tool.proofs.Entries.{first-input, one-input}
 use Rattle.ap_tool.proofs.Listings.{take-front}
 use Rattle.ap_tool.proofs.Meaning.{completes-output, halts-outputs, fails-rose}

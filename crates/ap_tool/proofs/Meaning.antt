@@ -1,6 +1,6 @@
 -- What was driven is what the meaning gives.
-use Rattle.std.proofs.Common.{◌≡◌, ◌≢◌, ℕ, zero, suc, pred, Bool, List, [], ◌∷◌, ◌++◌, ap, sym, ◌∙◌, subst, refl, inl, inr, Option, Some, None, Result, Ok, Err}
-use Rattle.ap_stream.specs.Told.{Told, Ending as TextEnding, Clean, Cut, ends_in, or_else, stop_at, cut_fault, cut_option, Begins}
+use Rattle.std.proofs.Common.{◌≡◌, ◌≢◌, ℕ, zero, suc, pred, Bool, List, [], ◌∷◌, ◌++◌, ap, sym, ◌∙◌, subst, refl, inl, inr, Option, Some, None, Result}
+use Rattle.ap_stream.specs.Told.{Told, Ending as TextEnding, Clean, Cut, ends_in, or_else, stop_at, cut_fault, cut_option}
 use Rattle.ap_stream.specs.Reading.{reads}
 use Rattle.ap_stream.specs.declared.dialect.Dialect.TheVariants.{Raw}
 use Rattle.ap_stream.specs.declared.fault.StreamFault.{StreamFault}
@@ -15,12 +15,11 @@ use Rattle.ap_analysis.specs.Whole.{analysis}
 use Rattle.ap_tool.specs.declared.content.Content.{Content}
 use Rattle.ap_tool.specs.declared.intake.Ending.{Ending}
 use Rattle.ap_tool.specs.declared.driving.Stop.{Stop}
-use Rattle.ap_tool.specs.declared.driving.Stop.TheVariants.{Write, Fault}
-use Rattle.ap_tool.specs.Standing.{Standing, PutsAll, PutsSome}
+use Rattle.ap_tool.specs.Standing.{Standing, PutsSome}
 use Rattle.ap_tool.specs.Driving.{whole, heard, AllOf, Course, Onward, Ended, Completes, Halts, Fails, Drives, text_ending}
 use Rattle.ap_tool.specs.declared.status.Status.{Status}
 use Rattle.ap_tool.specs.Output.{IsLexicon, IsOutput}
-use Rattle.ap_tool.specs.Stream.{HasInputSides, Runs, RunsOrStops, Streams, StreamsOrStops}
+use Rattle.ap_tool.specs.Stream.{HasInputSides, Runs, RunsOrStops, StreamsOrStops}
 use Rattle.ap_tool.specs.Clauses.{AreOutputs}
 
 -- analysis has no fault of its own but a limit

@@ -1,6 +1,6 @@
-use Rattle.std.specs.Prelude.{◌≡◌, ℕ, ◌+◌, ◌-◌, ◌^◌, ◌<◌, ◌≤◌, ◌⊎◌, nat_lt, Bool, true, false, List, ◌++◌, Option, Some, None, Result, Ok, Err, length, take, if◌then◌else◌}
+use Rattle.std.specs.Prelude.{◌≡◌, ℕ, ◌-◌, ◌^◌, ◌<◌, ◌≤◌, ◌⊎◌, nat_lt, Bool, true, false, List, ◌++◌, Option, Some, None, Result, Ok, Err, length, take, if◌then◌else◌}
 use Rattle.ap_outside.specs.Causes.{Rose}
-use Rattle.ap_outside.specs.Told.{Takes, Puts, StoresSome}
+use Rattle.ap_outside.specs.Told.{Puts, StoresSome}
 use Rattle.ap_dix.specs.declared.dictionary.Dictionary.{Dictionary}
 use Rattle.ap_dix.specs.declared.dictionary.Direction.{Direction}
 use Rattle.ap_dix.specs.declared.dictionary.Direction.TheVariants.{Lr}
@@ -20,7 +20,7 @@ use Rattle.ap_tool.specs.Words.{command_of, file_of, out_of, has_stream}
 use Rattle.ap_tool.specs.Listing.{listing}
 use Rattle.ap_tool.specs.Compiling.{summary, IsStored}
 use Rattle.ap_tool.specs.Messages.{name_at}
-use Rattle.ap_tool.specs.Standing.{Standing, PutsAll}
+use Rattle.ap_tool.specs.Standing.{PutsAll}
 use Rattle.ap_tool.specs.Opening.{FilesStanding, HasText, Opens, IsAccepted, Flaw, OfDictionary, OfCompiled, status_of_flaw, IsFaultOf, file_max}
 use Rattle.ap_tool.specs.Intake.{IsIntake, input_max}
 use Rattle.ap_tool.specs.Driving.{Course, Onward, Ended, IsTaken, text_ending}
