@@ -1,9 +1,12 @@
-use Rattle.std.proofs.Common.{◌≡◌, ◌≢◌, ℕ, ◌+◌, ◌-◌, ◌^◌, ◌<◌, ◌≤◌, min, List, [], ◌∷◌, ◌++◌, Bool, true, false, arith, subst, sym, ap, ◌∙◌, refl, inl, inr, ◌⊎◌, Option, Some, None, Result, Ok, Err, length}
+use Rattle.std.proofs.Common.{◌≡◌, ◌≢◌, ℕ, ◌-◌, ◌^◌, ◌<◌, List, Bool, true, false, arith, subst, sym, ap, ◌∙◌, refl, inl, inr, Option, Some, None, Result, Ok, Err, length}
 use Rattle.std.specs.Prelude.{◌↔◌}
-use Rattle.std.specs.Option.{IfSome, option_map}
+use Rattle.std.specs.Option.{IfSome}
 use Rattle.ap_outside.specs.Causes.{Rose}
-use Rattle.ap_outside.specs.Told.{Takes, IsEnd, Puts}
-use Rattle.ap_stream.specs.Told.{Told, ends_in}
+use Rattle.ap_outside.specs.Told.{Stores, StoresSome}
+use Rattle.ap_dix.specs.declared.dictionary.Dictionary.{Dictionary}
+use Rattle.ap_dix.specs.declared.dictionary.Direction.{Direction}
+use Rattle.ap_dix.specs.declared.dictionary.Direction.TheVariants.{Lr}
+use Rattle.ap_stream.specs.Told.{ends_in}
 use Rattle.ap_stream.specs.declared.fault.StreamFault.{StreamFault}
 use Rattle.ap_stream.specs.declared.fault.StreamFault.TheVariants as fault
 use Rattle.ap_analysis.specs.Lexicon.{Lexicon}
@@ -11,25 +14,26 @@ use Rattle.ap_analysis.specs.Whole.{analysis}
 use Rattle.ap_tool.specs.declared.content.Content.{Content}
 use Rattle.ap_tool.specs.declared.content.Content.TheVariants.{Entries}
 use Rattle.ap_tool.specs.declared.status.Status.{Status}
-use Rattle.ap_tool.specs.declared.status.Status.TheVariants.{Done, Usage, FileFault, ReadFault, WriteFault, BadDictionary, BadRules, BadCompiled, Malformed, Limit, Memory}
+use Rattle.ap_tool.specs.declared.status.Status.TheVariants.{Done, Usage, FileFault, ReadFault, WriteFault, BadDictionary, BadCompiled, Malformed, Limit, Memory}
 use Rattle.ap_tool.specs.declared.intake.Ending.{Ending}
 use Rattle.ap_tool.specs.declared.intake.Ending.TheVariants.{Clean, Failed, TooLong}
 use Rattle.ap_tool.specs.declared.driving.Stop.{Stop}
 use Rattle.ap_tool.specs.declared.driving.Stop.TheVariants.{Write, Fault}
 use Rattle.ap_tool.specs.declared.words.Command.{Command}
-use Rattle.ap_tool.specs.declared.words.Command.TheVariants.{Proc, Expand}
+use Rattle.ap_tool.specs.declared.words.Command.TheVariants.{Proc, Expand, Comp}
 use Rattle.ap_tool.specs.declared.words.UsageFault.{UsageFault}
-use Rattle.ap_tool.specs.Words.{command_of, file_of, usage}
+use Rattle.ap_tool.specs.Words.{command_of, file_of, out_of, has_stream, usage}
 use Rattle.ap_tool.specs.Listing.{IsListed, RunsOut, listing}
+use Rattle.ap_tool.specs.Compiling.{summary, CompilesAll, IsStoreFault, CompilesOrStops}
 use Rattle.ap_tool.specs.Messages.{name_at}
 use Rattle.ap_tool.specs.Standing.{Standing, PutsAll, PutsSome}
 use Rattle.ap_tool.specs.Intake.{IsIntake, input_max}
-use Rattle.ap_tool.specs.Driving.{whole, Completes, Halts, Fails, Drives, text_ending}
+use Rattle.ap_tool.specs.Driving.{whole, Completes, Halts, Drives, text_ending}
 use Rattle.ap_tool.specs.Output.{IsLexicon}
-use Rattle.ap_tool.specs.Stream.{status_of_ending, status_of_fault, status_of_driving, HasLeftSides, IsFirstEmptyLeft, Runs, Streams, IsEmptySide, IsIdle, StreamsOrStops}
+use Rattle.ap_tool.specs.Stream.{status_of_ending, status_of_fault, status_of_driving, HasInputSides, IsFirstEmptyInput, StreamsOrStops}
 use Rattle.ap_tool.specs.Opening.{FilesStanding, IsFileRefusal, HasText, Opens, IsAccepted, Flaw, OfDictionary, OfCompiled, IsFaultOf, file_max}
-use Rattle.ap_tool.specs.Answer.{Outside, IsAnswer, IsAnswerTo, IsCommandAnswer, Refuses, Proceeds, Expands}
-use Rattle.ap_tool.specs.Clauses.{IsCalm, IsBadDictionary, IsBadCompiled, HasFaultOf, IsEmptySideOf, IsFaultFor, IsFileTooLong, Holds, IsFileOf, TakesNothing, IsFileFault, IsProc, GivesAll, GivesFault, IsReadFault, IsMalformed, IsLimit, IsInputTooLong, IsDone}
+use Rattle.ap_tool.specs.Answer.{Outside, IsAnswer, IsAnswerTo, Refuses, Proceeds, Expands, Compiles}
+use Rattle.ap_tool.specs.Clauses.{IsCalm, IsBadDictionary, IsBadCompiled, HasFaultOf, IsEmptySideOf, IsFaultFor, IsFileTooLong, Holds, TakesNothing, AreKept, IsKept, FailsToStore, IsFileFault, IsProc, GivesAll, GivesFault, IsReadFault, IsMalformed, IsLimit, IsInputTooLong, GivesCompiled, IsDone}
 use Rattle.ap_tool.proofs.Meaning.{completes-output, halts-outputs, fails-rose}
 
 -- the ways in which a command ends, told apart by its status
@@ -138,18 +142,22 @@ fault-malformed fault.Memory stage kind place e = cc
 abbrev pub takes_compiled : Command → Bool
 takes_compiled (Proc sensitive file) = true
 takes_compiled (Expand file) = false
+takes_compiled (Comp way dix out) = false
 
 -- an answer, by its cases
 by-cases : (words : List (List ℕ)) (old new : Outside) (status : Status) (P : Type 0) (r : Result Command UsageFault) → IsAnswerTo words old new status r
     → (status ≡ Usage → new ≡ old → P)
     → ((file : ℕ) (command : Command) → r ≡ Ok command → file_of command ≡ file → Refuses (takes_compiled command) (name_at words file) file old new status → P)
     → ((sensitive : Bool) (file : ℕ) → r ≡ Ok (Proc sensitive file) → Proceeds (name_at words file) file sensitive old new status → P)
-    → ((file : ℕ) → r ≡ Ok (Expand file) → Expands (name_at words file) old new status → P) → P
-by-cases words old new status P (Err fault) a f g h k = f a.0 a.1
-by-cases words old new status P (Ok (Proc sensitive file)) (inl r) f g h k = g file (Proc sensitive file) refl refl r
-by-cases words old new status P (Ok (Proc sensitive file)) (inr p) f g h k = h sensitive file refl p
-by-cases words old new status P (Ok (Expand file)) (inl r) f g h k = g file (Expand file) refl refl r
-by-cases words old new status P (Ok (Expand file)) (inr p) f g h k = k file refl p
+    → ((file : ℕ) → r ≡ Ok (Expand file) → Expands (name_at words file) old new status → P)
+    → ((way : Direction) (dix out : ℕ) → r ≡ Ok (Comp way dix out) → Compiles (name_at words dix) way dix out (name_at words out) old new status → P) → P
+by-cases words old new status P (Err fault) a f g h k l = f a.0 a.1
+by-cases words old new status P (Ok (Proc sensitive file)) (inl r) f g h k l = g file (Proc sensitive file) refl refl r
+by-cases words old new status P (Ok (Proc sensitive file)) (inr p) f g h k l = h sensitive file refl p
+by-cases words old new status P (Ok (Expand file)) (inl r) f g h k l = g file (Expand file) refl refl r
+by-cases words old new status P (Ok (Expand file)) (inr p) f g h k l = k file refl p
+by-cases words old new status P (Ok (Comp way dix out)) (inl r) f g h k l = g dix (Comp way dix out) refl refl r
+by-cases words old new status P (Ok (Comp way dix out)) (inr p) f g h k l = l way dix out refl p
 
 -- what lines were written with the status
 listed-so : (old new : Standing) (text : List ℕ) (status t : Status) (P : Type 0) → IsListed old new text status → status ≡ t
@@ -157,6 +165,21 @@ listed-so : (old new : Standing) (text : List ℕ) (status t : Status) (P : Type
 listed-so old new text status t P (inl l) e f g h = f (sym l.1 ∙ e) l.0
 listed-so old new text status t P (inr (inl l)) e f g h = g (sym l.1 ∙ e) l.0
 listed-so old new text status t P (inr (inr l)) e f g h = h (sym l.memory ∙ e) l
+
+-- how a dictionary was compiled and stored with the status
+compiled-so : (way : Direction) (dix out : ℕ) (name : List ℕ) (old new : Outside) (status t : Status) (P : Type 0) (d : Dictionary) → CompilesOrStops d way dix out name old.files new.files old.sink new.sink status → status ≡ t
+    → ((line : ℕ) → IsFirstEmptyInput way (Entries d) line → BadDictionary dix 13 line ≡ t → new.files ≡ old.files → new.sink ≡ old.sink → P)
+    → (Memory ≡ t → new.files ≡ old.files → new.sink ≡ old.sink → P)
+    → (FileFault out ≡ t → IsStoreFault d way out name old.files new.files old.sink new.sink status → P)
+    → (Done ≡ t → (c : CompilesAll d way name old.files new.files old.sink new.sink status) → PutsAll old.sink new.sink (summary c.compiled) → P)
+    → (WriteFault ≡ t → (c : CompilesAll d way name old.files new.files old.sink new.sink status) → PutsSome old.sink new.sink (summary c.compiled) → P) → P
+compiled-so way dix out name old new status t P d (inl i) e f g h k l = f i.line i.empty (sym i.status_is ∙ e) i.unstored i.unwritten
+compiled-so way dix out name old new status t P d (inr (inl c)) e f g h k l = elim c.summed [
+  | inl w ↦ k (sym w.1 ∙ e) c w.0
+  | inr w ↦ l (sym w.1 ∙ e) c w.0
+]
+compiled-so way dix out name old new status t P d (inr (inr (inl s))) e f g h k l = h (sym s.status_is ∙ e) s
+compiled-so way dix out name old new status t P d (inr (inr (inr m))) e f g h k l = g (sym m.memory ∙ e) m.unstored m.unwritten
 
 -- no refusal of a file has the status of a stream or of the sink
 not-refused : (takes : Bool) (words : List (List ℕ)) (old new : Outside) (status : Status) (file : ℕ) (t : Status) → Refuses takes (name_at words file) file old new status → status ≡ t → IsFileRefusal takes old.files new.files (name_at words file) file t
@@ -183,16 +206,16 @@ driven-so meaning old new status t P (Err (Fault (fault.Limit kind place))) d s 
 streamed-so : (d : Content) (file : ℕ) (sensitive : Bool) (old new : Outside) (status t : Status) (P : Type 0) → StreamsOrStops d file sensitive old.source new.source old.sink new.sink status → status ≡ t
     → (Memory ≡ t → new.sink.faults ≡ old.sink.faults → P)
     → (WriteFault ≡ t → Rose old.sink.faults new.sink.faults → P)
-    → ((line : ℕ) → IsFirstEmptyLeft d line → BadDictionary file 13 line ≡ t → new.source ≡ old.source → new.sink ≡ old.sink → P)
-    → (HasLeftSides d → (lexicon : Lexicon) → IsLexicon d sensitive lexicon → (ending : Ending) → Completes (analysis lexicon sensitive) old.source new.source old.sink new.sink ending → status_of_ending ending ≡ t → P)
-    → (HasLeftSides d → (lexicon : Lexicon) → IsLexicon d sensitive lexicon → (f : StreamFault) → Halts (analysis lexicon sensitive) old.source new.source old.sink new.sink f → f ≢ fault.Memory → status_of_fault f ≡ t → P) → P
+    → ((line : ℕ) → IsFirstEmptyInput Lr d line → BadDictionary file 13 line ≡ t → new.source ≡ old.source → new.sink ≡ old.sink → P)
+    → (HasInputSides Lr d → (lexicon : Lexicon) → IsLexicon d sensitive lexicon → (ending : Ending) → Completes (analysis lexicon sensitive) old.source new.source old.sink new.sink ending → status_of_ending ending ≡ t → P)
+    → (HasInputSides Lr d → (lexicon : Lexicon) → IsLexicon d sensitive lexicon → (f : StreamFault) → Halts (analysis lexicon sensitive) old.source new.source old.sink new.sink f → f ≢ fault.Memory → status_of_fault f ≡ t → P) → P
 streamed-so d file sensitive old new status t P (inl s) e f g h k l =
     driven-so (analysis s.lexicon sensitive) old new status t P s.runs.driving s.runs.driven s.runs.status_is e f g (k s.sides s.lexicon s.of_content) (l s.sides s.lexicon s.of_content)
 streamed-so d file sensitive old new status t P (inr (inl i)) e f g h k l = h i.line i.empty (sym i.status_is ∙ e) i.untaken i.unwritten
 streamed-so d file sensitive old new status t P (inr (inr i)) e f g h k l = f (sym i.memory ∙ e) (ap (λ (s : Standing). s.faults) i.unwritten)
 
 -- a command with a stream, whose file was opened and has left sides
-proc : (words : List (List ℕ)) (old new : Outside) (status : Status) (sensitive : Bool) (file : ℕ) → command_of words ≡ Ok (Proc sensitive file) → (p : Proceeds (name_at words file) file sensitive old new status) → HasLeftSides p.content → IsProc words old sensitive p.content
+proc : (words : List (List ℕ)) (old new : Outside) (status : Status) (sensitive : Bool) (file : ℕ) → command_of words ≡ Ok (Proc sensitive file) → (p : Proceeds (name_at words file) file sensitive old new status) → HasInputSides Lr p.content → IsProc words old sensitive p.content
 proc words old new status sensitive file c p s = record { file = file; command = c; opened = p.opened; sides = s }
 
 gives-all : (words : List (List ℕ)) (old new : Outside) (sensitive : Bool) (d : Content) (lexicon : Lexicon) (ending : Ending) → IsProc words old sensitive d → IsLexicon d sensitive lexicon
@@ -237,6 +260,9 @@ usage-by words old new status (Ok (Proc sensitive file)) (inl r) = ((λ e. absur
 usage-by words old new status (Ok (Expand file)) (inl r) = ((λ e. absurd (not-refused _ words old new status file Usage r e)), (λ e. cc))
 usage-by words old new status (Ok (Expand file)) (inr p) =
     ((λ e. listed-so old.sink new.sink (listing p.dictionary) status Usage _ p.listed e (λ x w. cc) (λ x w. cc) (λ x w. cc)), (λ e. cc))
+usage-by words old new status (Ok (Comp way dix out)) (inl r) = ((λ e. absurd (not-refused _ words old new status dix Usage r e)), (λ e. cc))
+usage-by words old new status (Ok (Comp way dix out)) (inr p) =
+    ((λ e. compiled-so way dix out (name_at words out) old new status Usage _ p.dictionary p.ended e (λ l i x u w. cc) (λ x u w. cc) (λ x s. cc) (λ x s w. cc) (λ x s w. cc)), (λ e. cc))
 usage-by words old new status (Ok (Proc sensitive file)) (inr p) = (
   (λ e. absurd (streamed-so p.content file sensitive old new status Usage ⊥ p.stream e (λ x w. cc) (λ x w. cc) (λ line i x t w. cc)
       (λ s l i ending c x. no-usage (ending-is ending Usage x)) (λ s l i f h other x. no-usage (fault-is f Usage x)))),
@@ -246,14 +272,28 @@ usage-by words old new status (Ok (Proc sensitive file)) (inr p) = (
 pub usage-from : (words : List (List ℕ)) (old new : Outside) (status : Status) → IsAnswer words old new status → (status ≡ Usage) ↔ (command_of words ≡ usage)
 usage-from words old new status a = usage-by words old new status (command_of words) a.by_words
 
+fails-to-store : (words : List (List ℕ)) (old new : Outside) (status : Status) (way : Direction) (dix out file : ℕ) (d : Dictionary) → command_of words ≡ Ok (Comp way dix out) → FileFault out ≡ FileFault file
+    → IsStoreFault d way out (name_at words out) old.files new.files old.sink new.sink status → FailsToStore words file old new
+fails-to-store words old new status way dix out file d c e s =
+    let same : out ≡ file = cc in
+    record { command = Comp way dix out; by_words = c; file_is = ap Some same; rose = s.rose; held = subst (λ n. StoresSome old.files.contents new.files.contents (name_at words n)) same s.held }
+
 pub file-fault-from : (words : List (List ℕ)) (old new : Outside) (status : Status) → IsAnswer words old new status → IsFileFault words old new status
 file-fault-from words old new status a = λ file e. by-cases words old new status _ (command_of words) a.by_words
     (λ u same. (let x : Usage ≡ FileFault file = sym u ∙ e in cc))
-    (λ f k c i r. (let t = not-refused _ words old new status f (FileFault file) r e in
-    (record { command = k; by_words = c; file_is = i ∙ sym t.0 }, subst (λ k. Rose (old.files.load_faults (name_at words k)) (new.files.load_faults (name_at words k))) (sym t.0) t.1, r.source, r.sink)))
+    (λ f k c i r. (let t = not-refused _ words old new status f (FileFault file) r e in (
+      inl (record {
+        of_command = record { command = k; by_words = c; file_is = i ∙ sym t.0 };
+        rose = subst (λ k. Rose (old.files.load_faults (name_at words k)) (new.files.load_faults (name_at words k))) (sym t.0) t.1;
+        contents = r.contents;
+      }),
+      r.source,
+      r.sink,
+    )))
     (λ sensitive f c p. streamed-so p.content f sensitive old new status (FileFault file) _ p.stream e (λ x w. cc) (λ x w. cc) (λ line i x t w. cc)
     (λ s l i ending q x. absurd (no-file file (ending-is ending (FileFault file) x))) (λ s l i g h other x. absurd (no-file file (fault-is g (FileFault file) x))))
     (λ f c p. listed-so old.sink new.sink (listing p.dictionary) status (FileFault file) _ p.listed e (λ x w. cc) (λ x w. cc) (λ x w. cc))
+    (λ way dix out c p. compiled-so way dix out (name_at words out) old new status (FileFault file) _ p.dictionary p.ended e (λ l i x u w. cc) (λ x u w. cc) (λ x s. (inr (fails-to-store words old new status way dix out file p.dictionary c x s), p.source, s.unwritten)) (λ x s w. cc) (λ x s w. cc))
 
 pub write-fault-from : (words : List (List ℕ)) (old new : Outside) (status : Status) → IsAnswer words old new status → status ≡ WriteFault → Rose old.sink.faults new.sink.faults
 write-fault-from words old new status a e = by-cases words old new status _ (command_of words) a.by_words
@@ -262,6 +302,7 @@ write-fault-from words old new status a e = by-cases words old new status _ (com
     (λ sensitive f c p. streamed-so p.content f sensitive old new status WriteFault _ p.stream e (λ x w. cc) (λ x w. w) (λ line i x t w. cc)
     (λ s l i ending q x. absurd (no-write (ending-is ending WriteFault x))) (λ s l i g h other x. absurd (no-write (fault-is g WriteFault x))))
     (λ f c p. listed-so old.sink new.sink (listing p.dictionary) status WriteFault _ p.listed e (λ x w. cc) (λ x w. w.rose) (λ x w. cc))
+    (λ way dix out c p. compiled-so way dix out (name_at words out) old new status WriteFault _ p.dictionary p.ended e (λ l i x u w. cc) (λ x u w. cc) (λ x s. cc) (λ x s w. cc) (λ x s w. w.rose))
 
 pub no-write-fault-from : (words : List (List ℕ)) (old new : Outside) (status : Status) → IsAnswer words old new status → (status ≡ WriteFault → ⊥) → new.sink.faults ≡ old.sink.faults
 no-write-fault-from words old new status a n = by-cases words old new status _ (command_of words) a.by_words
@@ -270,6 +311,7 @@ no-write-fault-from words old new status a n = by-cases words old new status _ (
     (λ sensitive f c p. streamed-so p.content f sensitive old new status status _ p.stream refl (λ x w. w) (λ x w. absurd (n (sym x))) (λ line i x t w. ap (λ (s : Standing). s.faults) w)
     (λ s l i ending q x. q.put.calm) (λ s l i g h other x. h.put.calm))
     (λ f c p. listed-so old.sink new.sink (listing p.dictionary) status status _ p.listed refl (λ x w. w.calm) (λ x w. absurd (n (sym x))) (λ x w. w.calm))
+    (λ way dix out c p. compiled-so way dix out (name_at words out) old new status status _ p.dictionary p.ended refl (λ l i x u w. ap (λ (s : Standing). s.faults) w) (λ x u w. ap (λ (s : Standing). s.faults) w) (λ x s. ap (λ (k : Standing). k.faults) s.unwritten) (λ x s w. w.calm) (λ x s w. absurd (n (sym x))))
 
 pub read-fault-from : (words : List (List ℕ)) (old new : Outside) (status : Status) → IsAnswer words old new status → IsReadFault words old new status
 read-fault-from words old new status a = λ e. by-cases words old new status _ (command_of words) a.by_words
@@ -279,6 +321,7 @@ read-fault-from words old new status a = λ e. by-cases words old new status _ (
     (λ s l i ending q x. completed words old new sensitive p.content l ending Failed (proc words old new status sensitive f c p s) i q (ending-read ending x))
     (λ s l i g h other x. absurd (fault-read g x)))
     (λ f c p. listed-so old.sink new.sink (listing p.dictionary) status ReadFault _ p.listed e (λ x w. cc) (λ x w. cc) (λ x w. cc))
+    (λ way dix out c p. compiled-so way dix out (name_at words out) old new status ReadFault _ p.dictionary p.ended e (λ l i x u w. cc) (λ x u w. cc) (λ x s. cc) (λ x s w. cc) (λ x s w. cc))
 
 pub malformed-from : (words : List (List ℕ)) (old new : Outside) (status : Status) → IsAnswer words old new status → IsMalformed words old new status
 malformed-from words old new status a = λ stage kind place e. by-cases words old new status _ (command_of words) a.by_words
@@ -288,6 +331,7 @@ malformed-from words old new status a = λ stage kind place e. by-cases words ol
     (λ s l i ending q x. absurd (ending-malformed ending stage kind place x))
     (λ s l i g h other x. (fault-malformed g stage kind place x, gives-fault words old new status sensitive p.content l g (proc words old new status sensitive f c p s) i h other (e ∙ sym x))))
     (λ f c p. listed-so old.sink new.sink (listing p.dictionary) status (Malformed stage kind place) _ p.listed e (λ x w. cc) (λ x w. cc) (λ x w. cc))
+    (λ way dix out c p. compiled-so way dix out (name_at words out) old new status (Malformed stage kind place) _ p.dictionary p.ended e (λ l i x u w. cc) (λ x u w. cc) (λ x s. cc) (λ x s w. cc) (λ x s w. cc))
 
 pub limit-from : (words : List (List ℕ)) (old new : Outside) (status : Status) → IsAnswer words old new status → IsLimit words old new status
 limit-from words old new status a = λ stage kind place some e. by-cases words old new status _ (command_of words) a.by_words
@@ -297,6 +341,7 @@ limit-from words old new status a = λ stage kind place some e. by-cases words o
     (λ s l i ending q x. (let z : stage ≡ 0 = (ending-limit ending stage kind place x).1 in absurd (omega arith)))
     (λ s l i g h other x. (fault-limit g stage kind place x, gives-fault words old new status sensitive p.content l g (proc words old new status sensitive f c p s) i h other (e ∙ sym x))))
     (λ f c p. listed-so old.sink new.sink (listing p.dictionary) status (Limit stage kind place) _ p.listed e (λ x w. cc) (λ x w. cc) (λ x w. cc))
+    (λ way dix out c p. compiled-so way dix out (name_at words out) old new status (Limit stage kind place) _ p.dictionary p.ended e (λ l i x u w. cc) (λ x u w. cc) (λ x s. cc) (λ x s w. cc) (λ x s w. cc))
 
 pub input-too-long-from : (words : List (List ℕ)) (old new : Outside) (status : Status) → IsAnswer words old new status → IsInputTooLong words old new status
 input-too-long-from words old new status a = λ e. by-cases words old new status _ (command_of words) a.by_words
@@ -306,37 +351,90 @@ input-too-long-from words old new status a = λ e. by-cases words old new status
     (λ s l i ending q x. completed words old new sensitive p.content l ending TooLong (proc words old new status sensitive f c p s) i q (ending-limit ending 0 7 input_max x).0)
     (λ s l i g h other x. absurd (let z : 0 ≡ 1 = fault-limit g 0 7 input_max x in omega arith)))
     (λ f c p. listed-so old.sink new.sink (listing p.dictionary) status (Limit 0 7 input_max) _ p.listed e (λ x w. cc) (λ x w. cc) (λ x w. cc))
+    (λ way dix out c p. compiled-so way dix out (name_at words out) old new status (Limit 0 7 input_max) _ p.dictionary p.ended e (λ l i x u w. cc) (λ x u w. cc) (λ x s. cc) (λ x s w. cc) (λ x s w. cc))
 
-same-proc : {A : Type 0} (r : Result Command UsageFault) (file file' : ℕ) (sensitive : Bool) → r ≡ Ok (Expand file) → r ≡ Ok (Proc sensitive file') → A
-same-proc r file file' sensitive e f = let x : Ok (Expand file) ≡ Ok (Proc sensitive file') = sym e ∙ f in cc
+-- words are one command
+same-command : (r : Result Command UsageFault) (k l : Command) → r ≡ Ok k → r ≡ Ok l → k ≡ l
+same-command r k l e f = let x : Ok k ≡ Ok l = sym e ∙ f in cc
+
+-- a command of another kind
+not-proc : {A : Type 0} (k : Command) (sensitive : Bool) (file : ℕ) → has_stream k ≡ false → k ≡ Proc sensitive file → A
+not-proc k sensitive file n e = let x : true ≡ false = sym (ap has_stream e) ∙ n in cc
+
+not-comp : {A : Type 0} (k : Command) (way : Direction) (dix out : ℕ) → out_of k ≡ None → k ≡ Comp way dix out → A
+not-comp k way dix out n e = let x : Some out ≡ None = sym (ap out_of e) ∙ n in cc
+
+abbrev IsGiven : List (List ℕ) → Outside → Outside → Command → Type 0
+IsGiven words old new (Proc sensitive file) = Unit {0}
+IsGiven words old new (Expand file) = Unit {0}
+IsGiven words old new (Comp way dix out) = GivesCompiled (name_at words dix) (name_at words out) way old new
+
+gives-compiled : (words : List (List ℕ)) (old new : Outside) (status : Status) (way : Direction) (dix out : ℕ) (p : Compiles (name_at words dix) way dix out (name_at words out) old new status)
+    → (c : CompilesAll p.dictionary way (name_at words out) old.files new.files old.sink new.sink status) → PutsAll old.sink new.sink (summary c.compiled) → GivesCompiled (name_at words dix) (name_at words out) way old new
+gives-compiled words old new status way dix out p c w = record { dictionary = p.dictionary; opened = p.opened; sides = c.sides; compiled = c.compiled; stored = c.stored; put = w }
 
 pub done-from : (words : List (List ℕ)) (old new : Outside) (status : Status) → IsAnswer words old new status → IsDone words old new status
 done-from words old new status a = λ e. by-cases words old new status _ (command_of words) a.by_words
     (λ u same. (let x : Usage ≡ Done = sym u ∙ e in cc))
     (λ f k c i r. absurd (not-refused _ words old new status f Done r e))
     (λ sensitive f c p. streamed-so p.content f sensitive old new status Done _ p.stream e (λ x w. cc) (λ x w. cc) (λ line i x t w. cc)
-    (λ s l i ending q x. (q.put.calm, λ sensitive' g y. completed words old new sensitive p.content l ending Clean (proc words old new status sensitive f c p s) i q (ending-done ending x)))
+    (λ s l i ending q x. (
+      q.put.calm,
+      (λ sensitive' g y. completed words old new sensitive p.content l ending Clean (proc words old new status sensitive f c p s) i q (ending-done ending x)),
+      (λ way dix out y. not-comp (Proc sensitive f) way dix out refl (same-command (command_of words) (Proc sensitive f) (Comp way dix out) c y)),
+    ))
     (λ s l i g h other x. absurd (fault-done g x)))
     (λ f c p. listed-so old.sink new.sink (listing p.dictionary) status Done _ p.listed e
-    (λ x w. (w.calm, λ sensitive g h. same-proc (command_of words) f g sensitive c h)) (λ x w. cc) (λ x w. cc))
+    (λ x w. (
+      w.calm,
+      (λ sensitive g h. not-proc (Expand f) sensitive g refl (same-command (command_of words) (Expand f) (Proc sensitive g) c h)),
+      (λ way dix out h. not-comp (Expand f) way dix out refl (same-command (command_of words) (Expand f) (Comp way dix out) c h)),
+    )) (λ x w. cc) (λ x w. cc))
+    (λ way dix out c p. compiled-so way dix out (name_at words out) old new status Done _ p.dictionary p.ended e (λ l i x u w. cc) (λ x u w. cc) (λ x s. cc)
+    (λ x s w. (
+      w.calm,
+      (λ sensitive g h. not-proc (Comp way dix out) sensitive g refl (same-command (command_of words) (Comp way dix out) (Proc sensitive g) c h)),
+      (λ way' dix' out' h. subst (IsGiven words old new) (same-command (command_of words) (Comp way dix out) (Comp way' dix' out') c h) (gives-compiled words old new status way dix out p s w)),
+    )) (λ x s w. cc))
 
 pub nothing-from : (words : List (List ℕ)) (old new : Outside) (status : Status) → IsAnswer words old new status → TakesNothing words old new
-nothing-from words old new status a = λ file h. by-cases words old new status _ (command_of words) a.by_words
+nothing-from words old new status a = λ command h n. by-cases words old new status _ (command_of words) a.by_words
     (λ u same. ap (λ (o : Outside). o.source) same)
     (λ f k c i r. r.source)
-    (λ sensitive f c p. same-proc (command_of words) file f sensitive h c)
+    (λ sensitive f c p. not-proc command sensitive f n (same-command (command_of words) command (Proc sensitive f) h c))
     (λ f c p. p.source)
+    (λ way dix out c p. p.source)
+
+-- a file that was stored holds something
+stores-some : (old new : Option (List ℕ → Option (List ℕ))) (name bytes : List ℕ) → Stores old new name bytes → StoresSome old new name
+stores-some old new name bytes s = (Some bytes, s)
+
+kept-by : (words : List (List ℕ)) (old new : Outside) (status : Status) (r : Result Command UsageFault) → IsAnswerTo words old new status r → AreKept words old new r
+kept-by words old new status (Err fault) a = ap (λ (o : Outside). o.files.contents) a.1
+kept-by words old new status (Ok (Proc sensitive file)) (inl r) = r.contents
+kept-by words old new status (Ok (Proc sensitive file)) (inr p) = ap (λ (f : FilesStanding). f.contents) p.files
+kept-by words old new status (Ok (Expand file)) (inl r) = r.contents
+kept-by words old new status (Ok (Expand file)) (inr p) = ap (λ (f : FilesStanding). f.contents) p.files
+kept-by words old new status (Ok (Comp way dix out)) (inl r) = inl r.contents
+kept-by words old new status (Ok (Comp way dix out)) (inr p) =
+    compiled-so way dix out (name_at words out) old new status status _ p.dictionary p.ended refl (λ l i x u w. inl (ap (λ (f : FilesStanding). f.contents) u)) (λ x u w. inl (ap (λ (f : FilesStanding). f.contents) u)) (λ x s. inr s.held)
+    (λ x s w. inr (stores-some _ _ _ _ s.stored.stored)) (λ x s w. inr (stores-some _ _ _ _ s.stored.stored))
+
+pub kept-from : (words : List (List ℕ)) (old new : Outside) (status : Status) → IsAnswer words old new status → IsKept words old new
+kept-from words old new status a = kept-by words old new status (command_of words) a.by_words
 
 fault-for : (command : Command) (text : List ℕ) (flaw : Flaw) → IsFaultOf (takes_compiled command) text flaw → IsFaultFor command text flaw
 fault-for (Proc sensitive file) text flaw f = inl f
 fault-for (Expand file) text flaw f = f
+fault-for (Comp way dix out) text flaw f = inl f
 
-empty-bad : (name : List ℕ) (old new : Outside) (status : Status) (sensitive : Bool) (f file number l line : ℕ) → (p : Proceeds name f sensitive old new status) → IsFirstEmptyLeft p.content l → BadDictionary f 13 l ≡ BadDictionary file number line
-    → (f ≡ file) × HasText old.files name (λ text. IsFaultFor (Proc sensitive file) text (OfDictionary number line))
-empty-bad name old new status sensitive f file number l line p i e = (
+-- a file that was opened has an empty input side
+empty-bad : (takes : Bool) (way : Direction) (k : Command) (name : List ℕ) (files : FilesStanding) (d : Content) (f file number l line : ℕ) → Opens takes files name d → IsFirstEmptyInput way d l
+    → ((text : List ℕ) → IsEmptySideOf takes way text (OfDictionary number line) → IsFaultFor k text (OfDictionary number line)) → BadDictionary f 13 l ≡ BadDictionary file number line
+    → (f ≡ file) × HasText files name (λ text. IsFaultFor k text (OfDictionary number line))
+empty-bad takes way k name files d f file number l line o i h e = (
   cc,
-  text-more old.files name (λ text. IsAccepted true text p.content) (λ text. IsFaultFor (Proc sensitive file) text (OfDictionary number line))
-      (λ text accepted. inr (record { content = p.content; accepted = accepted; line = l; empty = i; flaw_is = cc })) p.opened,
+  text-more files name (λ text. IsAccepted takes text d) (λ text. IsFaultFor k text (OfDictionary number line)) (λ text accepted. h text (record { content = d; accepted = accepted; line = l; empty = i; flaw_is = cc })) o,
 )
 
 refused-bad : (words : List (List ℕ)) (old : Outside) (f file : ℕ) (flaw : Flaw) (k : Command) → command_of words ≡ Ok k → file_of k ≡ f → f ≡ file → HasText old.files (name_at words f) (λ text. IsFaultFor k text flaw) → HasFaultOf words old file flaw
@@ -352,9 +450,10 @@ bad-dictionary-from words old new status a = λ file number line e. by-cases wor
     (λ u same. (let x : Usage ≡ BadDictionary file number line = sym u ∙ e in cc))
     (λ f k c i r. (let t = not-refused _ words old new status f (BadDictionary file number line) r e in has-bad words old f file (OfDictionary number line) k c i t.0 t.1))
     (λ sensitive f c p. streamed-so p.content f sensitive old new status (BadDictionary file number line) _ p.stream e (λ x w. cc) (λ x w. cc)
-    (λ l i x t w. (let b = empty-bad (name_at words f) old new status sensitive f file number l line p i x in refused-bad words old f file (OfDictionary number line) (Proc sensitive file) (c ∙ ap (λ n. Ok (Proc sensitive n)) b.0) (sym b.0) b.0 b.1))
+    (λ l i x t w. (let b = empty-bad true Lr (Proc sensitive f) (name_at words f) old.files p.content f file number l line p.opened i (λ text s. inr s) x in refused-bad words old f file (OfDictionary number line) (Proc sensitive f) c refl b.0 b.1))
     (λ s l i ending q x. absurd (no-dictionary file number line (ending-is ending (BadDictionary file number line) x))) (λ s l i g h other x. absurd (no-dictionary file number line (fault-is g (BadDictionary file number line) x))))
     (λ f c p. listed-so old.sink new.sink (listing p.dictionary) status (BadDictionary file number line) _ p.listed e (λ x w. cc) (λ x w. cc) (λ x w. cc))
+    (λ way dix out c p. compiled-so way dix out (name_at words out) old new status (BadDictionary file number line) _ p.dictionary p.ended e (λ l i x u w. (let b = empty-bad false way (Comp way dix out) (name_at words dix) old.files (Entries p.dictionary) dix file number l line p.opened i (λ text s. inr s) x in refused-bad words old dix file (OfDictionary number line) (Comp way dix out) c refl b.0 b.1)) (λ x u w. cc) (λ x s. cc) (λ x s w. cc) (λ x s w. cc))
 
 pub bad-compiled-from : (words : List (List ℕ)) (old new : Outside) (status : Status) → IsAnswer words old new status → IsBadCompiled words old status
 bad-compiled-from words old new status a = λ file number line e. by-cases words old new status _ (command_of words) a.by_words
@@ -363,6 +462,7 @@ bad-compiled-from words old new status a = λ file number line e. by-cases words
     (λ sensitive f c p. streamed-so p.content f sensitive old new status (BadCompiled file number line) _ p.stream e (λ x w. cc) (λ x w. cc) (λ l i x t w. cc)
     (λ s l i ending q x. absurd (no-compiled file number line (ending-is ending (BadCompiled file number line) x))) (λ s l i g h other x. absurd (no-compiled file number line (fault-is g (BadCompiled file number line) x))))
     (λ f c p. listed-so old.sink new.sink (listing p.dictionary) status (BadCompiled file number line) _ p.listed e (λ x w. cc) (λ x w. cc) (λ x w. cc))
+    (λ way dix out c p. compiled-so way dix out (name_at words out) old new status (BadCompiled file number line) _ p.dictionary p.ended e (λ l i x u w. cc) (λ x u w. cc) (λ x s. cc) (λ x s w. cc) (λ x s w. cc))
 
 pub file-too-long-from : (words : List (List ℕ)) (old new : Outside) (status : Status) → IsAnswer words old new status → IsFileTooLong words old status
 file-too-long-from words old new status a = λ file e. by-cases words old new status _ (command_of words) a.by_words
@@ -372,3 +472,4 @@ file-too-long-from words old new status a = λ file e. by-cases words old new st
     (λ sensitive f c p. streamed-so p.content f sensitive old new status (Limit 0 6 file) _ p.stream e (λ x w. cc) (λ x w. cc) (λ line i x t w. cc)
     (λ s l i ending q x. (let z : 6 ≡ 7 = (ending-limit ending 0 6 file x).2 in absurd (omega arith))) (λ s l i g h other x. (let z : 0 ≡ 1 = fault-limit g 0 6 file x in absurd (omega arith))))
     (λ f c p. listed-so old.sink new.sink (listing p.dictionary) status (Limit 0 6 file) _ p.listed e (λ x w. cc) (λ x w. cc) (λ x w. cc))
+    (λ way dix out c p. compiled-so way dix out (name_at words out) old new status (Limit 0 6 file) _ p.dictionary p.ended e (λ l i x u w. cc) (λ x u w. cc) (λ x s. cc) (λ x s w. cc) (λ x s w. cc))

@@ -16,7 +16,7 @@ use Rattle.ap_fst.specs.declared.compiled.Kind2.TheVariants.{Standard, Inconditi
 use Rattle.ap_fst.specs.declared.label.Label.{Label}
 use Rattle.ap_compile.specs.Compiling.{AcceptsStrings, IsCompiledFrom}
 use Rattle.ap_compile.specs.Empties.{HasEmptyEntry, IsEmptyEntry, IsFirstEmpty, section_entries}
-use Rattle.ap_compile.specs.Labels.{derived_label, derived_labels}
+use Rattle.ap_compile.specs.Labels.{derived_labels}
 use Rattle.ap_stream.specs.Told.{Told, Ending}
 use Rattle.ap_analysis.specs.Lexicon.{Lexicon, IsLexiconOf, Spelled, lexicon_of}
 use Rattle.ap_analysis.specs.Laws.{relation_of}
@@ -25,7 +25,7 @@ use Rattle.ap_analysis.proofs.Lexicons.{one_lexicon, lexicon_same}
 use Rattle.ap_tool.specs.declared.content.Content.{Content}
 use Rattle.ap_tool.specs.declared.content.Content.TheVariants.{Entries, Sections}
 use Rattle.ap_tool.specs.Output.{kind_of, entries_relation, relation, letters_of, IsLexicon, IsOutput}
-use Rattle.ap_tool.specs.Stream.{HasEmptyLeft, IsFirstEmptyLeft}
+use Rattle.ap_tool.specs.Stream.{HasEmptyInput, IsFirstEmptyInput}
 
 left-same : (w : List Label) → entry_left (derived_labels w) ≡ left_word w
 left-same [] = refl
@@ -105,12 +105,12 @@ one-first : (d : Dictionary) (direction : Direction) (entries : List Entry) (lin
 one-first d direction entries line line' f g =
     f.line_is ∙ ap (λ (e : Entry). e.line) (same-first d direction f.before g.before f.after g.after f.entry g.entry f.empty g.empty f.first g.first (sym f.whole ∙ g.whole)) ∙ sym g.line_is
 
--- a first empty left side is one
-pub first-left : (content : Content) (line : ℕ) → IsFirstEmptyLeft content line → HasEmptyLeft content
-first-left (Entries d) line f = first-has d Lr (section_entries d.sections) line f
-first-left (Sections p) line f = f
+-- a first empty input side is one
+pub first-input : (way : Direction) (content : Content) (line : ℕ) → IsFirstEmptyInput way content line → HasEmptyInput way content
+first-input way (Entries d) line f = first-has d way (section_entries d.sections) line f
+first-input way (Sections p) line f = f
 
 -- and has one line
-pub one-left : (content : Content) (line line' : ℕ) → IsFirstEmptyLeft content line → IsFirstEmptyLeft content line' → line ≡ line'
-one-left (Entries d) line line' f g = one-first d Lr (section_entries d.sections) line line' f g
-one-left (Sections p) line line' f g = absurd f
+pub one-input : (way : Direction) (content : Content) (line line' : ℕ) → IsFirstEmptyInput way content line → IsFirstEmptyInput way content line' → line ≡ line'
+one-input way (Entries d) line line' f g = one-first d way (section_entries d.sections) line line' f g
+one-input way (Sections p) line line' f g = absurd f

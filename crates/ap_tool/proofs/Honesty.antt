@@ -1,19 +1,19 @@
-use Rattle.std.proofs.Common.{◌≡◌, ◌≢◌, ℕ, ◌+◌, ◌-◌, ◌^◌, ◌<◌, ◌≤◌, ◌&&◌, Bool, true, false, List, [], ◌∷◌, ◌++◌, arith, subst, sym, ap, ◌∙◌, refl, inl, inr, ◌⊎◌, Option, Some, None, Result, Ok, Err, length, append-nil, length-append, append_assoc, take}
-use Rattle.std.specs.Option.{IfSome, option_map}
+use Rattle.std.proofs.Common.{◌≡◌, ◌≢◌, ℕ, ◌+◌, ◌-◌, ◌<◌, ◌≤◌, ◌&&◌, Bool, true, false, List, ◌++◌, arith, subst, sym, ap, ◌∙◌, refl, inl, inr, ◌⊎◌, Option, Some, None, Result, Ok, Err, length, append-nil, length-append, append_assoc, take}
+use Rattle.std.specs.Option.{option_map}
 use Rattle.std.proofs.lemmas.Bool.{le-ltb, lt-ltb}
 use Rattle.std.proofs.lemmas.List.{take_all}
 use Rattle.std.proofs.Math.Seq.{take-append-add}
-use Rattle.ap_outside.specs.Causes.{Rose}
 use Rattle.ap_outside.specs.Told.{Takes, IsEnd, Puts}
 use Rattle.ap_dix.specs.declared.dictionary.Dictionary.{Dictionary}
+use Rattle.ap_dix.specs.declared.dictionary.Direction.{Direction}
+use Rattle.ap_dix.specs.declared.dictionary.Direction.TheVariants.{Lr}
 use Rattle.ap_dix.specs.declared.refusal.DixFault.{DixFault}
 use Rattle.ap_dix.specs.Spelling.{Spells, IsFirstFault}
 use Rattle.ap_dix.specs.Refusals.{kind_number}
-use Rattle.ap_fst.specs.Sections.{Parts}
 use Rattle.ap_binary.specs.declared.refusal.BinaryFault.{BinaryFault}
 use Rattle.ap_binary.specs.Refusals.{kind_number as compiled_number}
 use Rattle.ap_binary.proofs.Once.{one_spelled, one_fault as one_compiled_fault, never_both}
-use Rattle.ap_stream.specs.Told.{Told, Ending as TextEnding, Clean as Whole, Cut, ends_in}
+use Rattle.ap_stream.specs.Told.{Told, Ending as TextEnding, Clean as Whole, ends_in}
 use Rattle.ap_stream.specs.declared.fault.StreamFault.{StreamFault}
 use Rattle.ap_stream.specs.declared.fault.StreamFault.TheVariants as fault
 use Rattle.ap_analysis.specs.Lexicon.{Lexicon}
@@ -27,20 +27,20 @@ use Rattle.ap_tool.specs.declared.intake.Ending.TheVariants.{Clean, Failed, TooL
 use Rattle.ap_tool.specs.declared.driving.Stop.{Stop}
 use Rattle.ap_tool.specs.declared.driving.Stop.TheVariants.{Write, Fault}
 use Rattle.ap_tool.specs.declared.words.Command.{Command}
-use Rattle.ap_tool.specs.declared.words.Command.TheVariants.{Proc, Expand}
-use Rattle.ap_tool.specs.declared.words.UsageFault.{UsageFault}
-use Rattle.ap_tool.specs.Words.{command_of, file_of}
-use Rattle.ap_tool.specs.Listing.{IsListed, RunsOut, listing}
+use Rattle.ap_tool.specs.declared.words.Command.TheVariants.{Proc, Expand, Comp}
+use Rattle.ap_tool.specs.Words.{file_of}
+use Rattle.ap_tool.specs.Listing.{IsListed, listing}
+use Rattle.ap_tool.specs.Compiling.{CompilesOrStops}
 use Rattle.ap_tool.specs.Messages.{name_at}
-use Rattle.ap_tool.specs.Standing.{Standing, PutsAll, PutsSome}
+use Rattle.ap_tool.specs.Standing.{Standing}
 use Rattle.ap_tool.specs.Intake.{TakesCalmly, IsIntake, input_max}
 use Rattle.ap_tool.specs.Driving.{whole, Course, Onward, Ended, IsTaken, text_ending, Completes, Halts, Drives}
 use Rattle.ap_tool.specs.Output.{IsLexicon, IsOutput}
-use Rattle.ap_tool.specs.Stream.{status_of_ending, status_of_fault, status_of_driving, stream_status, IsFirstEmptyLeft, Streams, StreamsOrStops}
-use Rattle.ap_tool.specs.Opening.{FilesStanding, IsFileRefusal, HasText, Opens, is_compiled_file, SpellsAs, IsAccepted, Flaw, OfDictionary, OfCompiled, status_of_flaw, IsFlawAs, IsFaultOf, file_max}
-use Rattle.ap_tool.specs.Answer.{Outside, IsAnswer, IsAnswerTo, IsCommandAnswer, Refuses, Proceeds, Expands}
-use Rattle.ap_tool.specs.Clauses.{IsCalm, cut_input, ending_of, Holds, IsFileOf, IsHonestListing, IsListedExactly, IsHonest, IsExact, IsComplete, AreOutputs, GivesUp, Reads, IsEmptySideOf, IsFaultFor, RefusesFaulty, RefusesLong}
-use Rattle.ap_tool.proofs.Entries.{first-left, one-left}
+use Rattle.ap_tool.specs.Stream.{status_of_ending, status_of_fault, status_of_driving, stream_status, IsFirstEmptyInput, StreamsOrStops}
+use Rattle.ap_tool.specs.Opening.{FilesStanding, IsFileRefusal, Opens, is_compiled_file, SpellsAs, IsAccepted, Flaw, OfDictionary, OfCompiled, status_of_flaw, IsFlawAs, IsFaultOf, file_max}
+use Rattle.ap_tool.specs.Answer.{Outside, IsAnswer, IsAnswerTo, IsCommandAnswer, Refuses, Proceeds, Expands, Compiles}
+use Rattle.ap_tool.specs.Clauses.{IsCalm, cut_input, ending_of, Holds, IsFileOf, IsListedExactly, IsHonest, IsExact, IsComplete, AreOutputs, GivesUp, IsUntouched, IsEmptySideOf, IsFaultFor, RefusesFaulty, RefusesLong}
+use Rattle.ap_tool.proofs.Entries.{first-input, one-input}
 use Rattle.ap_tool.proofs.Listings.{take-front}
 use Rattle.ap_tool.proofs.Meaning.{completes-output, halts-outputs, fails-rose}
 use Rattle.ap_tool.proofs.Endings.{calm-not-rose, text-told, takes_compiled}
@@ -98,7 +98,7 @@ pub laws-of : SpellsOne → HasOneFault → SpellsWithoutFault → ((content : C
 laws-of one fault none output = record { one = one-content one; one_fault = one-flaw fault; no_fault = no-flaw none; output = output }
 
 -- a file that is accepted and whose loads are calm is refused for want of memory alone
-refused : Laws → (takes : Bool) (words : List (List ℕ)) (file : ℕ) (old new : Outside) (d : Content) (text : List ℕ) (status : Status) → Holds old.files (name_at words file) text → IsAccepted takes text d
+pub refused : Laws → (takes : Bool) (words : List (List ℕ)) (file : ℕ) (old new : Outside) (d : Content) (text : List ℕ) (status : Status) → Holds old.files (name_at words file) text → IsAccepted takes text d
     → IsCalm (old.files.load_faults (name_at words file)) (new.files.load_faults (name_at words file)) → IsFileRefusal takes old.files new.files (name_at words file) file status → status ≡ Memory
 refused laws takes words file old new d text (FileFault f) h c k r = absurd (calm-not-rose _ _ k r.1)
 refused laws takes words file old new d text (BadDictionary f number line) h c k r =
@@ -237,7 +237,7 @@ driven old new d sensitive input status lexicon (Err (Fault (fault.Limit kind pl
 streamed : (words : List (List ℕ)) (sensitive : Bool) (file : ℕ) (old new : Outside) (d : Content) (input : List ℕ) (status : Status) → IsHonest words sensitive file old new d input
     → StreamsOrStops d file sensitive old.source new.source old.sink new.sink status → (status ≡ Memory) ⊎ WentWell old new d sensitive input status
 streamed words sensitive file old new d input status h (inl s) = driven old new d sensitive input status s.lexicon s.runs.driving h.input_told h.takes h.puts s.of_content s.runs.driven s.runs.status_is
-streamed words sensitive file old new d input status h (inr (inl i)) = absurd (h.sides (first-left d i.line i.empty))
+streamed words sensitive file old new d input status h (inr (inl i)) = absurd (h.sides (first-input Lr d i.line i.empty))
 streamed words sensitive file old new d input status h (inr (inr i)) = inl i.memory
 
 ran : Laws → (words : List (List ℕ)) (sensitive : Bool) (file : ℕ) (old new : Outside) (d : Content) (input : List ℕ) (status : Status) → IsHonest words sensitive file old new d input
@@ -272,7 +272,7 @@ complete-from laws words old new status a = λ sensitive file d input told h sho
           inl (w.status_is ∙ ap (stream_status w.told) clean ∙ ap (λ (t : Told). stream_status t Clean) same ∙ faultless told none))
     ]
 
-same-entries : (c d : Dictionary) → Entries c ≡ Entries d → c ≡ d
+pub same-entries : (c d : Dictionary) → Entries c ≡ Entries d → c ≡ d
 same-entries c d e = cc
 
 pub listed-from : Laws → (words : List (List ℕ)) (old new : Outside) (status : Status) → IsAnswer words old new status → IsListedExactly words old new status
@@ -291,16 +291,20 @@ listed-from laws words old new status a = λ file d h.
     ]
 
 by-command : (words : List (List ℕ)) (file : ℕ) (old new : Outside) (status : Status) (P : Command → Type 0) (command : Command) → file_of command ≡ file → IsCommandAnswer words old new status command
-    → (Refuses (takes_compiled command) (name_at words file) file old new status → P command) → ((sensitive : Bool) → Proceeds (name_at words file) file sensitive old new status → P (Proc sensitive file)) → (Expands (name_at words file) old new status → P (Expand file)) → P command
-by-command words file old new status P (Proc sensitive k) e (inl r) f g h = f (subst (λ n. Refuses true (name_at words n) n old new status) e r)
-by-command words file old new status P (Proc sensitive k) e (inr p) f g h = subst (λ n. P (Proc sensitive n)) (sym e) (g sensitive (subst (λ n. Proceeds (name_at words n) n sensitive old new status) e p))
-by-command words file old new status P (Expand k) e (inl r) f g h = f (subst (λ n. Refuses false (name_at words n) n old new status) e r)
-by-command words file old new status P (Expand k) e (inr p) f g h = subst (λ n. P (Expand n)) (sym e) (h (subst (λ n. Expands (name_at words n) old new status) e p))
+    → (Refuses (takes_compiled command) (name_at words file) file old new status → P command) → ((sensitive : Bool) → Proceeds (name_at words file) file sensitive old new status → P (Proc sensitive file)) → (Expands (name_at words file) old new status → P (Expand file))
+    → ((way : Direction) (out : ℕ) → Compiles (name_at words file) way file out (name_at words out) old new status → P (Comp way file out)) → P command
+by-command words file old new status P (Proc sensitive k) e (inl r) f g h j = f (subst (λ n. Refuses true (name_at words n) n old new status) e r)
+by-command words file old new status P (Proc sensitive k) e (inr p) f g h j = subst (λ n. P (Proc sensitive n)) (sym e) (g sensitive (subst (λ n. Proceeds (name_at words n) n sensitive old new status) e p))
+by-command words file old new status P (Expand k) e (inl r) f g h j = f (subst (λ n. Refuses false (name_at words n) n old new status) e r)
+by-command words file old new status P (Expand k) e (inr p) f g h j = subst (λ n. P (Expand n)) (sym e) (h (subst (λ n. Expands (name_at words n) old new status) e p))
+by-command words file old new status P (Comp way k out) e (inl r) f g h j = f (subst (λ n. Refuses false (name_at words n) n old new status) e r)
+by-command words file old new status P (Comp way k out) e (inr p) f g h j = subst (λ n. P (Comp way n out)) (sym e) (j way out (subst (λ n. Compiles (name_at words n) way n out (name_at words out) old new status) e p))
 
 -- whatever the command, its file was refused or accepted
 of-file : (words : List (List ℕ)) (file : ℕ) (old new : Outside) (status : Status) (P : Command → Type 0) → IsAnswer words old new status → (i : IsFileOf words file)
-    → (Refuses (takes_compiled i.command) (name_at words file) file old new status → P i.command) → ((sensitive : Bool) → Proceeds (name_at words file) file sensitive old new status → P (Proc sensitive file)) → (Expands (name_at words file) old new status → P (Expand file)) → P i.command
-of-file words file old new status P a i f g h = by-command words file old new status P i.command i.file_is (subst (λ r. IsAnswerTo words old new status r) i.by_words a.by_words) f g h
+    → (Refuses (takes_compiled i.command) (name_at words file) file old new status → P i.command) → ((sensitive : Bool) → Proceeds (name_at words file) file sensitive old new status → P (Proc sensitive file)) → (Expands (name_at words file) old new status → P (Expand file))
+    → ((way : Direction) (out : ℕ) → Compiles (name_at words file) way file out (name_at words out) old new status → P (Comp way file out)) → P i.command
+of-file words file old new status P a i f g h j = by-command words file old new status P i.command i.file_is (subst (λ r. IsAnswerTo words old new status r) i.by_words a.by_words) f g h j
 
 -- the file was refused with the fault that it has
 faulty-refused : Laws → (takes : Bool) (words : List (List ℕ)) (old new : Outside) (status : Status) (file : ℕ) (flaw : Flaw) (text : List ℕ) → Holds old.files (name_at words file) text → IsFaultOf takes text flaw
@@ -325,14 +329,14 @@ faulty-refused laws takes words old new (Malformed stage kind place) file flaw t
 
 -- what is answered of a file with this fault
 abbrev IsAnswered : List (List ℕ) → Outside → Outside → Status → ℕ → Flaw → Type 0
-IsAnswered words old new status file flaw = ((status ≡ status_of_flaw file flaw) × (new.source ≡ old.source) × (new.sink ≡ old.sink)) ⊎ GivesUp words file old new status
+IsAnswered words old new status file flaw = ((status ≡ status_of_flaw file flaw) ⊎ GivesUp words file old new status) × IsUntouched old new
+
+refused-untouched : (takes : Bool) (name : List ℕ) (file : ℕ) (old new : Outside) (status : Status) → Refuses takes name file old new status → IsUntouched old new
+refused-untouched takes name file old new status r = record { source = r.source; sink = r.sink; contents = r.contents }
 
 faulty-answered : Laws → (takes : Bool) (words : List (List ℕ)) (old new : Outside) (status : Status) (file : ℕ) (flaw : Flaw) (text : List ℕ) → Holds old.files (name_at words file) text → IsFaultOf takes text flaw → Refuses takes (name_at words file) file old new status
     → IsAnswered words old new status file flaw
-faulty-answered laws takes words old new status file flaw text h t r = elim (faulty-refused laws takes words old new status file flaw text h t r.refusal) [
-  | inl e ↦ inl (e, r.source, r.sink)
-  | inr g ↦ inr g
-]
+faulty-answered laws takes words old new status file flaw text h t r = (faulty-refused laws takes words old new status file flaw text h t r.refusal, refused-untouched takes (name_at words file) file old new status r)
 
 not-accepted : Laws → (takes : Bool) (words : List (List ℕ)) (old : Outside) (file : ℕ) (flaw : Flaw) (text : List ℕ) (d : Content) → Holds old.files (name_at words file) text → IsFaultOf takes text flaw → Opens takes old.files (name_at words file) d → ⊥
 not-accepted laws takes words old file flaw text d h t o = laws.no_fault (takes && is_compiled_file text) text d flaw (text-told old.files (name_at words file) text (λ x. IsAccepted takes x d) h o).spelled t.first
@@ -358,37 +362,68 @@ gives-up laws takes words file old new d text WriteFault h c r = absurd r
 gives-up laws takes words file old new d text (BadRules f number line) h c r = absurd r
 gives-up laws takes words file old new d text (Malformed stage kind place) h c r = absurd r
 
--- a dictionary with an empty side isn't compiled
-empty-answered : (words : List (List ℕ)) (old new : Outside) (status : Status) (file line : ℕ) (flaw : Flaw) (sensitive : Bool) (d : Content) → flaw ≡ OfDictionary 13 line → IsFirstEmptyLeft d line
-    → StreamsOrStops d file sensitive old.source new.source old.sink new.sink status → IsAnswered words old new status file flaw
-empty-answered words old new status file line flaw sensitive d n f (inl s) = absurd (s.sides (first-left d line f))
-empty-answered words old new status file line flaw sensitive d n f (inr (inl i)) =
-    inl (i.status_is ∙ ap (BadDictionary file 13) (one-left d i.line line i.empty f) ∙ ap (status_of_flaw file) (sym n), i.untaken, i.unwritten)
-empty-answered words old new status file line flaw sensitive d n f (inr (inr i)) = inr (inl i.memory)
+empty-status : (file line first : ℕ) (flaw : Flaw) (way : Direction) (d : Content) → flaw ≡ OfDictionary 13 line → IsFirstEmptyInput way d line → IsFirstEmptyInput way d first → (status : Status) → status ≡ BadDictionary file 13 first → status ≡ status_of_flaw file flaw
+empty-status file line first flaw way d n f g status e = e ∙ ap (BadDictionary file 13) (one-input way d first line g f) ∙ ap (status_of_flaw file) (sym n)
 
-empty-from : Laws → (words : List (List ℕ)) (old new : Outside) (status : Status) (file : ℕ) (flaw : Flaw) (text : List ℕ) (sensitive : Bool) → Holds old.files (name_at words file) text → IsEmptySideOf text flaw
+-- a dictionary with an empty side isn't compiled
+empty-answered : (words : List (List ℕ)) (old new : Outside) (status : Status) (file line : ℕ) (flaw : Flaw) (sensitive : Bool) (d : Content) → flaw ≡ OfDictionary 13 line → IsFirstEmptyInput Lr d line → new.files ≡ old.files
+    → StreamsOrStops d file sensitive old.source new.source old.sink new.sink status → IsAnswered words old new status file flaw
+empty-answered words old new status file line flaw sensitive d n f k (inl s) = absurd (s.sides (first-input Lr d line f))
+empty-answered words old new status file line flaw sensitive d n f k (inr (inl i)) =
+    (inl (empty-status file line i.line flaw Lr d n f i.empty status i.status_is), record { source = i.untaken; sink = i.unwritten; contents = ap (λ (x : FilesStanding). x.contents) k })
+empty-answered words old new status file line flaw sensitive d n f k (inr (inr i)) = (inr (inl i.memory), record { source = i.untaken; sink = i.unwritten; contents = ap (λ (x : FilesStanding). x.contents) k })
+
+empty-compiled : (words : List (List ℕ)) (old new : Outside) (status : Status) (file out line : ℕ) (flaw : Flaw) (way : Direction) (name : List ℕ) (d : Dictionary) → flaw ≡ OfDictionary 13 line → IsFirstEmptyInput way (Entries d) line → new.source ≡ old.source
+    → CompilesOrStops d way file out name old.files new.files old.sink new.sink status → IsAnswered words old new status file flaw
+empty-compiled words old new status file out line flaw way name d n f k (inl i) =
+    (inl (empty-status file line i.line flaw way (Entries d) n f i.empty status i.status_is), record { source = k; sink = i.unwritten; contents = ap (λ (x : FilesStanding). x.contents) i.unstored })
+empty-compiled words old new status file out line flaw way name d n f k (inr (inl c)) = absurd (c.sides (first-input way (Entries d) line f))
+empty-compiled words old new status file out line flaw way name d n f k (inr (inr (inl s))) = absurd (s.sides (first-input way (Entries d) line f))
+empty-compiled words old new status file out line flaw way name d n f k (inr (inr (inr m))) =
+    (inr (inl m.memory), record { source = k; sink = m.unwritten; contents = ap (λ (x : FilesStanding). x.contents) m.unstored })
+
+empty-from : Laws → (words : List (List ℕ)) (old new : Outside) (status : Status) (file : ℕ) (flaw : Flaw) (text : List ℕ) (sensitive : Bool) → Holds old.files (name_at words file) text → IsEmptySideOf true Lr text flaw
     → Proceeds (name_at words file) file sensitive old new status → IsAnswered words old new status file flaw
 empty-from laws words old new status file flaw text sensitive h e p =
     let t = text-told old.files (name_at words file) text (λ text. IsAccepted true text p.content) h p.opened in
     let same : p.content ≡ e.content = laws.one (true && is_compiled_file text) text p.content e.content t.spelled e.accepted.spelled in
-    empty-answered words old new status file e.line flaw sensitive e.content e.flaw_is e.empty (subst (λ d. StreamsOrStops d file sensitive old.source new.source old.sink new.sink status) same p.stream)
+    empty-answered words old new status file e.line flaw sensitive e.content e.flaw_is e.empty p.files (subst (λ d. StreamsOrStops d file sensitive old.source new.source old.sink new.sink status) same p.stream)
+
+compiles-from : Laws → (words : List (List ℕ)) (old new : Outside) (status : Status) (file out : ℕ) (flaw : Flaw) (text : List ℕ) (way : Direction) → Holds old.files (name_at words file) text → IsEmptySideOf false way text flaw
+    → Compiles (name_at words file) way file out (name_at words out) old new status → IsAnswered words old new status file flaw
+compiles-from laws words old new status file out flaw text way h e p =
+    let t = text-told old.files (name_at words file) text (λ text. IsAccepted false text (Entries p.dictionary)) h p.opened in
+    let same : e.content ≡ Entries p.dictionary = laws.one (false && is_compiled_file text) text e.content (Entries p.dictionary) e.accepted.spelled t.spelled in
+    empty-compiled words old new status file out e.line flaw way (name_at words out) p.dictionary e.flaw_is (subst (λ d. IsFirstEmptyInput way d e.line) same e.empty) p.source p.ended
+
+gives-up-answered : Laws → (takes : Bool) (words : List (List ℕ)) (old new : Outside) (status : Status) (file : ℕ) (flaw : Flaw) (text : List ℕ) (d : Content) → Holds old.files (name_at words file) text → IsAccepted takes text d → Refuses takes (name_at words file) file old new status
+    → IsAnswered words old new status file flaw
+gives-up-answered laws takes words old new status file flaw text d h a r = (inr (gives-up laws takes words file old new d text status h a r.refusal), refused-untouched takes (name_at words file) file old new status r)
 
 refused-for : Laws → (words : List (List ℕ)) (old new : Outside) (status : Status) (file : ℕ) (flaw : Flaw) (text : List ℕ) (command : Command) → Holds old.files (name_at words file) text → Refuses (takes_compiled command) (name_at words file) file old new status
     → IsFaultFor command text flaw → IsAnswered words old new status file flaw
 refused-for laws words old new status file flaw text (Proc sensitive k) h r (inl t) = faulty-answered laws true words old new status file flaw text h t r
-refused-for laws words old new status file flaw text (Proc sensitive k) h r (inr e) = inr (gives-up laws true words file old new e.content text status h e.accepted r.refusal)
+refused-for laws words old new status file flaw text (Proc sensitive k) h r (inr e) = gives-up-answered laws true words old new status file flaw text e.content h e.accepted r
 refused-for laws words old new status file flaw text (Expand k) h r t = faulty-answered laws false words old new status file flaw text h t r
+refused-for laws words old new status file flaw text (Comp way k out) h r (inl t) = faulty-answered laws false words old new status file flaw text h t r
+refused-for laws words old new status file flaw text (Comp way k out) h r (inr e) = gives-up-answered laws false words old new status file flaw text e.content h e.accepted r
 
 proceeds-for : Laws → (words : List (List ℕ)) (old new : Outside) (status : Status) (file : ℕ) (flaw : Flaw) (text : List ℕ) (sensitive : Bool) → Holds old.files (name_at words file) text → Proceeds (name_at words file) file sensitive old new status
     → IsFaultFor (Proc sensitive file) text flaw → IsAnswered words old new status file flaw
 proceeds-for laws words old new status file flaw text sensitive h p (inl t) = absurd (not-accepted laws true words old file flaw text p.content h t p.opened)
 proceeds-for laws words old new status file flaw text sensitive h p (inr e) = empty-from laws words old new status file flaw text sensitive h e p
 
+compiles-for : Laws → (words : List (List ℕ)) (old new : Outside) (status : Status) (file out : ℕ) (flaw : Flaw) (text : List ℕ) (way : Direction) → Holds old.files (name_at words file) text → Compiles (name_at words file) way file out (name_at words out) old new status
+    → IsFaultFor (Comp way file out) text flaw → IsAnswered words old new status file flaw
+compiles-for laws words old new status file out flaw text way h p (inl t) = absurd (not-accepted laws false words old file flaw text (Entries p.dictionary) h t p.opened)
+compiles-for laws words old new status file out flaw text way h p (inr e) = compiles-from laws words old new status file out flaw text way h e p
+
 pub faulty-from : Laws → (words : List (List ℕ)) (old new : Outside) (status : Status) → IsAnswer words old new status → RefusesFaulty words old new status
 faulty-from laws words old new status a = λ file flaw text h. of-file words file old new status (λ command. IsFaultFor command text flaw → IsAnswered words old new status file flaw) a h.of_command
     (λ r. refused-for laws words old new status file flaw text h.of_command.command h.there r)
     (λ sensitive p. proceeds-for laws words old new status file flaw text sensitive h.there p)
     (λ p t. absurd (not-accepted laws false words old file flaw text (Entries p.dictionary) h.there t p.opened))
+    (λ way out p. compiles-for laws words old new status file out flaw text way h.there p)
 
 -- the file was refused since it is over the limit
 long-refused : (takes : Bool) (words : List (List ℕ)) (old new : Outside) (status : Status) (file : ℕ) (text : List ℕ) → Holds old.files (name_at words file) text → file_max < length text
@@ -414,10 +449,8 @@ not-short : (takes : Bool) (words : List (List ℕ)) (old : Outside) (file : ℕ
 not-short takes words old file text d h t o = let s : length text ≤ file_max = (text-told old.files (name_at words file) text (λ x. IsAccepted takes x d) h o).short in omega arith
 
 pub long-from : (words : List (List ℕ)) (old new : Outside) (status : Status) → IsAnswer words old new status → RefusesLong words old new status
-long-from words old new status a = λ file text h t. of-file words file old new status (λ command. ((status ≡ Limit 0 6 file) × (new.source ≡ old.source) × (new.sink ≡ old.sink)) ⊎ GivesUp words file old new status) a h.of_command
-    (λ r. elim (long-refused (takes_compiled h.of_command.command) words old new status file text h.there t r.refusal) [
-      | inl e ↦ inl (e, r.source, r.sink)
-      | inr g ↦ inr g
-    ])
+long-from words old new status a = λ file text h t. of-file words file old new status (λ command. ((status ≡ Limit 0 6 file) ⊎ GivesUp words file old new status) × IsUntouched old new) a h.of_command
+    (λ r. (long-refused (takes_compiled h.of_command.command) words old new status file text h.there t r.refusal, refused-untouched (takes_compiled h.of_command.command) (name_at words file) file old new status r))
     (λ sensitive p. absurd (not-short true words old file text p.content h.there t p.opened))
     (λ p. absurd (not-short false words old file text (Entries p.dictionary) h.there t p.opened))
+    (λ way out p. absurd (not-short false words old file text (Entries p.dictionary) h.there t p.opened))

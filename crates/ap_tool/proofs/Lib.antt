@@ -7,3 +7,4 @@ pub mod Entries
 pub mod Endings
 pub mod Honesty
 pub mod Listings
+pub mod Compilings

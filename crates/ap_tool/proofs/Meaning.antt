@@ -1,12 +1,13 @@
 -- What was driven is what the meaning gives.
-use Rattle.std.proofs.Common.{◌≡◌, ◌≢◌, ℕ, zero, suc, pred, Bool, List, [], ◌∷◌, ◌++◌, ap, sym, ◌∙◌, subst, refl, inl, inr, Option, Some, None, Result, Ok, Err}
-use Rattle.ap_stream.specs.Told.{Told, Ending as TextEnding, Clean, Cut, ends_in, or_else, stop_at, cut_fault, cut_option, Begins}
+use Rattle.std.proofs.Common.{◌≡◌, ◌≢◌, ℕ, zero, suc, pred, Bool, List, [], ◌∷◌, ◌++◌, ap, sym, ◌∙◌, subst, refl, inl, inr, Option, Some, None, Result}
+use Rattle.ap_stream.specs.Told.{Told, Ending as TextEnding, Clean, Cut, ends_in, or_else, stop_at, cut_fault, cut_option}
 use Rattle.ap_stream.specs.Reading.{reads}
 use Rattle.ap_stream.specs.declared.dialect.Dialect.TheVariants.{Raw}
 use Rattle.ap_stream.specs.declared.fault.StreamFault.{StreamFault}
 use Rattle.ap_stream.specs.declared.fault.StreamFault.TheVariants.{Malformed, Limit, Memory}
 use Rattle.ap_stream.specs.declared.fault.MalformedKind.TheVariants.{NotUtf8, Stray, Unfinished, BadTag, EmptyWord}
 use Rattle.ap_stream.specs.declared.item.Read.{Read}
+use Rattle.ap_dix.specs.declared.dictionary.Direction.TheVariants.{Lr}
 use Rattle.ap_fst.specs.Sections.{Parts}
 use Rattle.ap_analysis.specs.Lexicon.{Lexicon, lexicon_of}
 use Rattle.ap_analysis.specs.Analysis.{Step, Gives, Stops, goes_on, first_step, steps, analysed}
@@ -14,12 +15,11 @@ use Rattle.ap_analysis.specs.Whole.{analysis}
 use Rattle.ap_tool.specs.declared.content.Content.{Content}
 use Rattle.ap_tool.specs.declared.intake.Ending.{Ending}
 use Rattle.ap_tool.specs.declared.driving.Stop.{Stop}
-use Rattle.ap_tool.specs.declared.driving.Stop.TheVariants.{Write, Fault}
-use Rattle.ap_tool.specs.Standing.{Standing, PutsAll, PutsSome}
+use Rattle.ap_tool.specs.Standing.{Standing, PutsSome}
 use Rattle.ap_tool.specs.Driving.{whole, heard, AllOf, Course, Onward, Ended, Completes, Halts, Fails, Drives, text_ending}
 use Rattle.ap_tool.specs.declared.status.Status.{Status}
 use Rattle.ap_tool.specs.Output.{IsLexicon, IsOutput}
-use Rattle.ap_tool.specs.Stream.{HasLeftSides, Runs, RunsOrStops, Streams, StreamsOrStops}
+use Rattle.ap_tool.specs.Stream.{HasInputSides, Runs, RunsOrStops, StreamsOrStops}
 use Rattle.ap_tool.specs.Clauses.{AreOutputs}
 
 -- analysis has no fault of its own but a limit
@@ -84,7 +84,7 @@ pub fails-rose : (meaning : List ℕ → TextEnding → Told) (s t k l : Standin
 fails-rose meaning s t k l f = rose-in meaning f.input f.course k l f.put
 
 -- a stream through analysis by the lexicon of what a file says
-pub streams-from : (d : Content) (file : ℕ) (sensitive : Bool) (p : Parts) (s t k l : Standing) (status : Status) → HasLeftSides d → IsLexicon d sensitive (lexicon_of p sensitive) → RunsOrStops (analysis (lexicon_of p sensitive) sensitive) s t k l status
+pub streams-from : (d : Content) (file : ℕ) (sensitive : Bool) (p : Parts) (s t k l : Standing) (status : Status) → HasInputSides Lr d → IsLexicon d sensitive (lexicon_of p sensitive) → RunsOrStops (analysis (lexicon_of p sensitive) sensitive) s t k l status
     → StreamsOrStops d file sensitive s t k l status
 streams-from d file sensitive p s t k l status sides i (inl r) = inl (record { sides = sides; lexicon = lexicon_of p sensitive; of_content = i; runs = r })
 streams-from d file sensitive p s t k l status sides i (inr i') = inr (inr i')

@@ -1,4 +1,4 @@
-use Rattle.std.proofs.Common.{◌≡◌, ℕ, ◌<◌, ◌≤◌, Bool, true, false, List, Result, Ok, Err, arith, subst, sym, ap, ◌∙◌, inl, inr, refl}
+use Rattle.std.proofs.Common.{◌≡◌, ℕ, ◌<◌, ◌≤◌, Bool, true, false, List, Result, Ok, Err, arith, subst, sym, inl, inr, refl}
 use Rattle.ap_dix.specs.declared.refusal.DixKind.{DixKind}
 use Rattle.ap_dix.specs.declared.refusal.DixKind.TheVariants.{NotUtf8, Syntax, UnknownElement, UnknownAttribute, MissingAttribute, Misplaced, DuplicateName, UndeclaredSymbol, UndefinedParadigm, BadRegex, Weighted, Unsupported}
 use Rattle.ap_dix.specs.Refusals.{kind_number}
@@ -20,7 +20,7 @@ use Rattle.ap_stream.specs.declared.fault.MalformedKind.TheVariants as stray
 use Rattle.ap_stream.specs.declared.fault.LimitKind.{LimitKind}
 use Rattle.ap_stream.specs.declared.fault.LimitKind.TheVariants.{ItemTooLong, SpanTooLong, UnitTooLong, ValueTooLong, OutputTooLong, FileTooLong, InputTooLong}
 use Rattle.ap_stream.specs.declared.fault.StreamFault.TheVariants as fault
-use Rattle.ap_tool.specs.Stream.{malformed_number, limit_number, status_of_driving, Runs, RunsOrStops}
+use Rattle.ap_tool.specs.Stream.{malformed_number, limit_number, status_of_driving, RunsOrStops}
 
 -- the number of a fault of a dictionary
 pub kind-bounds : (kind : DixKind) → (1 ≤ kind_number kind) × (kind_number kind ≤ 12)

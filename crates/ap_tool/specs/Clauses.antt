@@ -1,7 +1,10 @@
-use Rattle.std.specs.Prelude.{◌≡◌, ℕ, ◌+◌, ◌-◌, ◌^◌, ◌<◌, ◌≤◌, ◌⊎◌, nat_lt, Bool, true, false, List, ◌++◌, Option, Some, None, Result, Ok, length, take, if◌then◌else◌}
+use Rattle.std.specs.Prelude.{◌≡◌, ℕ, ◌-◌, ◌^◌, ◌<◌, ◌≤◌, ◌⊎◌, nat_lt, Bool, true, false, List, ◌++◌, Option, Some, None, Result, Ok, Err, length, take, if◌then◌else◌}
 use Rattle.ap_outside.specs.Causes.{Rose}
-use Rattle.ap_outside.specs.Told.{Takes, Puts}
+use Rattle.ap_outside.specs.Told.{Puts, StoresSome}
 use Rattle.ap_dix.specs.declared.dictionary.Dictionary.{Dictionary}
+use Rattle.ap_dix.specs.declared.dictionary.Direction.{Direction}
+use Rattle.ap_dix.specs.declared.dictionary.Direction.TheVariants.{Lr}
+use Rattle.ap_fst.specs.Sections.{Parts}
 use Rattle.ap_stream.specs.Told.{Told, Ending as TextEnding, Clean as Whole, Cut}
 use Rattle.ap_stream.specs.declared.fault.StreamFault.{StreamFault}
 use Rattle.ap_tool.specs.declared.content.Content.{Content}
@@ -9,19 +12,20 @@ use Rattle.ap_tool.specs.declared.content.Content.TheVariants.{Entries}
 use Rattle.ap_tool.specs.declared.status.Status.{Status}
 use Rattle.ap_tool.specs.declared.status.Status.TheVariants.{Done, FileFault, ReadFault, BadDictionary, BadCompiled, Malformed, Limit, Memory}
 use Rattle.ap_tool.specs.declared.words.Command.{Command}
-use Rattle.ap_tool.specs.declared.words.Command.TheVariants.{Proc, Expand}
+use Rattle.ap_tool.specs.declared.words.Command.TheVariants.{Proc, Expand, Comp}
 use Rattle.ap_tool.specs.declared.words.UsageFault.{UsageFault}
 use Rattle.ap_tool.specs.declared.intake.Ending.{Ending}
 use Rattle.ap_tool.specs.declared.intake.Ending.TheVariants.{Clean, Failed, TooLong}
-use Rattle.ap_tool.specs.Words.{command_of, file_of}
+use Rattle.ap_tool.specs.Words.{command_of, file_of, out_of, has_stream}
 use Rattle.ap_tool.specs.Listing.{listing}
+use Rattle.ap_tool.specs.Compiling.{summary, IsStored}
 use Rattle.ap_tool.specs.Messages.{name_at}
-use Rattle.ap_tool.specs.Standing.{Standing, PutsAll}
+use Rattle.ap_tool.specs.Standing.{PutsAll}
 use Rattle.ap_tool.specs.Opening.{FilesStanding, HasText, Opens, IsAccepted, Flaw, OfDictionary, OfCompiled, status_of_flaw, IsFaultOf, file_max}
 use Rattle.ap_tool.specs.Intake.{IsIntake, input_max}
 use Rattle.ap_tool.specs.Driving.{Course, Onward, Ended, IsTaken, text_ending}
 use Rattle.ap_tool.specs.Output.{IsOutput}
-use Rattle.ap_tool.specs.Stream.{stream_status, status_of_fault, HasLeftSides, IsFirstEmptyLeft}
+use Rattle.ap_tool.specs.Stream.{stream_status, status_of_fault, HasInputSides, IsFirstEmptyInput}
 use Rattle.ap_tool.specs.Answer.{Outside}
 
 -- no call failed: the count stands where it stood, below its end
@@ -46,7 +50,7 @@ pub record IsHonest (words : List (List ℕ)) (sensitive : Bool) (file : ℕ) (o
   pub text : List ℕ
   pub there : Holds old.files (name_at words file) text
   pub accepted : IsAccepted true text content
-  pub sides : HasLeftSides content
+  pub sides : HasInputSides Lr content
   pub input_told : old.source.bytes ≡ Some input
   pub loads : IsCalm (old.files.load_faults (name_at words file)) (new.files.load_faults (name_at words file))
   pub takes : IsCalm old.source.faults new.source.faults
@@ -84,9 +88,44 @@ abbrev pub IsListedExactly : List (List ℕ) → Outside → Outside → Status 
 IsListedExactly words old new status = (file : ℕ) (d : Dictionary) → IsHonestListing words file old new d
     → (status ≡ Memory) ⊎ ((status ≡ Done) × Puts old.sink.bytes new.sink.bytes (listing d))
 
+-- `lt-comp` of a dictionary that is told and accepted and has no empty input side in that direction, and no call on an
+-- object failed.
+pub record IsHonestCompiling (words : List (List ℕ)) (way : Direction) (dix out : ℕ) (old new : Outside) (d : Dictionary) : Type 0 where
+  pub command : command_of words ≡ Ok (Comp way dix out)
+  pub text : List ℕ
+  pub there : Holds old.files (name_at words dix) text
+  pub accepted : IsAccepted false text (Entries d)
+  pub sides : HasInputSides way (Entries d)
+  pub loads : IsCalm (old.files.load_faults (name_at words dix)) (new.files.load_faults (name_at words dix))
+  pub stores : IsCalm old.files.store_faults new.files.store_faults
+  pub puts : IsCalm old.sink.faults new.sink.faults
+
+-- Then the dictionary is stored, compiled in that direction, as a text that is read again as the same value, its summary
+-- is written, and all is done; unless memory ran out, and then nothing is stored or written.
+abbrev pub IsCompiledExactly : List (List ℕ) → Outside → Outside → Status → Type 0
+IsCompiledExactly words old new status = (way : Direction) (dix out : ℕ) (d : Dictionary) → IsHonestCompiling words way dix out old new d
+    → ((status ≡ Memory) × (new.files.contents ≡ old.files.contents) × (new.sink ≡ old.sink))
+    ⊎ ((compiled : Parts) × IsStored d way (name_at words out) old.files new.files compiled × (status ≡ Done) × Puts old.sink.bytes new.sink.bytes (summary compiled))
+
 -- A command without a stream takes nothing from the source.
 abbrev pub TakesNothing : List (List ℕ) → Outside → Outside → Type 0
-TakesNothing words old new = (file : ℕ) → command_of words ≡ Ok (Expand file) → new.source ≡ old.source
+TakesNothing words old new = (command : Command) → command_of words ≡ Ok command → has_stream command ≡ false → new.source ≡ old.source
+
+-- The contents of files stay as they were, but for the file that `lt-comp` stores, which may hold anything.
+abbrev pub AreKept : List (List ℕ) → Outside → Outside → Result Command UsageFault → Type 0
+AreKept words old new (Err fault) = new.files.contents ≡ old.files.contents
+AreKept words old new (Ok (Proc sensitive file)) = new.files.contents ≡ old.files.contents
+AreKept words old new (Ok (Expand file)) = new.files.contents ≡ old.files.contents
+AreKept words old new (Ok (Comp way dix out)) = (new.files.contents ≡ old.files.contents) ⊎ StoresSome old.files.contents new.files.contents (name_at words out)
+
+abbrev pub IsKept : List (List ℕ) → Outside → Outside → Type 0
+IsKept words old new = AreKept words old new (command_of words)
+
+-- nothing was taken, written or stored
+pub record IsUntouched (old new : Outside) : Type 0 where
+  pub source : new.source ≡ old.source
+  pub sink : new.sink ≡ old.sink
+  pub contents : new.files.contents ≡ old.files.contents
 
 -- the file could not be loaded, or memory ran out
 abbrev pub GivesUp : List (List ℕ) → ℕ → Outside → Outside → Status → Type 0
@@ -97,29 +136,31 @@ pub record Reads (words : List (List ℕ)) (file : ℕ) (old : Outside) (text : 
   pub of_command : IsFileOf words file
   pub there : Holds old.files (name_at words file) text
 
--- The text spells a dictionary, and a kept entry of a section has an empty left side: fault 13, on the line of the first.
-pub record IsEmptySideOf (text : List ℕ) (flaw : Flaw) : Type 0 where
+-- The text spells a dictionary, and a kept entry of a section has an empty input side in that direction: fault 13, on the
+-- line of the first. Where compiled files are taken (`takes`), a text that is one has no such entry.
+pub record IsEmptySideOf (takes : Bool) (way : Direction) (text : List ℕ) (flaw : Flaw) : Type 0 where
   pub content : Content
-  pub accepted : IsAccepted true text content
+  pub accepted : IsAccepted takes text content
   pub line : ℕ
-  pub empty : IsFirstEmptyLeft content line
+  pub empty : IsFirstEmptyInput way content line
   pub flaw_is : flaw ≡ OfDictionary 13 line
 
 -- This is the first fault of the command's file. `lt-proc` takes compiled files too; empty sides are faults, after all
 -- others, where a dictionary is compiled.
 abbrev pub IsFaultFor : Command → List ℕ → Flaw → Type 0
-IsFaultFor (Proc sensitive file) text flaw = IsFaultOf true text flaw ⊎ IsEmptySideOf text flaw
+IsFaultFor (Proc sensitive file) text flaw = IsFaultOf true text flaw ⊎ IsEmptySideOf true Lr text flaw
 IsFaultFor (Expand file) text flaw = IsFaultOf false text flaw
+IsFaultFor (Comp way dix out) text flaw = IsFaultOf false text flaw ⊎ IsEmptySideOf false way text flaw
 
--- A file within the limit is answered by its first fault, and nothing is taken or written.
+-- A file within the limit is answered by its first fault, and nothing is taken, written or stored.
 abbrev pub RefusesFaulty : List (List ℕ) → Outside → Outside → Status → Type 0
 RefusesFaulty words old new status = (file : ℕ) (flaw : Flaw) (text : List ℕ) → (reads : Reads words file old text) → IsFaultFor reads.of_command.command text flaw
-    → ((status ≡ status_of_flaw file flaw) × (new.source ≡ old.source) × (new.sink ≡ old.sink)) ⊎ GivesUp words file old new status
+    → ((status ≡ status_of_flaw file flaw) ⊎ GivesUp words file old new status) × IsUntouched old new
 
--- A file over the limit is answered so, and nothing is taken or written.
+-- A file over the limit is answered so, and nothing is taken, written or stored.
 abbrev pub RefusesLong : List (List ℕ) → Outside → Outside → Status → Type 0
 RefusesLong words old new status = (file : ℕ) (text : List ℕ) → Reads words file old text → file_max < length text
-    → ((status ≡ Limit 0 6 file) × (new.source ≡ old.source) × (new.sink ≡ old.sink)) ⊎ GivesUp words file old new status
+    → ((status ≡ Limit 0 6 file) ⊎ GivesUp words file old new status) × IsUntouched old new
 
 -- A fault of a file is the first of the command's own file, which is within the limit, where its text is told.
 pub record HasFaultOf (words : List (List ℕ)) (old : Outside) (file : ℕ) (flaw : Flaw) : Type 0 where
@@ -136,18 +177,32 @@ IsBadCompiled words old status = (file number line : ℕ) → status ≡ BadComp
 abbrev pub IsFileTooLong : List (List ℕ) → Outside → Status → Type 0
 IsFileTooLong words old status = (file : ℕ) → status ≡ Limit 0 6 file → IsFileOf words file × HasText old.files (name_at words file) (λ text. file_max < length text)
 
--- Only a command's own file is answered as a fault of files, and only where a load of that very name failed; nothing is
--- taken or written then.
+-- The command reads this file, a load of that very name failed, and nothing was stored.
+pub record FailsToLoad (words : List (List ℕ)) (file : ℕ) (old new : Outside) : Type 0 where
+  pub of_command : IsFileOf words file
+  pub rose : Rose (old.files.load_faults (name_at words file)) (new.files.load_faults (name_at words file))
+  pub contents : new.files.contents ≡ old.files.contents
+
+-- The command stores this file, and a store failed: the file may hold anything, and every other holds what it held.
+pub record FailsToStore (words : List (List ℕ)) (file : ℕ) (old new : Outside) : Type 0 where
+  pub command : Command
+  pub by_words : command_of words ≡ Ok command
+  pub file_is : out_of command ≡ Some file
+  pub rose : Rose old.files.store_faults new.files.store_faults
+  pub held : StoresSome old.files.contents new.files.contents (name_at words file)
+
+-- Only a command's own file is answered as a fault of files, and only where a load of that very name failed, or a store of
+-- what `lt-comp` stores; nothing is taken or written then.
 abbrev pub IsFileFault : List (List ℕ) → Outside → Outside → Status → Type 0
 IsFileFault words old new status = (file : ℕ) → status ≡ FileFault file
-    → IsFileOf words file × Rose (old.files.load_faults (name_at words file)) (new.files.load_faults (name_at words file)) × (new.source ≡ old.source) × (new.sink ≡ old.sink)
+    → (FailsToLoad words file old new ⊎ FailsToStore words file old new) × (new.source ≡ old.source) × (new.sink ≡ old.sink)
 
 -- The command is `lt-proc`, and its file is accepted, where it is told.
 pub record IsProc (words : List (List ℕ)) (old : Outside) (sensitive : Bool) (content : Content) : Type 0 where
   pub file : ℕ
   pub command : command_of words ≡ Ok (Proc sensitive file)
   pub opened : Opens true old.files (name_at words file) content
-  pub sides : HasLeftSides content
+  pub sides : HasInputSides Lr content
 
 -- What was taken gives no fault, its text was put, and no put failed.
 pub record GivesAll (words : List (List ℕ)) (old new : Outside) (input : List ℕ) (ending : TextEnding) : Type 0 where
@@ -195,7 +250,18 @@ IsLimit words old new status = (stage kind place : ℕ) → 0 < stage → status
 abbrev pub IsInputTooLong : List (List ℕ) → Outside → Outside → Status → Type 0
 IsInputTooLong words old new status = status ≡ Limit 0 7 input_max → (input : List ℕ) × IsIntake old.source new.source input TooLong × GivesAll words old new input Cut
 
--- With Done no put failed; and of a command with a stream the source was read to its end, and no take failed.
+-- The dictionary of this name, compiled in that direction, was stored, and its summary put.
+pub record GivesCompiled (name out_name : List ℕ) (way : Direction) (old new : Outside) : Type 0 where
+  pub dictionary : Dictionary
+  pub opened : Opens false old.files name (Entries dictionary)
+  pub sides : HasInputSides way (Entries dictionary)
+  pub compiled : Parts
+  pub stored : IsStored dictionary way out_name old.files new.files compiled
+  pub put : PutsAll old.sink new.sink (summary compiled)
+
+-- With Done no put failed; of a command with a stream the source was read to its end, and no take failed; and of `lt-comp`
+-- the compiled dictionary was stored.
 abbrev pub IsDone : List (List ℕ) → Outside → Outside → Status → Type 0
 IsDone words old new status = status ≡ Done
     → (new.sink.faults ≡ old.sink.faults) × ((sensitive : Bool) (file : ℕ) → command_of words ≡ Ok (Proc sensitive file) → (input : List ℕ) × IsIntake old.source new.source input Clean × GivesAll words old new input Whole)
+    × ((way : Direction) (dix out : ℕ) → command_of words ≡ Ok (Comp way dix out) → GivesCompiled (name_at words dix) (name_at words out) way old new)

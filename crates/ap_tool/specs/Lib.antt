@@ -8,5 +8,6 @@ pub mod Output
 pub mod Stream
 pub mod Listing
 pub mod Opening
+pub mod Compiling
 pub mod Answer
 pub mod Clauses

@@ -2,7 +2,6 @@ use Rattle.std.specs.Prelude.{◌≡◌, ℕ, ◌<◌, ◌≤◌, ◌&&◌, ◌=
 use Rattle.std.specs.List.{starts_with}
 use Rattle.std.specs.Option.{IfSome}
 use Rattle.ap_outside.specs.Causes.{Rose}
-use Rattle.ap_dix.specs.declared.dictionary.Dictionary.{Dictionary}
 use Rattle.ap_dix.specs.declared.refusal.DixFault.{DixFault}
 use Rattle.ap_dix.specs.Spelling.{Spells, IsFirstFault}
 use Rattle.ap_dix.specs.Refusals.{kind_number}

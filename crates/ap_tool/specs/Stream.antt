@@ -1,4 +1,5 @@
 use Rattle.std.specs.Prelude.{◌≡◌, ℕ, ◌⊎◌, Bool, List, Option, Some, None, Result, Ok, Err}
+use Rattle.ap_dix.specs.declared.dictionary.Direction.{Direction}
 use Rattle.ap_dix.specs.declared.dictionary.Direction.TheVariants.{Lr}
 use Rattle.ap_compile.specs.Empties.{HasEmptyEntry, IsFirstEmpty, section_entries}
 use Rattle.ap_stream.specs.Told.{Told, Ending as TextEnding}
@@ -83,31 +84,31 @@ pub record IsIdle (source_old source_new sink_old sink_new : Standing) (status :
 abbrev pub RunsOrStops : (List ℕ → TextEnding → Told) → Standing → Standing → Standing → Standing → Status → Type 0
 RunsOrStops meaning source_old source_new sink_old sink_new status = Runs meaning source_old source_new sink_old sink_new status ⊎ IsIdle source_old source_new sink_old sink_new status
 
--- A kept entry of a section of a dictionary has an empty left side. A compiled file has none.
-abbrev pub HasEmptyLeft : Content → Type 0
-HasEmptyLeft (Entries d) = HasEmptyEntry d Lr (section_entries d.sections)
-HasEmptyLeft (Sections p) = ⊥
+-- A kept entry of a section of a dictionary has an empty input side, in that direction. A compiled file has none.
+abbrev pub HasEmptyInput : Direction → Content → Type 0
+HasEmptyInput way (Entries d) = HasEmptyEntry d way (section_entries d.sections)
+HasEmptyInput way (Sections p) = ⊥
 
 -- and the first such begins on this line
-abbrev pub IsFirstEmptyLeft : Content → ℕ → Type 0
-IsFirstEmptyLeft (Entries d) line = IsFirstEmpty d Lr (section_entries d.sections) line
-IsFirstEmptyLeft (Sections p) line = ⊥
+abbrev pub IsFirstEmptyInput : Direction → Content → ℕ → Type 0
+IsFirstEmptyInput way (Entries d) line = IsFirstEmpty d way (section_entries d.sections) line
+IsFirstEmptyInput way (Sections p) line = ⊥
+
+-- no kept entry of a section has an empty input side
+abbrev pub HasInputSides : Direction → Content → Type 0
+HasInputSides way content = HasEmptyInput way content → ⊥
 
 -- The first empty left side is answered, and nothing is taken or written.
 pub record IsEmptySide (content : Content) (file : ℕ) (source_old source_new sink_old sink_new : Standing) (status : Status) : Type 0 where
   pub line : ℕ
-  pub empty : IsFirstEmptyLeft content line
+  pub empty : IsFirstEmptyInput Lr content line
   pub status_is : status ≡ BadDictionary file 13 line
   pub untaken : source_new ≡ source_old
   pub unwritten : sink_new ≡ sink_old
 
--- no kept entry of a section has an empty left side
-abbrev pub HasLeftSides : Content → Type 0
-HasLeftSides content = HasEmptyLeft content → ⊥
-
 -- The stream went through analysis by the lexicon of the file.
 pub record Streams (content : Content) (sensitive : Bool) (source_old source_new sink_old sink_new : Standing) (status : Status) : Type 0 where
-  pub sides : HasLeftSides content
+  pub sides : HasInputSides Lr content
   pub lexicon : Lexicon
   pub of_content : IsLexicon content sensitive lexicon
   pub runs : Runs (analysis lexicon sensitive) source_old source_new sink_old sink_new status

@@ -1,6 +1,7 @@
 //! The commands: their words, files and messages, and the one public call that runs them.
 #![tactic(auto)]
 
+mod compiling;
 mod content;
 mod driving;
 mod intake;

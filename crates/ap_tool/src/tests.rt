@@ -25,6 +25,10 @@ const Q: &str =
 const E: &str =
     "<dictionary>\n<section id=\"m\" type=\"standard\">\n<e><i>a</i></e>\n<e><p><l></l><r>x</r></p></e>\n</section>\n</dictionary>\n";
 
+/// Two words with other words, one of them empty.
+const G: &str =
+    "<dictionary>\n<section id=\"m\" type=\"standard\">\n<e><p><l>ab</l><r>c</r></p></e>\n<e><p><l>x</l><r></r></p></e>\n</section>\n</dictionary>\n";
+
 /// Sections of type postblank and preblank.
 const N: &str =
     "<dictionary>\n<alphabet>abcdefghijklmnopqrstuvwxyz</alphabet>\n<sdefs><sdef n=\"det\"/></sdefs>\n<section id=\"main\" type=\"postblank\"><e><p><l>l'</l><r>el<s n=\"det\"/></r></p></e></section>\n<section id=\"other\" type=\"preblank\"><e><p><l>'s</l><r>'s<s n=\"det\"/></r></p></e></section>\n</dictionary>\n";
@@ -58,7 +62,7 @@ const C2: &str =
 
 const C3: &str = "LTC9\n";
 
-/// A row: the words with a space between, the input, which load, which take and which put fails
+/// A row: the words with a space between, the input, which load or store, which take and which put fails
 /// (numbered from 1, 0 for none), and the status, the output and the message that it must give.
 #[derive(Clone, Copy)]
 struct Row<'a> {
@@ -90,26 +94,42 @@ fn call_of(alloc: Global, number: u64) -> Result<Vec<u64>, Fail> {
     Ok(calls)
 }
 
+/// The files; the load or store of this number fails.
+fn files_of(alloc: Global, number: u64) -> Result<MemFiles, Fail> {
+    let mut files = MemFiles::new(alloc, call_of(alloc, number)?);
+    for (name, text) in [
+        ("P", P),
+        ("M", M),
+        ("X", X),
+        ("Q", Q),
+        ("E", E),
+        ("G", G),
+        ("F1", F1),
+        ("F2", F2),
+        ("F3", F3),
+        ("N", N),
+        ("R", R),
+        ("B", B),
+        ("C", C),
+        ("C1", C1),
+        ("C2", C2),
+        ("C3", C3),
+    ] {
+        files.add(name, text.as_bytes())?;
+    }
+    Ok(files)
+}
+
 /// The input comes in pieces of so many bytes; a put that fails keeps nothing.
-fn check(rt: &impl Abort, alloc: Global, row: &Row, cut: usize) -> Result<(), Fail> {
+fn check_over(
+    rt: &impl Abort,
+    alloc: Global,
+    files: &mut MemFiles,
+    row: &Row,
+    cut: usize,
+) -> Result<(), Fail> {
     let words = words_of(alloc, row.words)?;
-    let [load, take, put] = row.failing;
-    let mut files = MemFiles::new(alloc, call_of(alloc, load)?);
-    files.add("P", P.as_bytes())?;
-    files.add("M", M.as_bytes())?;
-    files.add("X", X.as_bytes())?;
-    files.add("Q", Q.as_bytes())?;
-    files.add("E", E.as_bytes())?;
-    files.add("F1", F1.as_bytes())?;
-    files.add("F2", F2.as_bytes())?;
-    files.add("F3", F3.as_bytes())?;
-    files.add("N", N.as_bytes())?;
-    files.add("R", R.as_bytes())?;
-    files.add("B", B.as_bytes())?;
-    files.add("C", C.as_bytes())?;
-    files.add("C1", C1.as_bytes())?;
-    files.add("C2", C2.as_bytes())?;
-    files.add("C3", C3.as_bytes())?;
+    let [_, take, put] = row.failing;
     let input = Vec::from_slice(alloc, row.input.as_bytes())?;
     let mut source = MemSource::new(input, cut.max(1), call_of(alloc, take)?);
     let mut sink = MemSink::new(alloc, 1000, call_of(alloc, put)?, 0)?;
@@ -117,7 +137,7 @@ fn check(rt: &impl Abort, alloc: Global, row: &Row, cut: usize) -> Result<(), Fa
     let status = apertium(
         alloc,
         words.as_slice(),
-        &mut files,
+        files,
         &mut source,
         &mut sink,
         &mut err,
@@ -126,6 +146,12 @@ fn check(rt: &impl Abort, alloc: Global, row: &Row, cut: usize) -> Result<(), Fa
     assert_eq!(rt; sink.written(), row.out.as_bytes());
     assert_eq!(rt; err.written(), row.message.as_bytes());
     Ok(())
+}
+
+fn check(rt: &impl Abort, alloc: Global, row: &Row, cut: usize) -> Result<(), Fail> {
+    let [number, _, _] = row.failing;
+    let mut files = files_of(alloc, number)?;
+    check_over(rt, alloc, &mut files, row, cut)
 }
 
 fn case<'a>(
@@ -660,6 +686,186 @@ fn expansion_gives_its_rows(rt: HostRuntime) -> Result<(), Fail> {
         ),
     ] {
         check(&rt, rt.alloc(), &row, 4)?;
+    }
+    Ok(())
+}
+
+/// What `lt-comp lr` writes of M.
+const M_LINES: &str = "standard 25 28\ninconditional 3 2\npostblank 1 0\npreblank 1 0\n";
+
+/// A row in which nothing fails and all is done.
+fn done<'a>(words: &'a str, input: &'a str, out: &'a str) -> Row<'a> {
+    case(words, input, NONE, Status::Done, out, "")
+}
+
+/// A row of a faulty dictionary.
+fn faulty<'a>(words: &'a str, fault: u8, line: u64, message: &'a str) -> Row<'a> {
+    let status = Status::BadDictionary {
+        file: 2,
+        fault,
+        line,
+    };
+    case(words, "", NONE, status, "", message)
+}
+
+#[test]
+fn what_is_compiled_gives_the_rows_of_its_dictionary(rt: HostRuntime) -> Result<(), Fail> {
+    let alloc = rt.alloc();
+    let mut files = files_of(alloc, 0)?;
+    for row in [
+        done("lt-comp lr M OUT", "not taken", M_LINES),
+        done("lt-proc OUT", "houses", "^houses/house<n><pl>$"),
+        done(
+            "lt-proc -a OUT",
+            "Houses HOUSES",
+            "^Houses/House<n><pl>$ ^HOUSES/HOUSE<n><pl>$",
+        ),
+        done("lt-proc -a OUT", "housex", "^housex/*housex$"),
+        done(
+            "lt-proc -a OUT",
+            "saw.",
+            "^saw/saw<n><sg>/see<vblex><past>$^./.<sent>$",
+        ),
+        done(
+            "lt-proc -a OUT",
+            "in [<i>]front",
+            "^in front/in front<adv>$[<i>]",
+        ),
+        done(
+            "lt-proc -a OUT",
+            "house[<b>]s",
+            "^house/house<n><sg>$[<b>]^s/*s$",
+        ),
+        done(
+            "lt-proc -c OUT",
+            "Houses houses",
+            "^Houses/*Houses$ ^houses/house<n><pl>$",
+        ),
+        done("lt-proc -a OUT", "a\\*b", "^a/*a$\\*^b/*b$"),
+    ] {
+        check_over(&rt, alloc, &mut files, &row, 7)?;
+    }
+    Ok(())
+}
+
+#[test]
+fn the_direction_says_which_side_is_read(rt: HostRuntime) -> Result<(), Fail> {
+    let alloc = rt.alloc();
+    let mut files = files_of(alloc, 0)?;
+    for row in [
+        done(
+            "lt-comp lr X OUT",
+            "",
+            "standard 2 1\ninconditional 1 0\npostblank 1 0\npreblank 1 0\n",
+        ),
+        done("lt-proc OUT", "a bd", "^a/a$ bd"),
+        done(
+            "lt-comp rl X OUT",
+            "",
+            "standard 3 2\ninconditional 1 0\npostblank 1 0\npreblank 1 0\n",
+        ),
+        done("lt-proc OUT", "a bd", "a ^bd/bd$"),
+        done(
+            "lt-comp lr G OUT",
+            "",
+            "standard 3 3\ninconditional 1 0\npostblank 1 0\npreblank 1 0\n",
+        ),
+        done("lt-proc OUT", "ab c", "^ab/c$ c"),
+        done(
+            "lt-comp rl E OUT",
+            "",
+            "standard 2 2\ninconditional 1 0\npostblank 1 0\npreblank 1 0\n",
+        ),
+        done("lt-proc OUT", "a b", "^a/a$ b"),
+        done("lt-expand X", "", "a:>:a\nbd:<:bd\n"),
+    ] {
+        check_over(&rt, alloc, &mut files, &row, 7)?;
+    }
+    Ok(())
+}
+
+/// The row leaves no file OUT.
+fn check_nothing_stored(rt: &impl Abort, alloc: Global, row: &Row) -> Result<(), Fail> {
+    let [number, _, _] = row.failing;
+    let mut files = files_of(alloc, number)?;
+    check_over(rt, alloc, &mut files, row, 4)?;
+    assert!(rt; files.get("OUT").is_none(), "of {}", row.words);
+    Ok(())
+}
+
+#[test]
+fn nothing_is_stored_after_a_refusal(rt: HostRuntime) -> Result<(), Fail> {
+    let usage = "apertium: usage\n";
+    for row in [
+        case("lt-comp", "", NONE, Status::Usage, "", usage),
+        case("lt-comp xx M OUT", "", NONE, Status::Usage, "", usage),
+        case("lt-comp lr M", "", NONE, Status::Usage, "", usage),
+        case("lt-comp lr -M OUT", "", NONE, Status::Usage, "", usage),
+        case("lt-comp lr M -OUT", "", NONE, Status::Usage, "", usage),
+        case("lt-comp lr M OUT OUT", "", NONE, Status::Usage, "", usage),
+        case(
+            "lt-comp lr NOPE OUT",
+            "",
+            NONE,
+            Status::FileFault { file: 2 },
+            "",
+            "apertium: NOPE: file fault\n",
+        ),
+        case(
+            "lt-comp lr M OUT",
+            "",
+            [2, 0, 0],
+            Status::FileFault { file: 3 },
+            "",
+            "apertium: OUT: file fault\n",
+        ),
+        faulty(
+            "lt-comp lr F1 OUT",
+            8,
+            4,
+            "apertium: F1: line 4: dictionary fault 8 UndeclaredSymbol\n",
+        ),
+        faulty(
+            "lt-comp lr E OUT",
+            13,
+            4,
+            "apertium: E: line 4: dictionary fault 13 EmptySide\n",
+        ),
+        faulty(
+            "lt-comp rl G OUT",
+            13,
+            4,
+            "apertium: G: line 4: dictionary fault 13 EmptySide\n",
+        ),
+        faulty(
+            "lt-comp lr C OUT",
+            2,
+            1,
+            "apertium: C: line 1: dictionary fault 2 Syntax\n",
+        ),
+    ] {
+        check_nothing_stored(&rt, rt.alloc(), &row)?;
+    }
+    Ok(())
+}
+
+#[test]
+fn a_failed_put_comes_after_the_store(rt: HostRuntime) -> Result<(), Fail> {
+    let alloc = rt.alloc();
+    let mut files = files_of(alloc, 0)?;
+    let write = "apertium: write fault\n";
+    for row in [
+        case(
+            "lt-comp lr M OUT",
+            "",
+            [0, 0, 1],
+            Status::WriteFault,
+            "",
+            write,
+        ),
+        done("lt-proc OUT", "houses", "^houses/house<n><pl>$"),
+    ] {
+        check_over(&rt, alloc, &mut files, &row, 7)?;
     }
     Ok(())
 }

@@ -5,8 +5,9 @@ ghost use Rattle.ap_tool.specs.Words.{texts, command_of, usage};
 ghost use Rattle.ap_tool.specs.Standing.{standing};
 ghost use Rattle.ap_tool.specs.Opening.{files_standing};
 ghost use Rattle.ap_tool.specs.Answer.{IsAnswer, outside, Tells};
-ghost use Rattle.ap_tool.specs.Clauses.{IsExact, IsComplete, RefusesFaulty, RefusesLong, IsFileFault, IsReadFault, IsMalformed, IsLimit, IsInputTooLong, IsDone, IsListedExactly, TakesNothing, IsBadDictionary, IsBadCompiled, IsFileTooLong};
+ghost use Rattle.ap_tool.specs.Clauses.{IsExact, IsComplete, RefusesFaulty, RefusesLong, IsFileFault, IsReadFault, IsMalformed, IsLimit, IsInputTooLong, IsDone, IsListedExactly, IsCompiledExactly, TakesNothing, IsKept, IsBadDictionary, IsBadCompiled, IsFileTooLong};
 
+use crate::compiling::compile_file;
 use crate::laws::one_output;
 use crate::listing::put_lines;
 use crate::messages::{message, name};
@@ -27,7 +28,6 @@ fn run<F: Files, S: Source, K: Sink>(
     sink: &mut K,
 ) -> Status
     ensures told { IsTold result (length words.now) }
-    ensures kept { F.contents files.new ≡ F.contents files.old }
     ensures answer { IsAnswer (texts words.now)
         (outside (files_standing (F.contents files.old) (F.load_faults files.old) (F.store_faults files.old)) (standing (S.left source.old) (S.faults source.old)) (standing (K.written sink.old) (K.faults sink.old)))
         (outside (files_standing (F.contents files.new) (F.load_faults files.new) (F.store_faults files.new)) (standing (S.left source.new) (S.faults source.new)) (standing (K.written sink.new) (K.faults sink.new)))
@@ -45,19 +45,24 @@ fn run<F: Files, S: Source, K: Sink>(
             Err(status) => status,
             Ok(dictionary) => put_lines(alloc, &dictionary, sink),
         },
+        Ok(Command::Comp { way, dix, out }) => {
+            compile_file(alloc, words, way, dix, out, files, sink)
+        }
     }
 }
 
 /// Runs the command that the words are (the program's own name left out) on the files, the source
 /// and the sink that it is handed, writes the message of its status to `err`, and answers the
 /// status. The commands so far are `lt-proc`, with `-a` and `-c`, over dictionaries in the element
-/// notation and over compiled files, which begin with `LTC`, and `lt-expand`, over dictionaries.
+/// notation and over compiled files, which begin with `LTC`; `lt-expand`, over dictionaries; and
+/// `lt-comp`, which compiles a dictionary in a direction and stores what it is compiled to.
 ///
 /// The clauses, in the order in which they stand: what a run may answer and how it leaves what it
 /// was handed; the exact bytes and status where nothing failed; Done or Memory where moreover the
-/// stream gives no fault; the first fault of a file, and a file over the limit, where
-/// nothing is taken or written; when each other answer comes; that files stay; the message.
-/// Memory may come at any growth.
+/// stream gives no fault; what is listed, and what is compiled and stored; the first fault of a
+/// file, and a file over the limit, where nothing is taken, written or stored; when each other
+/// answer comes; that files stay, but for the one that `lt-comp` stores; the message. Memory may
+/// come at any growth, but not once a file was stored.
 pub fn apertium<F: Files, S: Source, K: Sink, E: Sink>(
     alloc: Global,
     words: &[String],
@@ -79,6 +84,10 @@ pub fn apertium<F: Files, S: Source, K: Sink, E: Sink>(
         (outside (files_standing (F.contents files.new) (F.load_faults files.new) (F.store_faults files.new)) (standing (S.left source.new) (S.faults source.new)) (standing (K.written sink.new) (K.faults sink.new)))
         result }
     ensures listed { IsListedExactly (texts words.now)
+        (outside (files_standing (F.contents files.old) (F.load_faults files.old) (F.store_faults files.old)) (standing (S.left source.old) (S.faults source.old)) (standing (K.written sink.old) (K.faults sink.old)))
+        (outside (files_standing (F.contents files.new) (F.load_faults files.new) (F.store_faults files.new)) (standing (S.left source.new) (S.faults source.new)) (standing (K.written sink.new) (K.faults sink.new)))
+        result }
+    ensures compiled { IsCompiledExactly (texts words.now)
         (outside (files_standing (F.contents files.old) (F.load_faults files.old) (F.store_faults files.old)) (standing (S.left source.old) (S.faults source.old)) (standing (K.written sink.old) (K.faults sink.old)))
         (outside (files_standing (F.contents files.new) (F.load_faults files.new) (F.store_faults files.new)) (standing (S.left source.new) (S.faults source.new)) (standing (K.written sink.new) (K.faults sink.new)))
         result }
@@ -129,7 +138,9 @@ pub fn apertium<F: Files, S: Source, K: Sink, E: Sink>(
         result }
     ensures write_fault { result ≡ Status.WriteFault → Rose (K.faults sink.old) (K.faults sink.new) }
     ensures no_write_fault { (result ≡ Status.WriteFault → ⊥) → K.faults sink.new ≡ K.faults sink.old }
-    ensures kept { F.contents files.new ≡ F.contents files.old }
+    ensures kept { IsKept (texts words.now)
+        (outside (files_standing (F.contents files.old) (F.load_faults files.old) (F.store_faults files.old)) (standing (S.left source.old) (S.faults source.old)) (standing (K.written sink.old) (K.faults sink.old)))
+        (outside (files_standing (F.contents files.new) (F.load_faults files.new) (F.store_faults files.new)) (standing (S.left source.new) (S.faults source.new)) (standing (K.written sink.new) (K.faults sink.new))) }
     ensures message { Tells (standing (E.written err.old) (E.faults err.old)) (standing (E.written err.new) (E.faults err.new)) (message_of result (texts words.now)) }
 {
     spells_one();

@@ -1,5 +1,6 @@
 use Rattle.ap_tool.proofs.Honesty.{laws-of, exact-from, complete-from, listed-from, faulty-from, long-from}
-use Rattle.ap_tool.proofs.Endings.{usage-from, file-fault-from, read-fault-from, write-fault-from, no-write-fault-from, malformed-from, limit-from, input-too-long-from, done-from, nothing-from, bad-dictionary-from, bad-compiled-from, file-too-long-from}
+use Rattle.ap_tool.proofs.Endings.{usage-from, file-fault-from, read-fault-from, write-fault-from, no-write-fault-from, malformed-from, limit-from, input-too-long-from, done-from, nothing-from, kept-from, bad-dictionary-from, bad-compiled-from, file-too-long-from}
+use Rattle.ap_tool.proofs.Compilings.{compiled-from}
 use Rattle.ap_tool.proofs.top.apertium.Goals as goal
 
 pub returns-clause-exact : goal.returns-clause-exact
@@ -59,3 +60,10 @@ returns-clause-file_too_long g c = file-too-long-from _ _ _ _ c.run-status.ensur
 
 pub returns-clause-bad_compiled : goal.returns-clause-bad_compiled
 returns-clause-bad_compiled g c = bad-compiled-from _ _ _ _ c.run-status.ensures.answer
+
+pub returns-clause-compiled : goal.returns-clause-compiled
+returns-clause-compiled g c =
+    compiled-from (laws-of c.spells_one.ensures c.has_one_fault.ensures c.spells_without_fault.ensures c.one_output.ensures) _ _ _ _ c.run-status.ensures.answer
+
+pub returns-clause-kept : goal.returns-clause-kept
+returns-clause-kept g c = kept-from _ _ _ _ c.run-status.ensures.answer
