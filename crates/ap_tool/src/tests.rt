@@ -708,13 +708,24 @@ fn faulty<'a>(words: &'a str, fault: u8, line: u64, message: &'a str) -> Row<'a>
     case(words, "", NONE, status, "", message)
 }
 
+/// A row over OUT of a text that is malformed at that byte.
+fn malformed<'a>(input: &'a str, kind: u8, place: u64, out: &'a str, message: &'a str) -> Row<'a> {
+    let status = Status::Malformed {
+        stage: 1,
+        kind,
+        place,
+    };
+    case("lt-proc -a OUT", input, NONE, status, out, message)
+}
+
 #[test]
 fn what_is_compiled_gives_the_rows_of_its_dictionary(rt: HostRuntime) -> Result<(), Fail> {
     let alloc = rt.alloc();
     let mut files = files_of(alloc, 0)?;
     for row in [
         done("lt-comp lr M OUT", "not taken", M_LINES),
-        done("lt-proc OUT", "houses", "^houses/house<n><pl>$"),
+        done("lt-proc -a OUT", "houses", "^houses/house<n><pl>$"),
+        done("lt-proc OUT", "", ""),
         done(
             "lt-proc -a OUT",
             "Houses HOUSES",
@@ -735,6 +746,20 @@ fn what_is_compiled_gives_the_rows_of_its_dictionary(rt: HostRuntime) -> Result<
             "lt-proc -a OUT",
             "house[<b>]s",
             "^house/house<n><sg>$[<b>]^s/*s$",
+        ),
+        malformed(
+            "house ^x",
+            2,
+            6,
+            "^house/house<n><sg>$ ",
+            "apertium: stage 1: byte 6: malformed 2 Stray\n",
+        ),
+        malformed(
+            "house [<b",
+            3,
+            5,
+            "^house/house<n><sg>$",
+            "apertium: stage 1: byte 5: malformed 3 Unfinished\n",
         ),
         done(
             "lt-proc -c OUT",
