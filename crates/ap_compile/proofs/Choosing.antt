@@ -1,5 +1,5 @@
-use Rattle.std.proofs.Common.{◌≡◌, ◌⊎◌, inl, inr, ℕ, ◌+◌, ◌<◌, ◌≤◌, Bool, true, false, List, [], ◌∷◌, ◌++◌, refl, sym, ◌∙◌, ap, subst, arith, Option, Some, None, slice_get, length, take, get_or, suc, zero}
-use Rattle.std.specs.Prelude.{IsTrue, ◌↔◌}
+use Rattle.std.proofs.Common.{◌≡◌, ◌⊎◌, inl, inr, ℕ, ◌+◌, ◌<◌, ◌≤◌, List, [], ◌∷◌, ◌++◌, refl, sym, ◌∙◌, ap, subst, length, take, get_or}
+use Rattle.std.specs.Prelude.{◌↔◌}
 use Rattle.std.proofs.lemmas.List.{take_more, take_all}
 use Rattle.ap_dix.specs.Derivation.{Label as EntryLabel}
 use Rattle.ap_symbol.specs.Lists.{IsIn}
@@ -23,7 +23,7 @@ in_either x [] ys h = inr h
 in_either x (y ∷ xs) ys (inl e) = inl (inl e)
 in_either x (y ∷ xs) ys (inr h) = elim (in_either x xs ys h) [ inl k ↦ inl (inr k) | inr k ↦ inr k ]
 
-any_last : {X : Type 0} (Q : X → List EntryLabel → Type 0) (xs : List X) (x : X) (w : List EntryLabel) → (Any Q xs w ⊎ Q x w) ↔ Any Q (xs ++ x ∷ []) w
+pub any_last : {X : Type 0} (Q : X → List EntryLabel → Type 0) (xs : List X) (x : X) (w : List EntryLabel) → (Any Q xs w ⊎ Q x w) ↔ Any Q (xs ++ x ∷ []) w
 any_last Q xs x w = (
   (λ h. elim h [
     | inl s ↦ record { item = s.item; listed = in_front s.item xs (x ∷ []) s.listed; holds = s.holds }

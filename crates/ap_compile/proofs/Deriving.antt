@@ -1,25 +1,24 @@
-use Rattle.std.proofs.Common.{◌≡◌, ◌⊎◌, inl, inr, ℕ, ◌+◌, ◌<◌, ◌≤◌, Bool, true, false, not, ◌&&◌, List, [], ◌∷◌, ◌++◌, refl, sym, ◌∙◌, ap, subst, append_assoc, append-nil, arith, Option, Some, None, slice_get, length, take, drop, get_or, suc, zero, map}
-use Rattle.std.specs.Prelude.{IsTrue, ◌↔◌, nat_lt}
+use Rattle.std.proofs.Common.{◌≡◌, ◌⊎◌, inl, inr, ℕ, ◌+◌, ◌<◌, ◌≤◌, Bool, List, [], ◌∷◌, ◌++◌, refl, sym, ◌∙◌, ap, subst, append_assoc, append-nil, arith, Some, slice_get, length, take, get_or, suc, zero}
+use Rattle.std.specs.Prelude.{IsTrue, ◌↔◌}
 use Rattle.std.specs.List.{list_all}
-use Rattle.std.proofs.lemmas.Bool.{and_parts, and_from}
+use Rattle.std.proofs.lemmas.Bool.{and_parts}
 use Rattle.std.proofs.lemmas.List.{take_more, take_all}
 use Rattle.std.proofs.lemmas.Option.{slice_get-get_or}
-use Rattle.ap_symbol.specs.Lists.{IsIn, IsAt}
+use Rattle.ap_symbol.specs.Lists.{IsAt}
 use Rattle.ap_symbol.specs.declared.symbol.Symbol.{Symbol}
-use Rattle.ap_dix.specs.Derivation.{Label as EntryLabel, Derives, nothing, identity, pair, paradigm, expression, paired, facing, is_kept}
-use Rattle.ap_dix.specs.Soundness.{is_sound_part, is_sound_entry, are_sound_pardefs}
+use Rattle.ap_dix.specs.Derivation.{Label as EntryLabel, Derives, nothing, identity, pair, paradigm, expression, paired, facing}
+use Rattle.ap_dix.specs.Soundness.{is_sound_entry, are_sound_pardefs}
 use Rattle.ap_dix.specs.declared.dictionary.Dictionary.{Dictionary}
 use Rattle.ap_dix.specs.declared.dictionary.Direction.{Direction}
-use Rattle.ap_dix.specs.declared.dictionary.Entry.{Entry}
 use Rattle.ap_dix.specs.declared.dictionary.EntryPart.{EntryPart}
 use Rattle.ap_dix.specs.declared.dictionary.EntryPart.TheVariants.{Identity, Pair, Paradigm, Expression}
 use Rattle.ap_dix.specs.declared.dictionary.Pardef.{Pardef}
 use Rattle.ap_fst.specs.Sketches.{Sketch}
 use Rattle.ap_fst.specs.Paths.{Accepts, IsJoined}
 use Rattle.ap_fst.specs.declared.label.Label.{Label}
-use Rattle.ap_compile.specs.Labels.{derived_label, derived_labels}
-use Rattle.ap_compile.specs.Drafts.{IsDraftOf, IsMoreBy, Any, Spells, SpellsAt, AreDrafts}
-use Rattle.ap_compile.proofs.Drafting.{same_draft, none_draft, letter_draft, joined_draft, IsCut, more_draft, no_more}
+use Rattle.ap_compile.specs.Labels.{derived_label}
+use Rattle.ap_compile.specs.Drafts.{IsCut, IsDraftOf, Any, Spells, SpellsAt, AreDrafts}
+use Rattle.ap_compile.proofs.Drafting.{same_draft, none_draft, joined_draft}
 use Rattle.ap_compile.proofs.Words.{take_next}
 
 -- the item of a number, in both ways of saying it
@@ -133,15 +132,6 @@ parts_more d direction a b made parts part p i lt is ha hb hm =
 
 pub parts_all : (d : Dictionary) (direction : Direction) (made : Sketch) (parts : List EntryPart) (i : ℕ) → length parts ≤ i → IsDraftOf (Derives d direction (take i parts)) made → IsDraftOf (Derives d direction parts) made
 parts_all d direction made parts i le h = subst (λ (zs : List EntryPart). IsDraftOf (Derives d direction zs) made) (take_all i parts le) h
-
--- an entry, kept or not
-
-pub entry_kept : (d : Dictionary) (direction : Direction) (a b made : Sketch) (entry : Entry) → IsTrue (is_kept direction entry) → IsDraftOf (Derives d direction entry.parts) b → ((w : List Label) → Accepts made w ↔ (Accepts a w ⊎ Accepts b w)) → IsMoreBy (Spells d direction entry) a made
-entry_kept d direction a b made entry kept hb hm = more_draft (Spells d direction entry) a b made
-    (same_draft (Derives d direction entry.parts) (Spells d direction entry) b hb (λ w. ((λ k. record { kept = kept; derived = k }), (λ s. s.derived)))) hm
-
-pub entry_left_out : (d : Dictionary) (direction : Direction) (a : Sketch) (entry : Entry) → is_kept direction entry ≡ false → IsMoreBy (Spells d direction entry) a a
-entry_left_out d direction a entry out = no_more (Spells d direction entry) a (λ w s. let k : is_kept direction entry ≡ true = s.kept in cc)
 
 -- paradigms
 

@@ -1,7 +1,7 @@
-use Rattle.std.proofs.Common.{◌≡◌, ◌⊎◌, inl, inr, ℕ, ◌+◌, ◌<◌, ◌≤◌, Bool, true, false, ◌&&◌, List, [], ◌∷◌, ◌++◌, refl, sym, ◌∙◌, ap, subst, arith, Option, Some, None, slice_get, length, take, suc, zero, map}
+use Rattle.std.proofs.Common.{◌≡◌, ◌⊎◌, inl, inr, true, List, [], ◌∷◌, ◌++◌, refl, sym, ◌∙◌, ap, subst, map}
 use Rattle.std.specs.Prelude.{IsTrue, ◌↔◌, Result, Ok, Err, IfOk}
 use Rattle.std.specs.List.{list_all}
-use Rattle.std.proofs.lemmas.Bool.{and_parts, and_from}
+use Rattle.std.proofs.lemmas.Bool.{and_from}
 use Rattle.std.proofs.lemmas.List.{map-append}
 use Rattle.std.proofs.lemmas.List.Folds.{list_all-append}
 use Rattle.ap_dix.specs.Derivation.{Label as EntryLabel}
@@ -10,8 +10,7 @@ use Rattle.ap_fst.specs.Sketches.{Sketch}
 use Rattle.ap_fst.specs.Paths.{Accepts, IsJoined, IsEither}
 use Rattle.ap_fst.specs.declared.label.Label.{Label}
 use Rattle.ap_compile.specs.Labels.{derived_label, derived_labels, ArePlain}
-use Rattle.ap_compile.specs.Drafts.{IsDraftOf, IsMoreBy, Any}
-use Rattle.ap_symbol.specs.Lists.{IsIn}
+use Rattle.ap_compile.specs.Drafts.{IsDraftOf, IsMoreBy, IsCut}
 
 -- a label that entries derive as a transducer's, the other way round
 abbrev pub built_label : EntryLabel → Label
@@ -48,14 +47,6 @@ letter_draft made label h p = record {
   exact = λ w. ((λ a. ap derived_labels ((h w).0 a)), (λ q. (h w).1 (derived_injective w (label ∷ []) q)));
   plain = λ w a. subst (λ (z : List Label). ArePlain z) (sym ((h w).0 a)) (and_from (is_plain_label label) true p refl);
 }
-
--- labels of the first, and then labels of the second
-pub record IsCut (P Q : List EntryLabel → Type 0) (w : List EntryLabel) : Type 0 where
-  pub front : List EntryLabel
-  pub back : List EntryLabel
-  pub whole : w ≡ front ++ back
-  pub first : P front
-  pub second : Q back
 
 plain_both : (front back w : List Label) → w ≡ front ++ back → ArePlain front → ArePlain back → ArePlain w
 plain_both front back w e f b = ap (list_all is_plain_label) e ∙ list_all-append is_plain_label front back ∙ and_from (list_all is_plain_label front) (list_all is_plain_label back) f b

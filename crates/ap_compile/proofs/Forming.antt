@@ -1,5 +1,5 @@
 -- Drafts of expressions.
-use Rattle.std.proofs.Common.{◌≡◌, ◌⊎◌, inl, inr, ℕ, ◌+◌, ◌<◌, ◌≤◌, Bool, true, false, not, ◌&&◌, List, [], ◌∷◌, ◌++◌, refl, sym, ◌∙◌, ap, subst, append_assoc, append-nil, arith, Option, Some, None, length, take, get_or, map, suc, zero, Vec, Global}
+use Rattle.std.proofs.Common.{◌≡◌, ◌⊎◌, inl, inr, ℕ, ◌+◌, ◌<◌, ◌≤◌, Bool, List, [], ◌∷◌, ◌++◌, refl, sym, ◌∙◌, ap, subst, append_assoc, append-nil, arith, Some, length, take, get_or, map, suc, zero, Vec, Global}
 use Rattle.std.specs.Prelude.{IsTrue, ◌↔◌}
 use Rattle.std.specs.List.{list_all}
 use Rattle.std.proofs.lemmas.Bool.{and_parts, and_from}
@@ -7,7 +7,7 @@ use Rattle.std.proofs.lemmas.List.{map-append, take_more, take_all}
 use Rattle.std.proofs.lemmas.List.Folds.{list_all-append}
 use Rattle.ap_symbol.specs.declared.symbol.Symbol.{Symbol}
 use Rattle.ap_symbol.specs.declared.symbol.Symbol.TheVariants.{Letter, Tag, Blank, Join, Queue, Alarm, Star, At}
-use Rattle.ap_dix.specs.Derivation.{Label as EntryLabel, label, Derives, nothing, expression, paired, facing, left_word}
+use Rattle.ap_dix.specs.Derivation.{Label as EntryLabel, label, Derives, nothing, expression, paired, facing}
 use Rattle.ap_dix.specs.Forms.{Form, sequence, either, forms_of}
 use Rattle.ap_dix.specs.Language.{Lang, LangAll, LangSome, IsSplit, Repeats as RepeatsOf, done as done_of, more as more_of}
 use Rattle.ap_dix.specs.Plain.{plain}
@@ -23,9 +23,9 @@ use Rattle.ap_fst.specs.Sketches.{Sketch}
 use Rattle.ap_fst.specs.Paths.{Accepts, IsJoined, IsEither, IsOptional, IsMoreThanNone, Repeats, done, more}
 use Rattle.ap_fst.specs.declared.label.Label.{Label}
 use Rattle.ap_compile.specs.Labels.{derived_label, derived_labels, ArePlain}
-use Rattle.ap_compile.specs.Drafts.{IsDraftOf, IsMoreBy}
+use Rattle.ap_compile.specs.Drafts.{IsCut, IsDraftOf, IsMoreBy}
 use Rattle.ap_compile.specs.Forming.{OfStrings}
-use Rattle.ap_compile.proofs.Drafting.{built_labels, built_label, built_derived, derived_built, derived_injective, same_draft, none_draft, letter_draft, IsCut, joined_draft, more_draft, more_added}
+use Rattle.ap_compile.proofs.Drafting.{built_labels, built_label, built_derived, derived_built, derived_injective, same_draft, none_draft, letter_draft, joined_draft, more_draft, more_added}
 use Rattle.ap_compile.proofs.Words.{paired_swapped}
 
 -- strings and their labels

@@ -1,18 +1,18 @@
 -- Alphabets: closed under partners, in order and each letter once.
-use Rattle.std.proofs.Common.{◌≡◌, ◌⊎◌, inl, inr, ℕ, ◌+◌, ◌<◌, eqb, Bool, true, false, not, ◌||◌, List, [], ◌∷◌, ◌++◌, length, sym, ◌∙◌, ap, subst, arith, Some, take, get_or, zero, suc, refl, cond}
-use Rattle.std.specs.Prelude.{◌↔◌, slice_get, IsTrue, ◌==◌, if◌then◌else◌}
-use Rattle.std.specs.List.{dedup, AllByRecursion, Contains, list_any, list_all}
+use Rattle.std.proofs.Common.{◌≡◌, ◌⊎◌, inl, inr, ℕ, ◌+◌, ◌<◌, eqb, Bool, true, false, not, ◌||◌, List, [], ◌∷◌, ◌++◌, length, sym, ◌∙◌, ap, subst, arith, take, get_or, zero, suc, refl}
+use Rattle.std.specs.Prelude.{◌↔◌, IsTrue}
+use Rattle.std.specs.List.{dedup, AllByRecursion, Contains, list_all}
 use Rattle.std.specs.List.Sorted.{IsPermutation, IsSorted, IsStrictlySortedBy}
 use Rattle.std.specs.Ordering.{nat_cmp, eq_by_cmp}
 use Rattle.std.specs.declared.cmp.Ordering.{Ordering}
 use Rattle.std.specs.declared.cmp.Ordering.TheVariants.{Less}
-use Rattle.std.proofs.lemmas.Bool.{cases_eq, cases_lt, cases_Bool, cond-true, cond-false, and_parts, and_from, ne_eqb}
+use Rattle.std.proofs.lemmas.Bool.{cases_eq, cases_lt, cases_Bool, cond-true, cond-false, and_parts, and_from}
 use Rattle.std.proofs.lemmas.Bool.Decides.{nat_tests}
 use Rattle.std.proofs.lemmas.Cmp.{nat_cmp_total}
 use Rattle.std.proofs.lemmas.List.{take_more}
 use Rattle.std.proofs.lemmas.List.Kept.{IsStrictlySortedBy-dedup, Contains-dedup_nat, Contains-from_dedup}
 use Rattle.std.proofs.lemmas.List.Sorted.{Contains-permutation, IsPermutation-sym}
-use Rattle.ap_symbol.specs.Alphabet.{has_letter, is_in_closure, IsClosure, is_closed, ClosureIsClosed}
+use Rattle.ap_symbol.specs.Alphabet.{has_letter, IsClosure, ClosureIsClosed}
 use Rattle.ap_symbol.specs.Case.{partner_lem, is_upper_lem, lower_lem, upper_lem}
 use Rattle.ap_symbol.specs.CaseLaws.{PartnerOfPartner, WhiteSpaceStays}
 use Rattle.ap_symbol.specs.Lists.{IsIn}

@@ -4,6 +4,7 @@ pub mod Choosing
 pub mod Forming
 pub mod Spanning
 pub mod Deriving
+pub mod Gathered
 pub mod Telling
 pub mod Lettering
 pub mod Silences

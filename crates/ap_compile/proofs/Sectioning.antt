@@ -1,14 +1,13 @@
 -- Sections as a compiled dictionary holds them.
-use Rattle.std.proofs.Common.{◌≡◌, ◌⊎◌, inl, inr, ℕ, ◌+◌, ◌<◌, ◌≤◌, Bool, true, false, List, [], ◌∷◌, ◌++◌, refl, sym, ◌∙◌, ap, subst, append_assoc, arith, Option, Some, slice_get, length, length-append, suc, zero, map}
-use Rattle.std.specs.Prelude.{IsTrue, ◌↔◌, ◌&&◌}
+use Rattle.std.proofs.Common.{◌≡◌, inl, inr, ℕ, ◌<◌, ◌≤◌, true, List, [], ◌∷◌, ◌++◌, refl, sym, ◌∙◌, ap, subst, arith, Some, slice_get, length, suc, zero}
+use Rattle.std.specs.Prelude.{IsTrue, ◌↔◌}
 use Rattle.std.specs.List.{list_all}
 use Rattle.std.specs.Option.{option_to_list}
 use Rattle.std.proofs.lemmas.Bool.{and_parts, cases_Bool, cases_eq}
 use Rattle.std.proofs.lemmas.List.{length-map, map-append}
 use Rattle.std.proofs.lemmas.List.Folds.{list_all-append}
 use Rattle.ap_symbol.specs.Lists.{IsIn}
-use Rattle.ap_symbol.specs.declared.symbol.Symbol.{Symbol}
-use Rattle.ap_dix.specs.Derivation.{Label as EntryLabel, Strings, left_word as derived_left_word}
+use Rattle.ap_dix.specs.Derivation.{Strings, left_word as derived_left_word}
 use Rattle.ap_dix.specs.Soundness.{IsSound}
 use Rattle.ap_dix.specs.declared.dictionary.Dictionary.{Dictionary}
 use Rattle.ap_dix.specs.declared.dictionary.Direction.{Direction}
@@ -16,7 +15,7 @@ use Rattle.ap_dix.specs.declared.dictionary.Kind.{Kind}
 use Rattle.ap_fst.specs.Machines.{Machine, IsMachine}
 use Rattle.ap_fst.specs.Sections.{is_plain_label, IsSection}
 use Rattle.ap_fst.specs.Sides.{left_word}
-use Rattle.ap_fst.specs.Silence.{HasNoEmptyCycle, HasEmptySide, HasBoundedRuns, IsSilentRun}
+use Rattle.ap_fst.specs.Silence.{HasNoEmptyCycle, HasEmptySide, HasBoundedRuns}
 use Rattle.ap_fst.specs.Trimming.{IsTrimmed, IsReached, IsFinishing}
 use Rattle.ap_fst.specs.Walks.{Walk, ends, goes, AcceptsLabels}
 use Rattle.ap_fst.specs.declared.label.Label.{Label}

@@ -1,13 +1,12 @@
 -- Entries that derive labels with an empty input side.
-use Rattle.std.proofs.Common.{◌≡◌, ◌⊎◌, inl, inr, ℕ, ◌+◌, ◌<◌, ◌≤◌, Bool, true, false, not, List, [], ◌∷◌, ◌++◌, refl, sym, ◌∙◌, ap, subst, append_assoc, append-nil, arith, Option, Some, None, slice_get, length, take, get_or, suc, zero, map}
+use Rattle.std.proofs.Common.{◌≡◌, inl, inr, ℕ, ◌+◌, ◌<◌, ◌≤◌, Bool, List, [], ◌∷◌, ◌++◌, refl, sym, ◌∙◌, ap, subst, append_assoc, append-nil, arith, Option, Some, None, slice_get, length, take, get_or, suc, zero}
 use Rattle.std.specs.Prelude.{IsTrue, ◌↔◌}
-use Rattle.std.specs.List.{flat_map}
 use Rattle.std.specs.Option.{MatchOption, option_to_list, is_some}
 use Rattle.std.proofs.lemmas.List.{take_more, take_all}
 use Rattle.std.proofs.lemmas.Option.{slice_get-get_or}
 use Rattle.ap_symbol.specs.Lists.{IsIn}
 use Rattle.ap_symbol.specs.declared.symbol.Symbol.{Symbol}
-use Rattle.ap_dix.specs.Derivation.{Label as EntryLabel, Derives, nothing, identity, pair, paradigm, paired, swapped, facing, is_kept, left_word}
+use Rattle.ap_dix.specs.Derivation.{Label as EntryLabel, Derives, nothing, identity, pair, paradigm, paired, facing, left_word}
 use Rattle.ap_dix.specs.declared.dictionary.Dictionary.{Dictionary}
 use Rattle.ap_dix.specs.declared.dictionary.Direction.{Direction}
 use Rattle.ap_dix.specs.declared.dictionary.Direction.TheVariants.{Lr, Rl}
@@ -16,11 +15,10 @@ use Rattle.ap_dix.specs.declared.dictionary.EntryPart.{EntryPart}
 use Rattle.ap_dix.specs.declared.dictionary.EntryPart.TheVariants.{Identity, Pair, Paradigm, Expression}
 use Rattle.ap_dix.specs.declared.dictionary.Pardef.{Pardef}
 use Rattle.ap_dix.specs.declared.dictionary.Section.{Section}
-use Rattle.ap_compile.specs.Drafts.{SpellsAt}
+use Rattle.ap_compile.specs.Drafts.{IsCut, SpellsAt}
 use Rattle.ap_compile.specs.Empties.{IsSilent, IsEmptyEntry, HasEmptyEntry, IsEmptyAt, AreEmpties, IsFirstEmpty, section_entries}
-use Rattle.ap_compile.proofs.Choosing.{in_front, in_back, in_either}
-use Rattle.ap_compile.proofs.Drafting.{IsCut}
-use Rattle.ap_compile.proofs.Deriving.{one_identity, one_pair, one_paradigm, none_derived, derives_cut, derives_joined, snoc_get, get_at}
+use Rattle.ap_compile.proofs.Choosing.{in_back, in_either}
+use Rattle.ap_compile.proofs.Deriving.{one_identity, one_pair, one_paradigm, derives_cut, derives_joined, snoc_get, get_at}
 use Rattle.ap_dix.specs.Forms.{Form}
 use Rattle.ap_dix.specs.Language.{Lang}
 use Rattle.ap_compile.specs.Forming.{OfStrings}

@@ -1,5 +1,5 @@
 -- The characters of classes.
-use Rattle.std.proofs.Common.{◌≡◌, ◌⊎◌, inl, inr, ℕ, ◌+◌, ◌<◌, ◌≤◌, Bool, true, false, not, ◌&&◌, ◌||◌, List, [], ◌∷◌, ◌++◌, refl, sym, ◌∙◌, ap, subst, append-nil, arith, Option, Some, None, length, take, get_or, suc, zero, max}
+use Rattle.std.proofs.Common.{◌≡◌, ◌⊎◌, inl, inr, ℕ, ◌+◌, ◌<◌, ◌≤◌, Bool, true, false, not, ◌||◌, List, [], ◌∷◌, ◌++◌, refl, sym, ◌∙◌, ap, subst, arith, length, take, get_or, suc, zero, max}
 use Rattle.std.specs.Prelude.{IsTrue, ◌↔◌, nat_le}
 use Rattle.std.specs.Char.{IsScalar}
 use Rattle.std.specs.List.{list_any, Contains}
@@ -11,12 +11,11 @@ use Rattle.ap_symbol.specs.Words.{is_white}
 use Rattle.ap_symbol.specs.declared.symbol.Symbol.{Symbol}
 use Rattle.ap_symbol.specs.declared.symbol.Symbol.TheVariants.{Letter}
 use Rattle.ap_dix.specs.Derivation.{Label as EntryLabel}
-use Rattle.ap_dix.specs.Language.{IsOfClass, IsHeld, spans}
+use Rattle.ap_dix.specs.Language.{IsOfClass, spans}
 use Rattle.ap_dix.specs.declared.expr.Range.{Range}
 use Rattle.ap_fst.specs.Sketches.{Sketch}
 use Rattle.ap_fst.specs.Paths.{Accepts}
 use Rattle.ap_fst.specs.declared.label.Label.{Label}
-use Rattle.ap_compile.specs.Labels.{derived_labels, ArePlain}
 use Rattle.ap_compile.specs.Drafts.{IsDraftOf, IsMoreBy}
 use Rattle.ap_compile.specs.Forming.{OfStrings, IsCode, IsOfSpan, IsCovered, range_first}
 use Rattle.ap_compile.proofs.Drafting.{no_draft, no_more, same_more}

@@ -1,6 +1,5 @@
-use Rattle.std.proofs.Common.{◌≡◌, List, sym, subst}
+use Rattle.std.proofs.Common.{◌≡◌, List, subst}
 use Rattle.std.specs.Prelude.{◌↔◌}
-use Rattle.ap_symbol.specs.Lists.{IsIn}
 use Rattle.ap_dix.specs.Derivation.{Label as EntryLabel, Strings}
 use Rattle.ap_dix.specs.declared.dictionary.Dictionary.{Dictionary}
 use Rattle.ap_dix.specs.declared.dictionary.Direction.{Direction}
@@ -11,8 +10,8 @@ use Rattle.ap_fst.specs.Paths.{Accepts}
 use Rattle.ap_fst.specs.Sketches.{Sketch}
 use Rattle.ap_fst.specs.Walks.{AcceptsLabels}
 use Rattle.ap_fst.specs.declared.label.Label.{Label}
-use Rattle.ap_compile.specs.Labels.{derived_labels, ArePlain}
-use Rattle.ap_compile.specs.Drafts.{IsDraftOf, Any, Spells, SpellsIn}
+use Rattle.ap_compile.specs.Labels.{derived_labels}
+use Rattle.ap_compile.specs.Drafts.{IsDraftOf, Any, SpellsIn}
 
 string_of : (d : Dictionary) (direction : Direction) (kind : Kind) (labels : List EntryLabel) → Any (SpellsIn d direction kind) d.sections labels → Strings d direction kind labels
 string_of d direction kind labels s = record { section = s.item; entry = s.holds.spells.item; listed = s.listed; of_kind = s.holds.of_kind; entered = s.holds.spells.listed; kept = s.holds.spells.holds.kept; derived = s.holds.spells.holds.derived }

@@ -1,18 +1,17 @@
-use Rattle.std.proofs.Common.{◌≡◌, ◌⊎◌, inl, inr, ℕ, ◌+◌, ◌<◌, ◌≤◌, Bool, true, false, not, ◌&&◌, List, [], ◌∷◌, ◌++◌, refl, sym, ◌∙◌, ap, subst, arith, Option, Some, None, slice_get, length, take, suc, zero, map}
+use Rattle.std.proofs.Common.{◌≡◌, ℕ, ◌+◌, ◌<◌, ◌≤◌, true, List, [], ◌∷◌, ◌++◌, refl, ◌∙◌, ap, subst, arith, Option, Some, None, slice_get, length, take, suc, zero, map}
 use Rattle.std.specs.Prelude.{IsTrue, max}
 use Rattle.std.specs.List.{list_all}
 use Rattle.std.proofs.lemmas.Bool.{and_parts, and_from}
 use Rattle.std.proofs.lemmas.List.{take_more}
 use Rattle.std.proofs.lemmas.Option.{slice_get_within, get_or_from_slice_get}
-use Rattle.ap_symbol.specs.Words.{is_proper, AreProper, is_word_symbol, is_named}
+use Rattle.ap_symbol.specs.Words.{is_proper, is_word_symbol}
 use Rattle.ap_symbol.specs.declared.symbol.Symbol.{Symbol}
 use Rattle.ap_symbol.specs.declared.symbol.Symbol.TheVariants.{Letter, Tag, Blank, Join, Queue, Alarm, Star, At}
-use Rattle.ap_dix.specs.Derivation.{Label as EntryLabel, label, paired, swapped, facing}
+use Rattle.ap_dix.specs.Derivation.{label, paired, swapped}
 use Rattle.ap_dix.specs.Soundness.{is_entry_symbol}
 use Rattle.ap_fst.specs.Sections.{is_plain_side, is_plain_label}
 use Rattle.ap_fst.specs.Sides.{has_side}
-use Rattle.ap_fst.specs.declared.label.Label.{Label}
-use Rattle.ap_compile.specs.Labels.{derived_label, derived_labels, label_of, ArePlain, IsEntryWord}
+use Rattle.ap_compile.specs.Labels.{derived_label, label_of, IsEntryWord}
 
 -- a word has as many pairs as its longer side has symbols
 

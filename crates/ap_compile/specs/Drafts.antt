@@ -1,4 +1,4 @@
-use Rattle.std.specs.Prelude.{◌≡◌, ◌↔◌, ◌⊎◌, ℕ, IsTrue, List, [], ◌∷◌, Some, slice_get}
+use Rattle.std.specs.Prelude.{◌≡◌, ◌↔◌, ◌⊎◌, ℕ, IsTrue, List, ◌++◌, Some, slice_get}
 use Rattle.ap_symbol.specs.Lists.{IsIn}
 use Rattle.ap_dix.specs.Derivation.{Label as EntryLabel, Derives, is_kept}
 use Rattle.ap_dix.specs.declared.dictionary.Dictionary.{Dictionary}
@@ -21,6 +21,14 @@ pub record IsDraftOf (P : List EntryLabel → Type 0) (draft : Sketch) : Type 0 
 pub record IsMoreBy (Q : List EntryLabel → Type 0) (old new : Sketch) : Type 0 where
   pub exact : (w : List Label) → Accepts new w ↔ (Accepts old w ⊎ Q (derived_labels w))
   pub plain : ((w : List Label) → Accepts old w → ArePlain w) → (w : List Label) → Accepts new w → ArePlain w
+
+-- labels of the first, and then labels of the second
+pub record IsCut (P Q : List EntryLabel → Type 0) (w : List EntryLabel) : Type 0 where
+  pub front : List EntryLabel
+  pub back : List EntryLabel
+  pub whole : w ≡ front ++ back
+  pub first : P front
+  pub second : Q back
 
 -- one of the items has this with the labels
 pub record Any {X : Type 0} (Q : X → List EntryLabel → Type 0) (items : List X) (labels : List EntryLabel) : Type 0 where

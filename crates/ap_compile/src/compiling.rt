@@ -7,8 +7,8 @@ ghost use Rattle.ap_compile.specs.Drafts.{AreDrafts};
 ghost use Rattle.ap_compile.specs.Empties.{HasEmptyEntry, IsFirstEmpty, section_entries};
 
 use crate::alphabet::closure;
-use crate::drafts::paradigm_drafts;
 use crate::empties::first_empty;
+use crate::gathering::paradigm_drafts;
 use crate::sections::section;
 use ap_dix::{Dictionary, Direction, Kind};
 use ap_fst::{Compiled, Draft, Fst, empty_cycle_law};

@@ -1,13 +1,13 @@
 ghost use Rattle.std.specs.Prelude.{◌≡◌, ◌<◌, ◌∷◌, [], List, length, max, IsTrue, IfOk, slice_get};
 ghost use Rattle.std.specs.List.{list_all};
 ghost use Rattle.ap_dix.specs.Derivation.{Derives, paired, facing, is_kept};
-ghost use Rattle.ap_dix.specs.Soundness.{is_entry_symbol, is_sound_part, is_sound_entry, IsSound};
+ghost use Rattle.ap_dix.specs.Soundness.{is_entry_symbol, is_sound_part};
 ghost use Rattle.ap_dix.specs.declared.dictionary.Dictionary.{Dictionary as Lexicon};
 ghost use Rattle.ap_compile.specs.Labels.{label_of, IsEntryWord};
-ghost use Rattle.ap_compile.specs.Drafts.{IsDraftOf, IsMoreBy, Any, Spells, AreDrafts};
+ghost use Rattle.ap_compile.specs.Drafts.{IsDraftOf, AreDrafts};
 
 use crate::expressions::expression_draft;
-use ap_dix::{Dictionary, Direction, Entry, EntryPart};
+use ap_dix::{Direction, Entry, EntryPart};
 use ap_fst::{Draft, Label};
 use ap_symbol::{Memory, Symbol, Word};
 use std::alloc::Global;
@@ -71,7 +71,8 @@ fn faced_draft(
     }
 }
 
-fn part_draft(
+/// Accepts what this part derives.
+pub fn part_draft(
     alloc: Global,
     direction: Direction,
     drafts: &[Draft],
@@ -92,7 +93,7 @@ fn part_draft(
 }
 
 /// Accepts what these parts derive. Each use of a paradigm gets a copy of its own.
-fn parts_draft(
+pub fn parts_draft(
     alloc: Global,
     direction: Direction,
     drafts: &[Draft],
@@ -113,61 +114,4 @@ pub fn is_entry_kept(direction: Direction, entry: &Entry) -> bool
     ensures { result ≡ is_kept direction entry.now }
 {
     !entry.ignored && entry.side.takes(direction)
-}
-
-fn with_entry(
-    alloc: Global,
-    direction: Direction,
-    drafts: &[Draft],
-    made: Draft,
-    entry: &Entry,
-) -> Result<Draft, Memory>
-    requires { IsTrue (is_sound_entry (length drafts.now) entry.now) }
-    ensures { IfOk result (λ all. (d : Lexicon) → AreDrafts d direction drafts.now → IsMoreBy (Spells d direction entry.now) made all) }
-{
-    if !is_entry_kept(direction, entry) {
-        return Ok(made);
-    }
-    let more = parts_draft(alloc, direction, drafts, entry.parts.as_slice())?;
-    made.either(more)
-}
-
-/// Accepts what the kept ones of these entries derive.
-pub fn entries_draft(
-    alloc: Global,
-    direction: Direction,
-    drafts: &[Draft],
-    entries: &[Entry],
-) -> Result<Draft, Memory>
-    requires { IsTrue (list_all (is_sound_entry (length drafts.now)) entries.now) }
-    ensures { IfOk result (λ made. (d : Lexicon) → AreDrafts d direction drafts.now → IsDraftOf (Any (Spells d direction) entries.now) made) }
-{
-    let mut made = Draft::nothing(alloc)?;
-    for entry in entries {
-        made = with_entry(alloc, direction, drafts, made, entry)?;
-    }
-    Ok(made)
-}
-
-/// A draft for each paradigm, in order.
-pub fn paradigm_drafts(
-    alloc: Global,
-    direction: Direction,
-    dictionary: &Dictionary,
-) -> Result<Vec<Draft>, Memory>
-    requires { IsSound dictionary.now }
-    ensures drafts { IfOk result (λ drafts. AreDrafts dictionary.now direction drafts.items) }
-    ensures count { IfOk result (λ drafts. length drafts.items ≡ length dictionary.now.pardefs) }
-{
-    let mut drafts = Vec::new(alloc);
-    for pardef in dictionary.pardefs.as_slice() {
-        let draft = entries_draft(
-            alloc,
-            direction,
-            drafts.as_slice(),
-            pardef.entries.as_slice(),
-        )?;
-        drafts.push(draft)?;
-    }
-    Ok(drafts)
 }

@@ -6,6 +6,7 @@ mod compiling;
 mod drafts;
 mod empties;
 mod expressions;
+mod gathering;
 mod sections;
 #[cfg(test)]
 mod tests;

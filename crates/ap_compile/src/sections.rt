@@ -9,7 +9,7 @@ ghost use Rattle.ap_fst.specs.declared.label.Label.{Label};
 ghost use Rattle.ap_compile.specs.Labels.{derived_labels, ArePlain};
 ghost use Rattle.ap_compile.specs.Drafts.{IsDraftOf, IsMoreBy, Any, SpellsIn, AreDrafts};
 
-use crate::drafts::entries_draft;
+use crate::gathering::entries_draft;
 use ap_dix::{Dictionary, Direction, Kind, Section};
 use ap_fst::{Draft, Fst, trim, without_empty};
 use ap_symbol::Memory;

@@ -145,3 +145,17 @@ fn an_expression_with_the_empty_string_is_refused(rt: HostRuntime) -> Result<(),
     assert_eq!(rt; refusal, CompileRefusal::EmptySide { line: 2 });
     Ok(())
 }
+
+const SHARED: &str =
+    "<dictionary><pardefs><pardef n=\"p\"><e><i>x</i></e><e><i>yz</i></e></pardef></pardefs><section id=\"m\" type=\"standard\">\n<e><i>ab</i><par n=\"p\"/></e><e><i>e</i></e><e><i>cd</i><par n=\"p\"/></e></section></dictionary>";
+
+#[test]
+fn entries_that_end_with_a_paradigm_share_it(rt: HostRuntime) -> Result<(), Fail> {
+    let alloc = rt.alloc();
+    let dictionary = read_dictionary(alloc, SHARED.as_bytes())?;
+    let compiled = compile(alloc, &dictionary, Direction::Lr)?;
+    let standard = compiled.section(Kind2::Standard);
+    assert_eq!(rt; standard.edges_from(0).len(), 3);
+    assert_eq!(rt; standard.edges().len(), 8);
+    Ok(())
+}

@@ -1,9 +1,6 @@
-use Rattle.std.proofs.Common.{◌≡◌, List, ℕ, subst, sym, ◌∙◌}
-use Rattle.std.specs.Prelude.{◌↔◌}
+use Rattle.std.proofs.Common.{List, ℕ, subst, sym}
 use Rattle.ap_symbol.specs.Alphabet.{IsClosure}
-use Rattle.ap_symbol.specs.Lists.{IsIn}
 use Rattle.ap_fst.specs.Sections.{IsAlphabet}
-use Rattle.ap_compile.specs.Partners.{IsPartnered}
 use Rattle.ap_compile.proofs.Lettering.{closure_from, alphabet_from, members_through}
 use Rattle.ap_compile.proofs.alphabet.closure.Goals as goal
 

@@ -1,4 +1,4 @@
-use Rattle.std.proofs.Common.{◌≡◌, sym, subst}
+use Rattle.std.proofs.Common.{sym, subst}
 use Rattle.ap_fst.specs.Sections.{Parts}
 use Rattle.ap_compile.specs.Compiling.{IsCompiledFrom}
 use Rattle.ap_compile.proofs.compiling.compiled.Goals as goal

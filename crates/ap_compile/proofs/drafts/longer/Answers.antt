@@ -1,4 +1,3 @@
-use Rattle.std.proofs.Common.{arith}
 use Rattle.ap_compile.proofs.Words.{longer_left, longer_right}
 use Rattle.ap_compile.proofs.drafts.longer.Goals as goal
 

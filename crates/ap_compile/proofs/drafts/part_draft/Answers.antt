@@ -1,11 +1,10 @@
-use Rattle.std.proofs.Common.{◌≡◌, ◌<◌, sym, ◌∙◌, ap, subst, List, length, refl, Some, slice_get, ◌∷◌, [], arith}
+use Rattle.std.proofs.Common.{◌≡◌, ◌<◌, sym, subst, length, refl, Some, slice_get, ◌∷◌, [], arith}
 use Rattle.std.specs.Prelude.{IsTrue, nat_lt}
 use Rattle.std.proofs.lemmas.Option.{slice_get_read}
 use Rattle.std.proofs.lemmas.Bool.Decides.{nat_tests}
 use Rattle.ap_dix.specs.Derivation.{Derives}
 use Rattle.ap_dix.specs.Soundness.{is_sound_part, is_sound_form}
 use Rattle.ap_dix.specs.declared.dictionary.EntryPart.{EntryPart}
-use Rattle.ap_fst.specs.Sketches.{Sketch}
 use Rattle.ap_compile.specs.Drafts.{IsDraftOf}
 use Rattle.ap_compile.proofs.Drafting.{if_ok_more}
 use Rattle.ap_compile.proofs.Deriving.{identity_draft, pair_draft, paradigm_draft}

@@ -1,4 +1,4 @@
-use Rattle.ap_compile.proofs.Deriving.{parts_none, parts_more, parts_all}
+use Rattle.ap_compile.proofs.Deriving.{parts_none, parts_more}
 use Rattle.ap_compile.proofs.drafts.parts_draft.Goals as goal
 
 pub loop-part-init : goal.loop-part-init

@@ -1,4 +1,4 @@
-use Rattle.std.proofs.Common.{◌≡◌, ◌<◌, sym, ◌∙◌, ap, subst, length, ◌∷◌, [], List, ℕ, Some}
+use Rattle.std.proofs.Common.{◌<◌, sym, ◌∙◌, ap, subst, length, ℕ, Some}
 use Rattle.std.specs.Prelude.{IsTrue}
 use Rattle.ap_dix.specs.Derivation.{paired}
 use Rattle.ap_fst.specs.Sections.{is_plain_label}

@@ -1,5 +1,5 @@
-use Rattle.std.proofs.Common.{◌≡◌, sym, ◌∙◌, true, false}
-use Rattle.ap_compile.proofs.Silences.{silent_none, silent_more, silent_all, loud_part}
+use Rattle.std.proofs.Common.{sym, ◌∙◌}
+use Rattle.ap_compile.proofs.Silences.{silent_none, silent_more, loud_part}
 use Rattle.ap_compile.proofs.empties.are_parts_silent.Goals as goal
 
 pub loop-part-init : goal.loop-part-init

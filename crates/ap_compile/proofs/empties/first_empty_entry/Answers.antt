@@ -1,4 +1,4 @@
-use Rattle.std.proofs.Common.{◌≡◌, sym, ◌∙◌, refl, true, false}
+use Rattle.std.proofs.Common.{◌≡◌, refl, true, false}
 use Rattle.ap_compile.proofs.Silences.{no_empty_more, first_at}
 use Rattle.ap_compile.proofs.empties.first_empty_entry.Goals as goal
 

@@ -1,4 +1,4 @@
-use Rattle.std.proofs.Common.{◌≡◌, List, sym, subst}
+use Rattle.std.proofs.Common.{List, sym, subst}
 use Rattle.ap_dix.specs.declared.dictionary.Entry.{Entry}
 use Rattle.ap_compile.specs.Empties.{HasEmptyEntry, IsFirstEmpty}
 use Rattle.ap_compile.proofs.Silences.{no_section_more, first_section}

@@ -1,4 +1,4 @@
-use Rattle.std.proofs.Common.{◌≡◌, ◌<◌, sym, subst, List, length, Some, slice_get, ◌∷◌, [], arith, Bool, false, get_or}
+use Rattle.std.proofs.Common.{◌<◌, sym, subst, length, ◌∷◌, [], arith, false, get_or}
 use Rattle.std.specs.Prelude.{IsTrue, nat_lt, ◌↔◌}
 use Rattle.std.proofs.lemmas.Option.{slice_get-get_or}
 use Rattle.std.proofs.lemmas.Bool.Decides.{nat_tests}

@@ -1,9 +1,8 @@
-use Rattle.std.proofs.Common.{◌≡◌, ◌+◌, arith, sym, subst, ap, ◌∙◌, List, ℕ, Bool, length, length-append, ◌∷◌, []}
+use Rattle.std.proofs.Common.{◌≡◌, arith, sym, subst, ap, ◌∙◌, List, Bool, length, length-append, ◌∷◌, []}
 use Rattle.std.specs.Prelude.{IsTrue, ◌↔◌}
 use Rattle.std.specs.List.{list_all}
 use Rattle.ap_dix.specs.Soundness.{is_sound_entry}
 use Rattle.ap_dix.specs.declared.dictionary.Entry.{Entry}
-use Rattle.ap_dix.specs.declared.dictionary.Pardef.{Pardef}
 use Rattle.ap_compile.specs.Empties.{AreEmpties, HasEmptyEntry}
 use Rattle.ap_compile.proofs.Deriving.{sound_at}
 use Rattle.ap_compile.proofs.Silences.{empties_more, told_empty}

@@ -1,6 +1,5 @@
-use Rattle.std.proofs.Common.{◌≡◌, List, [], map, refl, sym, ◌∙◌, ap, true, false}
-use Rattle.std.specs.Prelude.{IsTrue, ◌↔◌}
-use Rattle.ap_dix.specs.Forms.{Form, star, plus, forms_of}
+use Rattle.std.proofs.Common.{◌≡◌, [], refl, sym, ◌∙◌, ap, true, false}
+use Rattle.ap_dix.specs.Forms.{star, plus, forms_of}
 use Rattle.ap_dix.specs.Language.{Lang, LangAll, LangSome, done}
 use Rattle.ap_dix.specs.Plain.{plain}
 use Rattle.ap_compile.proofs.Forming.{all_empty_more, empty_each, some_empty, no_empty_more, all_forms, empty_plus, form_empty, sequence_form, either_form}

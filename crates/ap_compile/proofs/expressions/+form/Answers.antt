@@ -1,5 +1,5 @@
-use Rattle.std.proofs.Common.{◌≡◌, ◌∷◌, List, [], map, sym, ◌∙◌, ap, rules}
-use Rattle.ap_dix.specs.Forms.{Form, star, plus, opt, forms_of}
+use Rattle.std.proofs.Common.{◌≡◌, [], sym, ◌∙◌, ap}
+use Rattle.ap_dix.specs.Forms.{star, plus, opt, forms_of}
 use Rattle.ap_dix.specs.Language.{Lang, LangAll, LangSome}
 use Rattle.ap_dix.specs.Plain.{plain}
 use Rattle.ap_compile.specs.Drafts.{IsDraftOf}

@@ -1,4 +1,4 @@
-use Rattle.std.proofs.Common.{◌≡◌, inl, inr, refl, arith, rules, max}
+use Rattle.std.proofs.Common.{inl, refl, arith}
 use Rattle.ap_compile.proofs.Spanning.{class_none, class_more, covered_more, class_all}
 use Rattle.ap_compile.proofs.expressions.ranges_draft.Goals as goal
 

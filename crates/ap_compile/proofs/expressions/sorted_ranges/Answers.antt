@@ -1,6 +1,4 @@
 use Rattle.std.proofs.Common.{List, subst, rules}
-use Rattle.std.specs.List.{list_any}
-use Rattle.std.specs.Prelude.{IsTrue, ◌↔◌}
 use Rattle.std.specs.List.Sorted.{IsPermutation}
 use Rattle.std.proofs.lemmas.List.Sorted.{IsNonDecreasingBy-from_sort_by_key}
 use Rattle.ap_dix.specs.declared.expr.Range.{Range}

@@ -1,4 +1,4 @@
-use Rattle.std.proofs.Common.{◌≡◌, ◌∷◌, [], ℕ, true, false, sym, ◌∙◌, ap, not, subst}
+use Rattle.std.proofs.Common.{◌≡◌, ◌∷◌, [], ℕ, true, sym, ◌∙◌, ap, not, subst}
 use Rattle.std.specs.Prelude.{IsTrue}
 use Rattle.std.specs.Char.{IsScalar}
 use Rattle.std.proofs.lemmas.Bool.{false≢true}

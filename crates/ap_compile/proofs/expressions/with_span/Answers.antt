@@ -1,4 +1,4 @@
-use Rattle.std.proofs.Common.{◌≡◌, ◌≤◌, inl, inr, refl, arith}
+use Rattle.std.proofs.Common.{inl, inr, refl, arith}
 use Rattle.ap_compile.proofs.Spanning.{span_none, span_more, span_over}
 use Rattle.ap_compile.proofs.expressions.with_span.Goals as goal
 

@@ -1,13 +1,12 @@
-use Rattle.std.proofs.Common.{◌≡◌, ◌+◌, arith, sym, subst, ap, ◌∙◌, List, ℕ, length, length-append, refl, ◌∷◌, []}
+use Rattle.std.proofs.Common.{◌≡◌, arith, sym, subst, ap, ◌∙◌, List, length, length-append, ◌∷◌, []}
 use Rattle.std.specs.Prelude.{IsTrue}
 use Rattle.std.specs.List.{list_all}
 use Rattle.ap_fst.specs.Sketches.{Sketch}
 use Rattle.ap_dix.specs.Soundness.{is_sound_entry}
 use Rattle.ap_dix.specs.declared.dictionary.Entry.{Entry}
-use Rattle.ap_dix.specs.declared.dictionary.Pardef.{Pardef}
 use Rattle.ap_compile.specs.Drafts.{AreDrafts, IsDraftOf, Any, Spells}
 use Rattle.ap_compile.proofs.Deriving.{drafts_more, sound_at}
-use Rattle.ap_compile.proofs.drafts.paradigm_drafts.Goals as goal
+use Rattle.ap_compile.proofs.gathering.paradigm_drafts.Goals as goal
 
 pub entries_draft-requires : goal.entries_draft-requires
 entries_draft-requires c =
