@@ -142,9 +142,10 @@ fn with_entry(
         fronts,
         ending,
     } = turned(alloc, direction, drafts, gathering, ending)?;
+    let fronts = fronts.either(more)?;
     Ok(Gathering {
         made,
-        fronts: fronts.either(more)?,
+        fronts,
         ending,
     })
 }

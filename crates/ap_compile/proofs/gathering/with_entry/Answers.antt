@@ -8,5 +8,5 @@ returns-clause-strings c =
     let kept : c.is_entry_kept.result ≡ true = cc in
     let whole : c.args.entry.now.parts ≡ c.split_ending-ending.result.0.now ++ ending_parts c.in_ok-made.field-0.ending =
     sym c.as_slice.ensures ∙ c.split_ending-ending.ensures.whole ∙ ap (λ e. c.split_ending-ending.result.0.now ++ ending_parts e) (sym c.in_ok-made.ensures.ending) in
-    λ d are plain. entry_gathered d c.args.direction (Gathers d c.args.direction c.args.gathering) c.in_ok-made.field-0 c.split_ending-ending.result.0.now c.in_ok-more.more c.in_ok-either.field-0 c.args.entry.now
-    (sym c.is_entry_kept.ensures ∙ kept) whole (c.in_ok-more.ensures d are) c.in_ok-either.ensures (c.in_ok-made.ensures.same d are plain)
+    λ d are plain. entry_gathered d c.args.direction (Gathers d c.args.direction c.args.gathering) c.in_ok-made.field-0 c.split_ending-ending.result.0.now c.in_ok-more.more c.in_ok-fronts.fronts c.args.entry.now
+    (sym c.is_entry_kept.ensures ∙ kept) whole (c.in_ok-more.ensures d are) c.in_ok-fronts.ensures (c.in_ok-made.ensures.same d are plain)
