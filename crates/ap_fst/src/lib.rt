@@ -23,7 +23,7 @@ pub use cycles::{empty_cycle, empty_cycle_law};
 pub use draft::Draft;
 pub use fst::Fst;
 pub use label::{Edge, Edges, Finals, Label};
-pub use order::compare_edges;
+pub use order::{compare_edges, compare_labels};
 pub use removal::without_empty;
 pub use silence::empty_side;
 pub use trimming::trim;

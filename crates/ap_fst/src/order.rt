@@ -49,7 +49,9 @@ fn compare_sides(a: Option<&Symbol>, b: Option<&Symbol>) -> Ordering
     }
 }
 
-fn compare_labels(a: &Label, b: &Label) -> Ordering
+/// The order of labels: by the left side, then by the right. A side without a symbol comes first, then
+/// letters by code point, tags by the bytes of the name, and the marks.
+pub fn compare_labels(a: &Label, b: &Label) -> Ordering
     ensures { result ≡ label_cmp a.now b.now }
 {
     match compare_sides(a.left.as_ref(), b.left.as_ref()) {
@@ -58,8 +60,7 @@ fn compare_labels(a: &Label, b: &Label) -> Ordering
     }
 }
 
-/// The order of edges: by the state that they leave, then by the label (the left side, then the
-/// right; no symbol first, then letters by code point, tags by the bytes of the name, and the marks),
+/// The order of edges: by the state that they leave, then by the label, as `compare_labels` has it,
 /// then by the state that they enter.
 pub fn compare_edges(a: &Edge, b: &Edge) -> Ordering
     ensures { result ≡ edge_cmp a.now b.now }
