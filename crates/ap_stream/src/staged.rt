@@ -20,7 +20,6 @@ use std::marker::Model;
 /// work only while nothing is pending.
 #[derive(Drop)]
 pub struct Staged<H: Handler + Drop> {
-    alloc: Global,
     reader: Reader,
     handler: H,
     out: Bytes,
@@ -61,7 +60,6 @@ impl<H: Handler + Drop> Staged<H> {
         ensures fault { result.fault ≡ None }
     {
         Staged {
-            alloc,
             reader: Reader::new(alloc, dialect),
             handler,
             out: Bytes::new(alloc),
@@ -96,7 +94,7 @@ impl<H: Handler + Drop> Staged<H> {
         ensures err { IfErr result (λ f. (self.new.fault ≡ Some f) × (self.new.pending ≡ [])) }
         ensures cause { IfErr result (λ f. f ≢ StreamFault.Memory → (x : List ℕ) (e : Ending) → May self.old x e → rest_of H.work self.old x e ≡ ends_in [] f) }
     {
-        self.out = Bytes::new(self.alloc);
+        self.out.clear();
         self.from = 0;
         match self.handler.turn(&mut self.out) {
             Ok(Turn::Over) => match self.stop {

@@ -96,7 +96,7 @@ impl Change {
 fn changed(alloc: Global, word: &Word, first: Change, rest: Change) -> Result<Word, Memory>
     ensures { IfOk result (λ made. made ≡ changed_lem first rest word.now) }
 {
-    let mut made = Word::new(alloc);
+    let mut made = Word::with_capacity(alloc, word.len(), word.rendered().len())?;
     let mut change = first;
     for symbol in word.symbols() {
         made.push(change.symbol(alloc, symbol)?)?;
