@@ -1,9 +1,10 @@
-use Rattle.std.proofs.Common.{◌≡◌, ◌⊎◌, inl, inr, ℕ, ◌+◌, ◌<◌, Bool, true, false, List, [], ◌∷◌, ◌++◌, refl, sym, ◌∙◌, ap, subst, arith, Option, Some, None, slice_get, length, take, get_or, suc, zero, eqb, append-nil}
-use Rattle.std.proofs.lemmas.List.{take_more}
-use Rattle.std.proofs.Math.Seq.{take-length}
+use Rattle.std.proofs.Common.{◌≡◌, ◌⊎◌, inl, inr, ℕ, ◌+◌, ◌<◌, Bool, true, false, List, [], ◌∷◌, ◌++◌, refl, sym, ◌∙◌, ap, subst, arith, drop, append_assoc, ◌≤◌, ◌-◌, Option, Some, None, slice_get, length, take, get_or, suc, zero, eqb, append-nil}
+use Rattle.std.proofs.lemmas.List.{take_more, take_all, take_at, drop_at, take-append-drop, get_or-drop, length-drop, length-append}
+use Rattle.std.proofs.lemmas.Option.{slice_get_within, slice_get-get_or}
 use Rattle.std.specs.Option.{option_to_list}
 use Rattle.ap_fst.specs.Lists.{IsIn}
 use Rattle.ap_fst.specs.declared.label.Edge.{Edge}
+use Rattle.ap_live.specs.Fitting.{is_empty_side}
 use Rattle.ap_live.specs.Spreads.{arrival_to}
 use Rattle.ap_live.specs.Tails.{Back, BackFrom, IsBack, AddsBack, IsBackMany, BackMany, AreFinals, given, onward}
 use Rattle.ap_fst.specs.Silence.{SilentWalk, still, step, HasNoEmptyCycle}
@@ -11,7 +12,7 @@ use Rattle.ap_fst.specs.Machines.{Machine, IsMachine}
 use Rattle.std.specs.Prelude.{IsTrue}
 use Rattle.std.specs.List.{list_all, filter}
 use Rattle.std.proofs.lemmas.Bool.Decides.{nat_tests}
-use Rattle.ap_fst.proofs.Listing.{in_filter, filter_in}
+use Rattle.ap_fst.proofs.Listing.{in_filter, filter_in, place_front}
 use Rattle.std.proofs.lemmas.Bool.{and_parts}
 use Rattle.ap_symbol.specs.Words.{is_word_symbol}
 use Rattle.ap_live.specs.Outputs.{is_word_side, WritesWords}
@@ -32,10 +33,10 @@ only_back edges b j y x f =
     ]
 
 pub adds_no_link : (edges : List Edge) (b : Bool) (items old : List Item) → AddsBack edges b [] items old old
-adds_no_link edges b items old = record { sound = λ x i. inl i; complete = λ x f. elim f.linked [ ]; kept = λ x i. i }
+adds_no_link edges b items old = record { more = []; grown = sym (append-nil old); back = record { sound = λ x i. elim i [ ]; complete = λ x f. elim f.linked [ ] } }
 
 pub adds_no_item : (edges : List Edge) (b : Bool) (links : List Arrival) (old : List Item) → AddsBack edges b links [] old old
-adds_no_item edges b links old = record { sound = λ x i. inl i; complete = λ x f. elim f.listed [ ]; kept = λ x i. i }
+adds_no_item edges b links old = record { more = []; grown = sym (append-nil old); back = record { sound = λ x i. elim i [ ]; complete = λ x f. elim f.listed [ ] } }
 
 more_links : (edges : List Edge) (b : Bool) (links more : List Arrival) (items : List Item) (x : Item) → BackFrom edges b links items x → BackFrom edges b (links ++ more) items x
 more_links edges b links more items x f = record { item = f.item; link = f.link; listed = f.listed; linked = in_front f.link links more f.linked; back = f.back }
@@ -45,45 +46,75 @@ more_items edges b links items more x f = record { item = f.item; link = f.link;
 
 -- one link, by which one item is added
 pub adds_one : (edges : List Edge) (b : Bool) (j : Arrival) (y x : Item) (old found : List Item) → Back edges b x y j → ((z : Item) → Back edges b z y j → z ≡ x) → found ≡ old ++ x ∷ [] → AddsBack edges b (j ∷ []) (y ∷ []) old found
-adds_one edges b j y x old found leads one grown =
-    subst (λ (fs : List Item). AddsBack edges b (j ∷ []) (y ∷ []) old fs) (sym grown) (record {
-      sound = λ z k. elim (in_either z old (x ∷ []) k) [
-        | inl q ↦ inl q
-        | inr q ↦ elim q [
-          | inl r ↦ inr (record { item = y; link = j; listed = inl refl; linked = inl refl; back = subst (λ (w : Item). Back edges b w y j) (sym r) leads })
-          | inr r ↦ elim r [ ]
-        ]
-      ];
-      complete = λ z f. in_back z old (x ∷ []) (inl (one z (only_back edges b j y z f)));
-      kept = λ z k. in_front z old (x ∷ []) k;
-    })
+adds_one edges b j y x old found leads one grown = record {
+  more = x ∷ [];
+  grown = grown;
+  back = record {
+    sound = λ z k. elim k [
+      | inl r ↦ record { item = y; link = j; listed = inl refl; linked = inl refl; back = subst (λ (w : Item). Back edges b w y j) (sym r) leads }
+      | inr r ↦ elim r [ ]
+    ];
+    complete = λ z f. inl (one z (only_back edges b j y z f));
+  };
+}
+
+-- no item is before this one by the link
+pub adds_none : (edges : List Edge) (b : Bool) (j : Arrival) (y : Item) (old : List Item) → ((z : Item) → Back edges b z y j → ⊥) → AddsBack edges b (j ∷ []) (y ∷ []) old old
+adds_none edges b j y old none = record { more = []; grown = sym (append-nil old); back = record { sound = λ x i. elim i [ ]; complete = λ x f. absurd (none x (only_back edges b j y x f)) } }
+
+-- by two steps
+adds_twice : (old more more' found found' : List Item) → found ≡ old ++ more → found' ≡ found ++ more' → found' ≡ old ++ (more ++ more')
+adds_twice old more more' found found' e f = f ∙ ap (λ z. z ++ more') e ∙ append_assoc old more more'
 
 -- by some links, and then by others
 pub adds_links : (edges : List Edge) (b : Bool) (links more : List Arrival) (items old found found' : List Item) → AddsBack edges b links items old found → AddsBack edges b more items found found' → AddsBack edges b (links ++ more) items old found'
 adds_links edges b links more items old found found' h k = record {
-  sound = λ x q. elim (k.sound x q) [
-    | inl r ↦ elim (h.sound x r) [ inl s ↦ inl s | inr f ↦ inr (more_links edges b links more items x f) ]
-    | inr f ↦ inr (record { item = f.item; link = f.link; listed = f.listed; linked = in_back f.link links more f.linked; back = f.back })
-  ];
-  complete = λ x f. elim (in_either f.link links more f.linked) [
-    | inl r ↦ k.kept x (h.complete x (record { item = f.item; link = f.link; listed = f.listed; linked = r; back = f.back }))
-    | inr r ↦ k.complete x (record { item = f.item; link = f.link; listed = f.listed; linked = r; back = f.back })
-  ];
-  kept = λ x q. k.kept x (h.kept x q);
+  more = h.more ++ k.more;
+  grown = adds_twice old h.more k.more found found' h.grown k.grown;
+  back = record {
+    sound = λ x q. elim (in_either x h.more k.more q) [
+      | inl r ↦ more_links edges b links more items x (h.back.sound x r)
+      | inr r ↦ let f : BackFrom edges b more items x = k.back.sound x r in record { item = f.item; link = f.link; listed = f.listed; linked = in_back f.link links more f.linked; back = f.back }
+    ];
+    complete = λ x f. elim (in_either f.link links more f.linked) [
+      | inl r ↦ in_front x h.more k.more (h.back.complete x (record { item = f.item; link = f.link; listed = f.listed; linked = r; back = f.back }))
+      | inr r ↦ in_back x h.more k.more (k.back.complete x (record { item = f.item; link = f.link; listed = f.listed; linked = r; back = f.back }))
+    ];
+  };
 }
 
 -- from some items, and then from others
 pub adds_items : (edges : List Edge) (b : Bool) (links : List Arrival) (items more old found found' : List Item) → AddsBack edges b links items old found → AddsBack edges b links more found found' → AddsBack edges b links (items ++ more) old found'
 adds_items edges b links items more old found found' h k = record {
-  sound = λ x q. elim (k.sound x q) [
-    | inl r ↦ elim (h.sound x r) [ inl s ↦ inl s | inr f ↦ inr (more_items edges b links items more x f) ]
-    | inr f ↦ inr (record { item = f.item; link = f.link; listed = in_back f.item items more f.listed; linked = f.linked; back = f.back })
-  ];
-  complete = λ x f. elim (in_either f.item items more f.listed) [
-    | inl r ↦ k.kept x (h.complete x (record { item = f.item; link = f.link; listed = r; linked = f.linked; back = f.back }))
-    | inr r ↦ k.complete x (record { item = f.item; link = f.link; listed = r; linked = f.linked; back = f.back })
-  ];
-  kept = λ x q. k.kept x (h.kept x q);
+  more = h.more ++ k.more;
+  grown = adds_twice old h.more k.more found found' h.grown k.grown;
+  back = record {
+    sound = λ x q. elim (in_either x h.more k.more q) [
+      | inl r ↦ more_items edges b links items more x (h.back.sound x r)
+      | inr r ↦ let f : BackFrom edges b links more x = k.back.sound x r in record { item = f.item; link = f.link; listed = in_back f.item items more f.listed; linked = f.linked; back = f.back }
+    ];
+    complete = λ x f. elim (in_either f.item items more f.listed) [
+      | inl r ↦ in_front x h.more k.more (h.back.complete x (record { item = f.item; link = f.link; listed = r; linked = f.linked; back = f.back }))
+      | inr r ↦ in_back x h.more k.more (k.back.complete x (record { item = f.item; link = f.link; listed = r; linked = f.linked; back = f.back }))
+    ];
+  };
+}
+
+-- from some items, and then from the one before them
+pub adds_first : (edges : List Edge) (b : Bool) (links : List Arrival) (y : Item) (items old found found' : List Item) → AddsBack edges b links items old found → AddsBack edges b links (y ∷ []) found found' → AddsBack edges b links (y ∷ items) old found'
+adds_first edges b links y items old found found' h k = record {
+  more = h.more ++ k.more;
+  grown = adds_twice old h.more k.more found found' h.grown k.grown;
+  back = record {
+    sound = λ x q. elim (in_either x h.more k.more q) [
+      | inl r ↦ let f : BackFrom edges b links items x = h.back.sound x r in record { item = f.item; link = f.link; listed = inr f.listed; linked = f.linked; back = f.back }
+      | inr r ↦ more_items edges b links (y ∷ []) items x (k.back.sound x r)
+    ];
+    complete = λ x f. elim f.listed [
+      | inl r ↦ in_back x h.more k.more (k.back.complete x (record { item = f.item; link = f.link; listed = inl r; linked = f.linked; back = f.back }))
+      | inr r ↦ in_front x h.more k.more (h.back.complete x (record { item = f.item; link = f.link; listed = r; linked = f.linked; back = f.back }))
+    ];
+  };
 }
 
 -- a link more
@@ -105,16 +136,18 @@ pub adds_here : (edges : List Edge) (b : Bool) (links here : List Arrival) (y : 
 adds_here edges b links here y old found e h =
     let h' : AddsBack edges b (filter (λ a. eqb (arrival_to a) y.state) links) (y ∷ []) old found = subst (λ (z : List Arrival). AddsBack edges b z (y ∷ []) old found) e h in
     record {
-      sound = λ x q. elim (h'.sound x q) [
-        | inl r ↦ inl r
-        | inr f ↦ inr (record { item = f.item; link = f.link; listed = f.listed; linked = (filter_in (λ a. eqb (arrival_to a) y.state) f.link links f.linked).listed; back = f.back })
-      ];
-      complete = λ x f.
-          let one : f.item ≡ y = elim f.listed [ inl r ↦ r | inr r ↦ elim r [ ] ] in
-          let at : f.link.to ≡ y.state = f.back.arrives ∙ sym f.back.to_is ∙ ap (λ (z : Item). z.state) one in
-          let test : eqb (arrival_to f.link) y.state ≡ true = grind (arith, nat_tests) in
-          h'.complete x (record { item = f.item; link = f.link; listed = f.listed; linked = in_filter (λ a. eqb (arrival_to a) y.state) f.link links f.linked test; back = f.back });
-      kept = h'.kept;
+      more = h'.more;
+      grown = h'.grown;
+      back = record {
+        sound = λ x q.
+            let f : BackFrom edges b (filter (λ a. eqb (arrival_to a) y.state) links) (y ∷ []) x = h'.back.sound x q in
+            record { item = f.item; link = f.link; listed = f.listed; linked = (filter_in (λ a. eqb (arrival_to a) y.state) f.link links f.linked).listed; back = f.back };
+        complete = λ x f.
+            let one : f.item ≡ y = elim f.listed [ inl r ↦ r | inr r ↦ elim r [ ] ] in
+            let at : f.link.to ≡ y.state = f.back.arrives ∙ sym f.back.to_is ∙ ap (λ (z : Item). z.state) one in
+            let test : eqb (arrival_to f.link) y.state ≡ true = grind (arith, nat_tests) in
+            h'.back.complete x (record { item = f.item; link = f.link; listed = f.listed; linked = in_filter (λ a. eqb (arrival_to a) y.state) f.link links f.linked test; back = f.back });
+      };
     }
 
 pub adds_none_here : (edges : List Edge) (b : Bool) (here : List Arrival) (items old : List Item) → length here ≡ 0 → AddsBack edges b here items old old
@@ -126,19 +159,38 @@ pub adds_last : (edges : List Edge) (b : Bool) (here others : List Arrival) (las
     → AddsBack edges b here items old found'
 adds_last edges b here others last items old found found' e h k = subst (λ (z : List Arrival). AddsBack edges b z items old found') (sym e) (adds_links edges b others (last ∷ []) items old found found' h k)
 
-pub back_all : (edges : List Edge) (b : Bool) (links : List Arrival) (items old found : List Item) → old ≡ [] → AddsBack edges b links items old found → IsBack edges b links items found
-back_all edges b links items old found e h = record {
-  sound = λ x q. elim (h.sound x q) [ inl r ↦ elim (subst (λ (zs : List Item). IsIn x zs) e r) [ ] | inr f ↦ f ];
-  complete = h.complete;
+-- which edge leads back to an item
+pub edge_back : (edges : List Edge) (b : Bool) (j : Arrival) (y z : Item) (e : Edge) → slice_get edges j.edge ≡ Some e → Back edges b z y j → (y.state ≡ e.to) × (j.to ≡ e.to) × (is_empty_side e.label.left ≡ b)
+edge_back edges b j y z e at h =
+    let there : Some h.edge ≡ Some e = sym h.at ∙ at in
+    let same : h.edge ≡ e = cc in
+    (h.to_is ∙ ap (λ (x : Edge). x.to) same, h.arrives ∙ ap (λ (x : Edge). x.to) same, ap (λ (x : Edge). is_empty_side x.label.left) (sym same) ∙ h.sort)
+
+-- Some of the items were taken, the last first, and gone back from.
+pub record AreTaken (edges : List Edge) (links : List Arrival) (items left old found : List Item) : Type 0 where
+  pub gone : List Item
+  pub whole : items ≡ left ++ gone
+  pub adds : AddsBack edges false links gone old found
+
+pub none_taken : (edges : List Edge) (links : List Arrival) (items old : List Item) → AreTaken edges links items items old old
+none_taken edges links items old = record { gone = []; whole = sym (append-nil items); adds = adds_no_item edges false links old }
+
+pub one_taken : (edges : List Edge) (links : List Arrival) (items left left' old found found' : List Item) (y : Item) → left ≡ left' ++ y ∷ [] → AreTaken edges links items left old found → AddsBack edges false links (y ∷ []) found found' → AreTaken edges links items left' old found'
+one_taken edges links items left left' old found found' y e h k = record {
+  gone = y ∷ h.gone;
+  whole = h.whole ∙ ap (λ (z : List Item). z ++ h.gone) e ∙ append_assoc left' (y ∷ []) h.gone;
+  adds = adds_first edges false links y h.gone old found found' h.adds k;
 }
 
-pub back_by : (edges : List Edge) (b : Bool) (links : List Arrival) (items old found : List Item) (i : ℕ) → i ≡ length items → old ≡ [] → AddsBack edges b links (take i items) old found → IsBack edges b links items found
-back_by edges b links items old found i n e h =
-    back_all edges b links items old found e (subst (λ (ys : List Item). AddsBack edges b links ys old found) (ap (λ k. take k items) n ∙ take-length items) h)
+pub all_taken : (edges : List Edge) (links : List Arrival) (items left old found : List Item) → left ≡ [] → old ≡ [] → AreTaken edges links items left old found → IsBack edges false links items found
+all_taken edges links items left old found none first h =
+    let gone : items ≡ h.gone = h.whole ∙ ap (λ (z : List Item). z ++ h.gone) none in
+    let more : found ≡ h.adds.more = h.adds.grown ∙ ap (λ (z : List Item). z ++ h.adds.more) first in
+    subst (λ (z : List Item). IsBack edges false links items z) (sym more) (subst (λ (z : List Item). IsBack edges false links z h.adds.more) (sym gone) h.adds.back)
 
-pub back_yielded : (edges : List Edge) (b : Bool) (links : List Arrival) (items yielded rest old found : List Item) → items ≡ yielded ++ rest → rest ≡ [] → old ≡ [] → AddsBack edges b links yielded old found → IsBack edges b links items found
-back_yielded edges b links items yielded rest old found e none first h =
-    back_all edges b links items old found first (subst (λ (z : List Item). AddsBack edges b links z old found) (sym (e ∙ ap (λ z. yielded ++ z) none ∙ append-nil yielded)) h)
+-- An item that is there stays when others are put behind.
+pub stays : (old found more : List Item) (at : ℕ) (y : Item) → found ≡ old ++ more → slice_get old at ≡ Some y → slice_get found at ≡ Some y
+stays old found more at y e h = ap (λ (z : List Item). slice_get z at) e ∙ place_front old more at y h
 
 -- an edge that is there leads back to one item
 pub one_back : (edges : List Edge) (b : Bool) (j : Arrival) (y z : Item) (e : Edge) → slice_get edges j.edge ≡ Some e → Back edges b z y j → z ≡ (let item : Item = record { state = e.from; back = y.back ++ option_to_list e.label.right } in item)
@@ -147,20 +199,21 @@ one_back edges b j y z e at h =
     let same : h.edge ≡ e = cc in
     h.is ∙ ap (λ (x : Edge). (let item : Item = record { state = x.from; back = y.back ++ option_to_list x.label.right } in item)) same
 
-none_in : (xs : List Item) → length xs ≡ 0 → (s : Item) → IsIn s xs → ⊥
-none_in [] e s i = elim i [ ]
-none_in (x ∷ xs) e s i = absurd (omega arith)
+split_in : (items : List Item) (n : ℕ) (x : Item) → IsIn x items → IsIn x (take n items) ⊎ IsIn x (drop n items)
+split_in items n x i = in_either x (take n items) (drop n items) (subst (λ (z : List Item). IsIn x z) (sym (take-append-drop n items)) i)
+
+pub dropped_in : (items : List Item) (n : ℕ) (x : Item) → IsIn x (drop n items) → IsIn x items
+dropped_in items n x i = subst (λ (z : List Item). IsIn x z) (take-append-drop n items) (in_back x (take n items) (drop n items) i)
 
 -- one round more
-pub closed_more : (edges : List Edge) (links : List Arrival) (items front next items' : List Item) (x : Item) → items' ≡ items ++ front → IsBack edges true links front next
-    → ((z : Item) → BackFrom edges true links items z → IsIn z items ⊎ IsIn z front) → BackFrom edges true links items' x → IsIn x items' ⊎ IsIn x next
-closed_more edges links items front next items' x e back closed f =
-    elim (in_either f.item items front (subst (λ (zs : List Item). IsIn f.item zs) e f.listed)) [
-      | inl q ↦ inl (subst (λ (zs : List Item). IsIn x zs) (sym e) (elim (closed x (record { item = f.item; link = f.link; listed = q; linked = f.linked; back = f.back })) [
-        | inl r ↦ in_front x items front r
-        | inr r ↦ in_back x items front r
-      ]))
-      | inr q ↦ inr (back.complete x (record { item = f.item; link = f.link; listed = q; linked = f.linked; back = f.back }))
+pub closed_more : (edges : List Edge) (links : List Arrival) (items items' : List Item) (from end : ℕ) (x : Item) → end ≡ length items → (h : AddsBack edges true links (drop from items) items items')
+    → ((z : Item) → BackFrom edges true links (take from items) z → IsIn z items) → BackFrom edges true links (take end items') x → IsIn x items'
+closed_more edges links items items' from end x e h closed f =
+    let old : take end items' ≡ items = ap (take end) h.grown ∙ take_at items h.more end (sym e) in
+    let whole : (z : Item) → IsIn z (items ++ h.more) → IsIn z items' = λ z i. subst (λ (zs : List Item). IsIn z zs) (sym h.grown) i in
+    elim (split_in items from f.item (subst (λ (zs : List Item). IsIn f.item zs) old f.listed)) [
+      | inl q ↦ whole x (in_front x items h.more (closed x (record { item = f.item; link = f.link; listed = q; linked = f.linked; back = f.back })))
+      | inr q ↦ whole x (in_back x items h.more (h.back.complete x (record { item = f.item; link = f.link; listed = q; linked = f.linked; back = f.back })))
     ]
 
 pub many_more : (edges : List Edge) (links : List Arrival) (base front next : List Item) (x : Item) → IsBack edges true links front next → ((z : Item) → IsIn z front → BackMany edges links base z) → IsIn x next → BackMany edges links base x
@@ -208,24 +261,77 @@ round_below m front round law ok none some all =
     let s : Stands m round x = all x i in
     law m ok none x.state round s.end s.walk s.below
 
-pub many_by : (edges : List Edge) (links : List Arrival) (base items front : List Item) → length front ≡ 0 → ((x : Item) → IsIn x items → BackMany edges links base x) → ((x : Item) → IsIn x base → IsIn x items ⊎ IsIn x front)
-    → ((x : Item) → BackFrom edges true links items x → IsIn x items ⊎ IsIn x front) → IsBackMany edges links base items
-many_by edges links base items front none sound base_in closed = record {
+pub many_by : (edges : List Edge) (links : List Arrival) (base items : List Item) (from : ℕ) → length items ≤ from → ((x : Item) → IsIn x items → BackMany edges links base x) → ((x : Item) → IsIn x base → IsIn x items)
+    → ((x : Item) → BackFrom edges true links (take from items) x → IsIn x items) → IsBackMany edges links base items
+many_by edges links base items from all sound base_in closed = record {
   sound = sound;
-  given_in = λ x i. elim (base_in x i) [ inl q ↦ q | inr q ↦ absurd (none_in front none x q) ];
-  closed = λ x f. elim (closed x f) [ inl q ↦ q | inr q ↦ absurd (none_in front none x q) ];
+  given_in = base_in;
+  closed = λ x f. closed x (record { item = f.item; link = f.link; listed = subst (λ (zs : List Item). IsIn f.item zs) (sym (take_all from items all)) f.listed; linked = f.linked; back = f.back });
 }
+
+-- what is there or was added in one round more
+pub sound_more : (edges : List Edge) (links : List Arrival) (base items items' : List Item) (from : ℕ) (x : Item) → (h : AddsBack edges true links (drop from items) items items') → ((z : Item) → IsIn z items → BackMany edges links base z)
+    → IsIn x items' → BackMany edges links base x
+sound_more edges links base items items' from x h sound i =
+    elim (in_either x items h.more (subst (λ (zs : List Item). IsIn x zs) h.grown i)) [
+      | inl q ↦ sound x q
+      | inr q ↦ many_more edges links base (drop from items) h.more x h.back (λ z k. sound z (dropped_in items from z k)) q
+    ]
+
+pub kept_more : (edges : List Edge) (links : List Arrival) (front items items' : List Item) (x : Item) → (h : AddsBack edges true links front items items') → IsIn x items → IsIn x items'
+kept_more edges links front items items' x h i = subst (λ (zs : List Item). IsIn x zs) (sym h.grown) (in_front x items h.more i)
+
+-- what stands behind those that were there was added
+pub added_more : (edges : List Edge) (links : List Arrival) (front items items' : List Item) (end : ℕ) (x : Item) → end ≡ length items → (h : AddsBack edges true links front items items') → IsIn x (drop end items') → IsIn x h.more
+added_more edges links front items items' end x e h i = subst (λ (zs : List Item). IsIn x zs) (ap (drop end) h.grown ∙ drop_at items h.more end (sym e)) i
+
+pub no_fewer : (edges : List Edge) (links : List Arrival) (front items items' : List Item) → AddsBack edges true links front items items' → length items ≤ length items'
+no_fewer edges links front items items' h =
+    let n : length items' ≡ length items + length h.more = ap (length {A = Item}) h.grown ∙ length-append items h.more in
+    omega arith
+
+none_begun : (edges : List Edge) (links : List Arrival) (items old : List Item) → AddsBack edges true links (take 0 items) old old
+none_begun edges links [] old = adds_no_item edges true links old
+none_begun edges links (x ∷ items) old = adds_no_item edges true links old
+
+pub adds_begin : (edges : List Edge) (links : List Arrival) (items : List Item) (from : ℕ) → AddsBack edges true links (take (from - from) (drop from items)) items items
+adds_begin edges links items from =
+    let n : 0 ≡ from - from = omega arith in
+    subst (λ z. AddsBack edges true links (take z (drop from items)) items items) n (none_begun edges links (drop from items) items)
+
+pub none_before : (items : List Item) (x : Item) → IsIn x (take 0 items) → ⊥
+none_before [] x i = elim i [ ]
+none_before (y ∷ items) x i = elim i [ ]
+
+-- an item more of those from a place on
+pub adds_at : (edges : List Edge) (links : List Arrival) (items : List Item) (from at : ℕ) (found found' : List Item) → from ≤ at → at < length items → AddsBack edges true links (take (at - from) (drop from items)) items found
+    → ((y : Item) → slice_get found at ≡ Some y → AddsBack edges true links (y ∷ []) found found') → AddsBack edges true links (take (at + 1 - from) (drop from items)) items found'
+adds_at edges links items from at found found' le lt h k =
+    let d : Item = record { state = 0; back = [] } in
+    let y : Item = get_or items at d in
+    let there : slice_get found at ≡ Some y = stays items found h.more at y h.grown (slice_get-get_or items at d lt) in
+    let n : at + 1 - from ≡ at - from + 1 = omega arith in
+    let sum : from + (at - from) ≡ at = omega arith in
+    let within : at - from < length (drop from items) = omega (arith, length-drop from items) in
+    let is : y ≡ get_or (drop from items) (at - from) d = sym (get_or-drop from items (at - from) d ∙ ap (λ z. get_or items z d) sum) in
+    let more : AddsBack edges true links (take (at - from + 1) (drop from items)) items found' = adds_item edges true links (drop from items) (at - from) y d items found found' within is h (k y there) in
+    subst (λ z. AddsBack edges true links (take z (drop from items)) items found') (sym n) more
+
+pub stays_within : (edges : List Edge) (links : List Arrival) (old found : List Item) (at : ℕ) → at < length old → ((y : Item) → slice_get old at ≡ Some y → AddsBack edges true links (y ∷ []) old found) → at < length found
+stays_within edges links old found at lt h =
+    let d : Item = record { state = 0; back = [] } in
+    let there : slice_get old at ≡ Some (get_or old at d) = slice_get-get_or old at d lt in
+    let k : AddsBack edges true links (get_or old at d ∷ []) old found = h (get_or old at d) there in
+    slice_get_within found at (get_or old at d) (stays old found k.more at (get_or old at d) k.grown there)
+
+pub adds_from : (edges : List Edge) (links : List Arrival) (items : List Item) (from at : ℕ) (found : List Item) → length items ≤ at → AddsBack edges true links (take (at - from) (drop from items)) items found → AddsBack edges true links (drop from items) items found
+adds_from edges links items from at found all h =
+    let whole : length (drop from items) ≤ at - from = omega (arith, length-drop from items) in
+    subst (λ (z : List Item). AddsBack edges true links z items found) (take_all (at - from) (drop from items) whole) h
 
 pub many_none : (edges : List Edge) (links : List Arrival) (base : List Item) → length links ≡ 0 → IsBackMany edges links base base
 many_none edges [] base n = record { sound = λ x i. given i; given_in = λ x i. i; closed = λ x f. elim f.linked [ ] }
 many_none edges (a ∷ links) base n = absurd (omega arith)
-
-pub some_left : (answer : Bool) (n : ℕ) → (n ≡ 0 → answer ≡ true) → answer ≡ false → 0 < n
-some_left answer zero h e = let t : answer ≡ true = h refl in cc
-some_left answer (suc n) h e = omega arith
-
-pub none_there : (xs : List Item) → xs ≡ [] → (x : Item) → IsIn x xs → ⊥
-none_there xs e x i = elim (subst (λ (zs : List Item). IsIn x zs) e i) [ ]
 
 -- ---- outputs of symbols that a word may hold
 

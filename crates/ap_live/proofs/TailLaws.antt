@@ -247,6 +247,6 @@ start_all backs items yielded rest e f h back =
 pub row_read : (rws : List Row) (at : ℕ) (row : Row) → at < length rws → row ≡ get_or rws at row → slice_get rws at ≡ Some row
 row_read rws at row lt e = slice_get_read rws (length rws) at row refl lt e
 
-pub over_at : (xs : List Item) (n : ℕ) → n ≡ length xs → n ≡ 0 → xs ≡ []
+pub over_at : {X : Type 0} (xs : List X) (n : ℕ) → n ≡ length xs → n ≡ 0 → xs ≡ []
 over_at [] n e z = refl
 over_at (x ∷ xs) n e z = absurd (omega arith)

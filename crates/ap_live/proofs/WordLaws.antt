@@ -1,5 +1,5 @@
 -- Words put into order, each once.
-use Rattle.std.proofs.Common.{◌≡◌, inl, inr, ℕ, ◌+◌, ◌<◌, true, List, [], ◌∷◌, ◌++◌, map, length, take, get_or, refl, sym, ◌∙◌, ap, subst}
+use Rattle.std.proofs.Common.{◌≡◌, inl, inr, ℕ, true, List, [], ◌∷◌, ◌++◌, map, append-nil, refl, sym, ◌∙◌, ap, subst}
 use Rattle.std.specs.Prelude.{◌↔◌, reverse}
 use Rattle.std.specs.List.{dedup}
 use Rattle.std.specs.List.Sorted.{IsPermutation, IsSorted, IsStrictlySortedBy}
@@ -8,7 +8,7 @@ use Rattle.std.specs.Cmp.Lexicographic.{slice_cmp}
 use Rattle.std.specs.Ordering.{nat_cmp, is_eq, eq_by_cmp, ordering_then}
 use Rattle.std.specs.declared.cmp.Ordering.{Ordering}
 use Rattle.std.specs.declared.cmp.Ordering.TheVariants.{Less, Equal, Greater}
-use Rattle.std.proofs.lemmas.List.{take_more, map-append}
+use Rattle.std.proofs.lemmas.List.{map-append}
 use Rattle.std.proofs.lemmas.Cmp.{nat_list_cmp_total, on_total, eq_by_cmp_equiv}
 use Rattle.std.proofs.lemmas.List.Kept.{IsStrictlySortedBy-dedup, Any-dedup, Contains-from_dedup}
 use Rattle.ap_symbol.specs.declared.symbol.Symbol.{Symbol}
@@ -17,7 +17,7 @@ use Rattle.ap_symbol.specs.Words.{AreProper}
 use Rattle.ap_fst.specs.Lists.{IsIn}
 use Rattle.ap_fst.proofs.Listing.{in_contains, contains_in, in_permutation, from_permutation}
 use Rattle.ap_fst.proofs.WalkLaws.{equal_from_cmp}
-use Rattle.ap_live.proofs.Spreading.{in_either}
+use Rattle.ap_live.proofs.Spreading.{in_either, in_back}
 
 pub word_total : IsTotalOrder word_cmp
 word_total = on_total rendering nat_list_cmp_total
@@ -66,10 +66,16 @@ word_members law old xs ys proper p e w =
       (λ i. subst P (sym e) (dropped_in law xs w (λ v k. proper v (from_permutation v old xs p k)) (in_permutation w old xs p i))),
     )
 
-pub reversed_more : (backs : List (List Symbol)) (i : ℕ) (b w : List Symbol) (old new : List (List Symbol)) → i < length backs → b ≡ get_or backs i b → w ≡ reverse b → new ≡ old ++ w ∷ [] → old ≡ map reverse (take i backs) → new ≡ map reverse (take (i + 1) backs)
-reversed_more backs i b w old new lt is r e o =
-    let cut : take (i + 1) backs ≡ take i backs ++ b ∷ [] = take_more backs i b lt ∙ ap (λ (z : List Symbol). take i backs ++ z ∷ []) (sym is) in
-    e ∙ ap (λ (z : List (List Symbol)). z ++ w ∷ []) o ∙ ap (λ (z : List Symbol). map reverse (take i backs) ++ z ∷ []) r ∙ sym (map-append reverse (take i backs) (b ∷ [])) ∙ ap (map reverse) (sym cut)
+pub reversed_more : (yielded : List (List Symbol)) (b w : List Symbol) (old new : List (List Symbol)) → w ≡ reverse b → new ≡ old ++ w ∷ [] → old ≡ map reverse yielded → new ≡ map reverse (yielded ++ b ∷ [])
+reversed_more yielded b w old new r e o =
+    e ∙ ap (λ (z : List (List Symbol)). z ++ w ∷ []) o ∙ ap (λ (z : List Symbol). map reverse yielded ++ z ∷ []) r ∙ sym (map-append reverse yielded (b ∷ []))
+
+pub reversed_all : (backs yielded rest words : List (List Symbol)) → backs ≡ yielded ++ rest → rest ≡ [] → words ≡ map reverse yielded → words ≡ map reverse backs
+reversed_all backs yielded rest words e none h = h ∙ ap (map reverse) (sym (e ∙ ap (λ (z : List (List Symbol)). yielded ++ z) none ∙ append-nil yielded))
+
+pub yielded_in : (backs yielded rest later : List (List Symbol)) (b : List Symbol) → backs ≡ yielded ++ rest → rest ≡ b ∷ later → IsIn b backs
+yielded_in backs yielded rest later b e next =
+    subst (λ (z : List (List Symbol)). IsIn b z) (sym (e ∙ ap (λ (z : List (List Symbol)). yielded ++ z) next)) (in_back b yielded (b ∷ later) (inl refl))
 
 pub proper_more : (old new : List (List Symbol)) (w : List Symbol) → new ≡ old ++ w ∷ [] → AreProper w → ((v : List Symbol) → IsIn v old → AreProper v) → (v : List Symbol) → IsIn v new → AreProper v
 proper_more old new w e proper all v i =

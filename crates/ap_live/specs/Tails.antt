@@ -1,4 +1,4 @@
-use Rattle.std.specs.Prelude.{◌≡◌, ◌⊎◌, ℕ, Bool, true, List, [], ◌∷◌, ◌++◌, Some, None, slice_get}
+use Rattle.std.specs.Prelude.{◌≡◌, ℕ, Bool, true, List, [], ◌∷◌, ◌++◌, Some, None, slice_get}
 use Rattle.std.specs.Option.{option_to_list}
 use Rattle.ap_symbol.specs.declared.symbol.Symbol.{Symbol}
 use Rattle.ap_fst.specs.Lists.{IsIn}
@@ -54,11 +54,11 @@ pub record AreItems (m : Machine) (seen later : List Input) (items : List Item) 
   pub sound : (x : Item) → IsIn x items → Tail m later x.state x.back
   pub complete : (x : Item) → Reach m.edges seen x.state → Tail m later x.state x.back → IsIn x items
 
--- what is added is led back to from these items by one of these links
+-- all that these links lead back to from these items is added behind the others
 pub record AddsBack (edges : List Edge) (is_silent : Bool) (links : List Arrival) (items old found : List Item) : Type 0 where
-  pub sound : (x : Item) → IsIn x found → IsIn x old ⊎ BackFrom edges is_silent links items x
-  pub complete : (x : Item) → BackFrom edges is_silent links items x → IsIn x found
-  pub kept : (x : Item) → IsIn x old → IsIn x found
+  pub more : List Item
+  pub grown : found ≡ old ++ more
+  pub back : IsBack edges is_silent links items more
 
 -- a way on that does not begin with an empty left side
 pub data BaseTail (m : Machine) : List Input → ℕ → List Symbol → Type 0 where

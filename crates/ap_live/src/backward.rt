@@ -1,4 +1,4 @@
-ghost use Rattle.std.specs.Prelude.{◌⊎◌, length, ◌∷◌, ◌≡◌, ◌<◌, ◌++◌, [], List, IfOk, OnOk, IsTrue, slice_get, ◌↔◌, true, false};
+ghost use Rattle.std.specs.Prelude.{◌⊎◌, length, drop, ◌∷◌, ◌≡◌, ◌<◌, ◌≤◌, ◌++◌, [], List, IfOk, OnOk, IsTrue, Some, slice_get, ◌↔◌, true, false};
 ghost use Rattle.std.specs.Option.{option_to_list, option_copied};
 ghost use Rattle.ap_fst.specs.Lists.{IsIn};
 ghost use Rattle.ap_live.specs.Fitting.{Input, is_empty_side};
@@ -17,9 +17,13 @@ use crate::rows::SharedRow;
 use ap_fst::{Edge, Fst, empty_cycle_law};
 use ap_symbol::{Memory, Sequence, Symbol};
 use std::alloc::Global;
+use std::mem;
 
 /// The symbols of an output, the last first.
 pub(crate) type Symbols = Sequence<Symbol>;
+
+/// For so many symbols more than there are rows, as for tags, an output has room from the first.
+const SPARE: usize = 8;
 
 /// A state, and an output from it to the end, its last symbol first.
 #[derive(Debug, Drop)]
@@ -28,12 +32,13 @@ pub struct Item {
     back: Symbols,
 }
 
-/// A copy with room for one symbol more.
-fn copy_symbols(alloc: Global, symbols: &Symbols) -> Result<Symbols, Memory>
+/// A copy with room for so many symbols, and for one more than there are at least.
+fn copy_symbols(alloc: Global, symbols: &Symbols, room: usize) -> Result<Symbols, Memory>
     ensures { IfOk result (λ made. made ≡ symbols.now) }
 {
     let symbols = symbols.as_slice();
-    let mut made = Vec::with_capacity(alloc, symbols.len().saturating_add(1))?;
+    let room = room.max(symbols.len().saturating_add(1));
+    let mut made = Vec::with_capacity(alloc, room)?;
     for symbol in symbols {
         made.push(symbol.copy(alloc)?)?;
     }
@@ -87,24 +92,24 @@ fn leads(edge: &Edge, link: Arrival, item: &Item, silent: bool) -> bool
     edge.to == item.state && edge.to == link.to && is_silent(edge) == silent
 }
 
-/// Adds the item before one item by one link, if its edge is of this sort.
+/// Adds the item before one item by one link, if its edge has a left symbol.
 fn add_link(
     alloc: Global,
     fst: &Fst,
     link: Arrival,
     item: &Item,
-    silent: bool,
+    room: usize,
     found: &mut Vec<Item>,
 ) -> Result<(), Memory>
-    ensures { OnOk result (AddsBack fst.now.edges silent (link ∷ []) (item.now ∷ []) found.old.items found.new.items) }
+    ensures { OnOk result (AddsBack fst.now.edges false (link ∷ []) (item.now ∷ []) found.old.items found.new.items) }
 {
     let Some(edge) = edge_at(fst.edges(), link.edge) else {
         return Ok(());
     };
-    if !leads(edge, link, item, silent) {
+    if !leads(edge, link, item, false) {
         return Ok(());
     }
-    let back = copy_symbols(alloc, &item.back)?;
+    let back = copy_symbols(alloc, &item.back, room)?;
     found.push(item_before(alloc, edge, back)?)?;
     Ok(())
 }
@@ -136,31 +141,15 @@ fn add_links(
     fst: &Fst,
     links: &[Arrival],
     item: &Item,
-    silent: bool,
+    room: usize,
     found: &mut Vec<Item>,
 ) -> Result<(), Memory>
-    ensures { OnOk result (AddsBack fst.now.edges silent links.now (item.now ∷ []) found.old.items found.new.items) }
+    ensures { OnOk result (AddsBack fst.now.edges false links.now (item.now ∷ []) found.old.items found.new.items) }
 {
     for link in links {
-        add_link(alloc, fst, *link, item, silent, found)?;
+        add_link(alloc, fst, *link, item, room, found)?;
     }
     Ok(())
-}
-
-/// Adds the items before one item, by those of these links that lead to its state.
-fn add_before(
-    alloc: Global,
-    fst: &Fst,
-    links: &[Arrival],
-    item: &Item,
-    silent: bool,
-    found: &mut Vec<Item>,
-) -> Result<(), Memory>
-    requires { IsNonDecreasingBy arrival_to links.now }
-    ensures { OnOk result (AddsBack fst.now.edges silent links.now (item.now ∷ []) found.old.items found.new.items) }
-{
-    let here = arrivals_at(links, item.state);
-    add_links(alloc, fst, here, item, silent, found)
 }
 
 /// Adds the items before one item, by those of these links that lead to its state and whose edges
@@ -170,6 +159,7 @@ fn move_before(
     fst: &Fst,
     links: &[Arrival],
     item: Item,
+    room: usize,
     found: &mut Vec<Item>,
 ) -> Result<(), Memory>
     requires { IsNonDecreasingBy arrival_to links.now }
@@ -179,96 +169,159 @@ fn move_before(
     let Some((last, others)) = here.split_last() else {
         return Ok(());
     };
-    add_links(alloc, fst, others, &item, false, found)?;
+    add_links(alloc, fst, others, &item, room, found)?;
     move_link(alloc, fst, *last, item, found)
 }
 
-/// The items before these, which stay, by edges with an empty left side.
-fn silently_back(
-    alloc: Global,
-    fst: &Fst,
-    links: &[Arrival],
-    items: &[Item],
-) -> Result<Vec<Item>, Memory>
-    requires { IsNonDecreasingBy arrival_to links.now }
-    ensures { IfOk result (λ found. IsBack fst.now.edges true links.now items.now found.items) }
-{
-    let mut found = Vec::new(alloc);
-    for item in items {
-        add_before(alloc, fst, links, item, true, &mut found)?;
-    }
-    Ok(found)
-}
-
-/// The items before these, which are used up, by edges with a left symbol.
+/// Goes back from these items by edges with a left symbol. The items before them take their place.
+/// The other vector, which is empty before and after, lends its memory.
 fn backward(
     alloc: Global,
     fst: &Fst,
     links: &[Arrival],
-    items: Vec<Item>,
-) -> Result<Vec<Item>, Memory>
-    requires { IsNonDecreasingBy arrival_to links.now }
-    ensures { IfOk result (λ found. IsBack fst.now.edges false links.now items.items found.items) }
+    room: usize,
+    items: &mut Vec<Item>,
+    found: &mut Vec<Item>,
+) -> Result<(), Memory>
+    requires order { IsNonDecreasingBy arrival_to links.now }
+    requires none { found.old.items ≡ [] }
+    ensures back { OnOk result (IsBack fst.now.edges false links.now items.old.items items.new.items) }
+    ensures none { OnOk result (found.new.items ≡ []) }
 {
-    let mut found = Vec::with_capacity(alloc, items.len())?;
-    for item in items {
-        move_before(alloc, fst, links, item, &mut found)?;
+    while let Some(item) = items.pop() {
+        move_before(alloc, fst, links, item, room, found)?;
     }
-    Ok(found)
+    mem::swap(items, found);
+    Ok(())
 }
 
-fn is_over(items: &Vec<Item>) -> bool
-    ensures { IsTrue result ↔ (length items.now.items ≡ 0) }
+/// Adds the item before one of the items by one link, if its edge has an empty left side.
+fn add_silent_link(
+    alloc: Global,
+    fst: &Fst,
+    link: Arrival,
+    room: usize,
+    items: &mut Vec<Item>,
+    at: usize,
+) -> Result<(), Memory>
+    requires { at < length items.old.items }
+    ensures { OnOk result ((item : Item) → slice_get items.old.items at ≡ Some item → AddsBack fst.now.edges true (link ∷ []) (item ∷ []) items.old.items items.new.items) }
 {
-    items.as_slice().is_empty()
+    let Some(edge) = edge_at(fst.edges(), link.edge) else {
+        return Ok(());
+    };
+    let item = &items[at];
+    if !leads(edge, link, item, true) {
+        return Ok(());
+    }
+    let back = copy_symbols(alloc, &item.back, room)?;
+    items.push(item_before(alloc, edge, back)?)?;
+    Ok(())
 }
 
-/// All that these links lead back to, round after round.
+/// Adds the items before one of the items, by these links.
+fn add_silent_links(
+    alloc: Global,
+    fst: &Fst,
+    links: &[Arrival],
+    room: usize,
+    items: &mut Vec<Item>,
+    at: usize,
+) -> Result<(), Memory>
+    requires { at < length items.old.items }
+    ensures { OnOk result ((item : Item) → slice_get items.old.items at ≡ Some item → AddsBack fst.now.edges true links.now (item ∷ []) items.old.items items.new.items) }
+{
+    for link in links {
+        add_silent_link(alloc, fst, *link, room, items, at)?;
+    }
+    Ok(())
+}
+
+/// Adds the items before one of the items, by those of these links that lead to its state.
+fn add_before(
+    alloc: Global,
+    fst: &Fst,
+    links: &[Arrival],
+    room: usize,
+    items: &mut Vec<Item>,
+    at: usize,
+) -> Result<(), Memory>
+    requires order { IsNonDecreasingBy arrival_to links.now }
+    requires there { at < length items.old.items }
+    ensures { OnOk result ((item : Item) → slice_get items.old.items at ≡ Some item → AddsBack fst.now.edges true links.now (item ∷ []) items.old.items items.new.items) }
+{
+    let item = &items[at];
+    let here = arrivals_at(links, item.state);
+    add_silent_links(alloc, fst, here, room, items, at)
+}
+
+/// Adds the items before those from this place on, by edges with an empty left side.
+fn add_round(
+    alloc: Global,
+    fst: &Fst,
+    links: &[Arrival],
+    room: usize,
+    items: &mut Vec<Item>,
+    from: usize,
+) -> Result<(), Memory>
+    requires order { IsNonDecreasingBy arrival_to links.now }
+    requires there { from ≤ length items.old.items }
+    ensures { OnOk result (AddsBack fst.now.edges true links.now (drop from items.old.items) items.old.items items.new.items) }
+{
+    let end = items.len();
+    for at in from..end {
+        add_before(alloc, fst, links, room, items, at)?;
+    }
+    Ok(())
+}
+
+/// Adds all that these links lead back to, round after round.
 fn rounds_back(
     alloc: Global,
     fst: &Fst,
     links: &[Arrival],
-    base: Vec<Item>,
-) -> Result<Vec<Item>, Memory>
+    room: usize,
+    items: &mut Vec<Item>,
+) -> Result<(), Memory>
     requires no_cycle { HasNoEmptyCycle fst.now }
     requires order { IsNonDecreasingBy arrival_to links.now }
-    requires below { (x : Item) → IsIn x base.items → x.state < fst.now.states }
-    ensures { IfOk result (λ items. IsBackMany fst.now.edges links.now base.items items.items) }
+    requires below { (x : Item) → IsIn x items.old.items → x.state < fst.now.states }
+    ensures { OnOk result (IsBackMany fst.now.edges links.now items.old.items items.new.items) }
 {
-    let mut items = Vec::new(alloc);
-    let mut front = base;
+    let mut from: usize = 0;
     let mut round: usize = 0;
     let _ = fst.states();
     empty_cycle_law();
-    'rounds: while !is_over(&front) {
-        let next = silently_back(alloc, fst, links, front.as_slice())?;
-        items.append(&mut front)?;
-        front = next;
+    'rounds: while from < items.len() {
+        let end = items.len();
+        add_round(alloc, fst, links, room, items, from)?;
+        from = end;
         round += 1;
     }
-    Ok(items)
+    Ok(())
 }
 
-/// All that edges with an empty left side lead back to. Most rows have none.
+/// Adds all that edges with an empty left side lead back to. Most rows have none.
 fn close_back(
     alloc: Global,
     fst: &Fst,
     links: &[Arrival],
-    base: Vec<Item>,
-) -> Result<Vec<Item>, Memory>
+    room: usize,
+    items: &mut Vec<Item>,
+) -> Result<(), Memory>
     requires no_cycle { HasNoEmptyCycle fst.now }
     requires order { IsNonDecreasingBy arrival_to links.now }
-    requires below { (x : Item) → IsIn x base.items → x.state < fst.now.states }
-    ensures { IfOk result (λ items. IsBackMany fst.now.edges links.now base.items items.items) }
+    requires below { (x : Item) → IsIn x items.old.items → x.state < fst.now.states }
+    ensures { OnOk result (IsBackMany fst.now.edges links.now items.old.items items.new.items) }
 {
     if links.is_empty() {
-        return Ok(base);
+        return Ok(());
     }
-    rounds_back(alloc, fst, links, base)
+    rounds_back(alloc, fst, links, room, items)
 }
 
-/// The final ones of these states, with an empty output.
-fn final_items(alloc: Global, fst: &Fst, states: &[usize]) -> Result<Vec<Item>, Memory>
+/// The final ones of these states, with an empty output that has room for so many symbols.
+fn final_items(alloc: Global, fst: &Fst, states: &[usize], room: usize) -> Result<Vec<Item>, Memory>
     ensures { IfOk result (λ items. AreFinals fst.now states.now items.items) }
 {
     let mut items = Vec::new(alloc);
@@ -276,7 +329,7 @@ fn final_items(alloc: Global, fst: &Fst, states: &[usize]) -> Result<Vec<Item>, 
         if fst.is_final(*state) {
             items.push(Item {
                 state: *state,
-                back: Sequence::new(alloc),
+                back: Sequence::from_vec(Vec::with_capacity(alloc, room)?),
             })?;
         }
     }
@@ -298,7 +351,7 @@ fn add_start(backs: &mut Vec<Symbols>, item: Item) -> Result<(), Memory>
 fn at_start(alloc: Global, items: Vec<Item>) -> Result<Vec<Symbols>, Memory>
     ensures { IfOk result (λ backs. (back : List Symbol) → IsIn back backs.items ↔ IsIn (record { state = 0; back = back }) items.items) }
 {
-    let mut backs = Vec::new(alloc);
+    let mut backs = Vec::with_capacity(alloc, items.len())?;
     for item in items {
         add_start(&mut backs, item)?;
     }
@@ -315,15 +368,17 @@ fn outputs_back(alloc: Global, fst: &Fst, rows: &[SharedRow]) -> Result<Vec<Symb
 {
     let _ = fst.states();
     let mut at = rows.len() - 1;
+    let room = rows.len().saturating_add(SPARE);
     let last = &rows[at];
-    let base = final_items(alloc, fst, last.states())?;
-    let mut items = close_back(alloc, fst, last.silent(), base)?;
+    let mut items = final_items(alloc, fst, last.states(), room)?;
+    let mut found = Vec::new(alloc);
+    close_back(alloc, fst, last.silent(), room, &mut items)?;
     while at > 0 {
         let row = &rows[at];
-        let base = backward(alloc, fst, row.taken(), items)?;
+        backward(alloc, fst, row.taken(), room, &mut items, &mut found)?;
         at -= 1;
         let earlier = &rows[at];
-        items = close_back(alloc, fst, earlier.silent(), base)?;
+        close_back(alloc, fst, earlier.silent(), room, &mut items)?;
     }
     at_start(alloc, items)
 }

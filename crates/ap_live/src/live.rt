@@ -103,7 +103,7 @@ impl Live {
     {
         let _ = fst.states();
         let backs = backs_of(alloc, fst, self.rows.as_slice())?;
-        let words = ordered_words(alloc, backs.as_slice())?;
+        let words = ordered_words(alloc, backs)?;
         Ok(Words::from_vec(words))
     }
 

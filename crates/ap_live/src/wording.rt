@@ -12,26 +12,29 @@ use ap_fst::{Edge, Fst};
 use ap_symbol::{Memory, Symbol, Word, compare, one_rendering};
 use std::alloc::Global;
 
+/// About as many bytes does a symbol render to: a letter to one and up to four, a tag of two letters
+/// to four.
+const SYMBOL_BYTES: usize = 4;
+
 /// The word whose symbols are these, the last first.
-fn word_of(alloc: Global, back: &Symbols) -> Result<Word, Memory>
-    requires { IsTrue (list_all is_word_symbol back.now) }
-    ensures is { IfOk result (λ word. word ≡ reverse back.now) }
+fn word_of(alloc: Global, back: Symbols) -> Result<Word, Memory>
+    requires { IsTrue (list_all is_word_symbol back) }
+    ensures is { IfOk result (λ word. word ≡ reverse back) }
     ensures proper { IfOk result (λ word. AreProper word) }
 {
-    let symbols = back.as_slice();
-    let mut word = Word::new(alloc);
-    let mut at = symbols.len();
-    while at > 0 {
-        at -= 1;
-        word.push(symbols[at].copy(alloc)?)?;
+    let len = back.len();
+    let mut symbols = back.into_vec();
+    let mut word = Word::with_capacity(alloc, len, len.saturating_mul(SYMBOL_BYTES))?;
+    while let Some(symbol) = symbols.pop() {
+        word.push(symbol)?;
     }
     let _ = word.symbols();
     Ok(word)
 }
 
-fn words_of(alloc: Global, backs: &[Symbols]) -> Result<Vec<Word>, Memory>
-    requires { (back : List Symbol) → IsIn back backs.now → IsTrue (list_all is_word_symbol back) }
-    ensures is { IfOk result (λ words. words.items ≡ map reverse backs.now) }
+fn words_of(alloc: Global, backs: Vec<Symbols>) -> Result<Vec<Word>, Memory>
+    requires { (back : List Symbol) → IsIn back backs.items → IsTrue (list_all is_word_symbol back) }
+    ensures is { IfOk result (λ words. words.items ≡ map reverse backs.items) }
     ensures proper { IfOk result (λ words. (w : List Symbol) → IsIn w words.items → AreProper w) }
 {
     let mut words = Vec::with_capacity(alloc, backs.len())?;
@@ -54,9 +57,9 @@ fn sort_words(words: &mut Vec<Word>)
 
 /// The words of these symbols, each given with its last symbol first, in the order of their
 /// rendered bytes, each once.
-pub(crate) fn ordered_words(alloc: Global, backs: &[Symbols]) -> Result<Vec<Word>, Memory>
-    requires { (back : List Symbol) → IsIn back backs.now → IsTrue (list_all is_word_symbol back) }
-    ensures members { IfOk result (λ words. (w : List Symbol) → IsIn w words.items ↔ IsIn w (map reverse backs.now)) }
+pub(crate) fn ordered_words(alloc: Global, backs: Vec<Symbols>) -> Result<Vec<Word>, Memory>
+    requires { (back : List Symbol) → IsIn back backs.items → IsTrue (list_all is_word_symbol back) }
+    ensures members { IfOk result (λ words. (w : List Symbol) → IsIn w words.items ↔ IsIn w (map reverse backs.items)) }
     ensures order { IfOk result (λ words. IsStrictlySortedBy word_cmp words.items) }
 {
     let mut words = words_of(alloc, backs)?;

@@ -1,4 +1,4 @@
-use Rattle.std.proofs.Common.{◌<◌, List, length, take, drop}
+use Rattle.std.proofs.Common.{◌≡◌, ◌<◌, [], List, length, take, drop}
 use Rattle.ap_live.specs.Fitting.{Input}
 use Rattle.ap_live.specs.Rows.{AreRows}
 use Rattle.ap_fst.specs.Lists.{IsIn}
@@ -11,6 +11,7 @@ abbrev pub invariant-loop-at : goal.invariant-loop-at
 invariant-loop-at l = record {
   in_range : l.at < length l.rows;
   items : (seen : List Input) → AreRows l.fst.edges seen l.rows → AreItems l.fst (take l.at seen) (drop l.at seen) l.items.items;
+  empty : l.found.items ≡ [];
   clean : (x : Item) → IsIn x l.items.items → IsClean x;
 }
 

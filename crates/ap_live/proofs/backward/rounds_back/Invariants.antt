@@ -1,4 +1,4 @@
-use Rattle.std.proofs.Common.{◌⊎◌, ◌-◌, ◌≤◌, true}
+use Rattle.std.proofs.Common.{◌-◌, ◌≤◌, true, length, take, drop}
 use Rattle.ap_fst.specs.Lists.{IsIn}
 use Rattle.ap_live.specs.Tails.{BackMany, BackFrom}
 use Rattle.ap_live.proofs.Backing.{Stands}
@@ -7,11 +7,11 @@ use Rattle.ap_live.proofs.backward.rounds_back.Given as goal
 
 abbrev pub invariant-rounds : goal.invariant-rounds
 invariant-rounds l = record {
-  sound : (x : Item) → IsIn x l.items.items → BackMany l.fst.edges l.links l.initial.front.items x;
-  sound_front : (x : Item) → IsIn x l.front.items → BackMany l.fst.edges l.links l.initial.front.items x;
-  base_in : (x : Item) → IsIn x l.initial.front.items → IsIn x l.items.items ⊎ IsIn x l.front.items;
-  closed : (x : Item) → BackFrom l.fst.edges true l.links l.items.items x → IsIn x l.items.items ⊎ IsIn x l.front.items;
-  stands : (x : Item) → IsIn x l.front.items → Stands l.fst l.round x;
+  within : l.from ≤ length l.items.items;
+  sound : (x : Item) → IsIn x l.items.items → BackMany l.fst.edges l.links l.initial.items.items x;
+  base_in : (x : Item) → IsIn x l.initial.items.items → IsIn x l.items.items;
+  closed : (x : Item) → BackFrom l.fst.edges true l.links (take l.from l.items.items) x → IsIn x l.items.items;
+  stands : (x : Item) → IsIn x (drop l.from l.items.items) → Stands l.fst l.round x;
   bounded : l.round ≤ l.fst.states;
 }
 

@@ -1,9 +1,14 @@
-use Rattle.std.proofs.Common.{◌≡◌, ◌≤◌, length, drop}
+use Rattle.std.proofs.Common.{◌≡◌, ◌++◌, vec_len, true}
 use Rattle.std.specs.Prelude.{reverse}
+use Rattle.std.specs.List.{list_all}
+use Rattle.ap_symbol.specs.Words.{is_word_symbol}
 use Rattle.ap_live.proofs.wording.word_of.Given as goal
 
-abbrev pub invariant-loop-at : goal.invariant-loop-at
-invariant-loop-at l = record { in_range : l.at ≤ length l.symbols; so_far : l.word ≡ reverse (drop l.at l.symbols) }
+abbrev pub invariant-loop-symbol : goal.invariant-loop-symbol
+invariant-loop-symbol l = record {
+  so_far : reverse l.fn.back ≡ l.word ++ reverse l.symbols.items;
+  fit : list_all is_word_symbol l.symbols.items ≡ true;
+}
 
-abbrev pub decreases-loop-at : goal.decreases-loop-at
-decreases-loop-at l = l.at
+abbrev pub decreases-loop-symbol : goal.decreases-loop-symbol
+decreases-loop-symbol l = vec_len l.symbols

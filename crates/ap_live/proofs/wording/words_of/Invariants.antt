@@ -1,5 +1,6 @@
-use Rattle.std.proofs.Common.{◌≡◌, List, map, take}
+use Rattle.std.proofs.Common.{◌≡◌, ◌++◌, List, map}
 use Rattle.std.specs.Prelude.{reverse}
+use Rattle.std.specs.Vec.Iter.{into_iter_items}
 use Rattle.ap_symbol.specs.Words.{AreProper}
 use Rattle.ap_symbol.specs.declared.symbol.Symbol.{Symbol}
 use Rattle.ap_fst.specs.Lists.{IsIn}
@@ -7,6 +8,7 @@ use Rattle.ap_live.proofs.wording.words_of.Given as goal
 
 abbrev pub invariant-loop-back : goal.invariant-loop-back
 invariant-loop-back l = record {
-  so_far : l.words.items ≡ map reverse (take l.back-index l.backs);
+  so_far : l.words.items ≡ map reverse l.yielded;
   proper : (w : List Symbol) → IsIn w l.words.items → AreProper w;
+  rest : l.fn.backs.items ≡ l.yielded ++ into_iter_items l.back-iterator;
 }
