@@ -1,5 +1,5 @@
 -- Words put into order, each once.
-use Rattle.std.proofs.Common.{◌≡◌, inl, inr, ℕ, true, List, [], ◌∷◌, ◌++◌, map, append-nil, refl, sym, ◌∙◌, ap, subst}
+use Rattle.std.proofs.Common.{◌≡◌, inl, inr, ℕ, true, List, [], ◌∷◌, ◌++◌, map, append-nil, length, ◌<◌, ◌+◌, arith, refl, sym, ◌∙◌, ap, subst}
 use Rattle.std.specs.Prelude.{◌↔◌, reverse}
 use Rattle.std.specs.List.{dedup}
 use Rattle.std.specs.List.Sorted.{IsPermutation, IsSorted, IsStrictlySortedBy}
@@ -45,6 +45,12 @@ pub sorted_words : (xs ys : List (List Symbol)) → IsSorted word_cmp xs → ys 
 sorted_words xs ys s e =
     let P : List (List Symbol) → Type 0 = λ z. IsStrictlySortedBy word_cmp z in
     subst P (sym e) (IsStrictlySortedBy-dedup word_total (λ x y. refl) xs s)
+
+pub few_sorted : (xs : List (List Symbol)) → length xs < 2 → IsStrictlySortedBy word_cmp xs
+unfolding IsStrictlySortedBy
+few_sorted [] h = tt
+few_sorted (x ∷ []) h = (tt, tt)
+few_sorted (x ∷ y ∷ xs) h = absurd (omega arith)
 
 from_dropped : (xs : List (List Symbol)) (w : List Symbol) → IsIn w (dedup (eq_by_cmp word_cmp) xs) → IsIn w xs
 from_dropped xs w i = contains_in w xs (Contains-from_dedup (eq_by_cmp word_cmp) xs w (in_contains w (dedup (eq_by_cmp word_cmp) xs) i))

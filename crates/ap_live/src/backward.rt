@@ -22,7 +22,7 @@ use std::mem;
 /// The symbols of an output, the last first.
 pub(crate) type Symbols = Sequence<Symbol>;
 
-/// For so many symbols more than there are rows, as for tags, an output has room from the first.
+/// For so many symbols more than there are rows, as for tags, an output has room from its first.
 const SPARE: usize = 8;
 
 /// A state, and an output from it to the end, its last symbol first.
@@ -32,11 +32,15 @@ pub struct Item {
     back: Symbols,
 }
 
-/// A copy with room for so many symbols, and for one more than there are at least.
+/// A copy with room for so many symbols, and for one more than there are at least. One of no symbol
+/// takes no memory.
 fn copy_symbols(alloc: Global, symbols: &Symbols, room: usize) -> Result<Symbols, Memory>
     ensures { IfOk result (λ made. made ≡ symbols.now) }
 {
     let symbols = symbols.as_slice();
+    if symbols.is_empty() {
+        return Ok(Sequence::new(alloc));
+    }
     let room = room.max(symbols.len().saturating_add(1));
     let mut made = Vec::with_capacity(alloc, room)?;
     for symbol in symbols {
@@ -45,14 +49,25 @@ fn copy_symbols(alloc: Global, symbols: &Symbols, room: usize) -> Result<Symbols
     Ok(Sequence::from_vec(made))
 }
 
+/// The same output, which where it has no symbol yet gets room for so many.
+fn with_room(alloc: Global, back: Symbols, room: usize) -> Result<Symbols, Memory>
+    ensures { IfOk result (λ made. made ≡ back) }
+{
+    if !back.is_empty() {
+        return Ok(back);
+    }
+    let made = Vec::with_capacity(alloc, room)?;
+    Ok(Sequence::from_vec(made))
+}
+
 /// The output before an edge, where this is the one behind it.
-fn output_before(alloc: Global, edge: &Edge, back: Symbols) -> Result<Symbols, Memory>
+fn output_before(alloc: Global, edge: &Edge, back: Symbols, room: usize) -> Result<Symbols, Memory>
     ensures { IfOk result (λ made. made ≡ back ++ option_to_list edge.now.label.right) }
 {
-    let mut back = back;
     match &edge.label.right {
         None => Ok(back),
         Some(symbol) => {
+            let mut back = with_room(alloc, back, room)?;
             back.push(symbol.copy(alloc)?)?;
             Ok(back)
         }
@@ -60,10 +75,10 @@ fn output_before(alloc: Global, edge: &Edge, back: Symbols) -> Result<Symbols, M
 }
 
 /// The item before an edge, where this is the output behind it.
-fn item_before(alloc: Global, edge: &Edge, back: Symbols) -> Result<Item, Memory>
+fn item_before(alloc: Global, edge: &Edge, back: Symbols, room: usize) -> Result<Item, Memory>
     ensures { IfOk result (λ made. made ≡ record { state = edge.now.from; back = back ++ option_to_list edge.now.label.right }) }
 {
-    let back = output_before(alloc, edge, back)?;
+    let back = output_before(alloc, edge, back, room)?;
     Ok(Item {
         state: edge.from,
         back,
@@ -110,7 +125,7 @@ fn add_link(
         return Ok(());
     }
     let back = copy_symbols(alloc, &item.back, room)?;
-    found.push(item_before(alloc, edge, back)?)?;
+    found.push(item_before(alloc, edge, back, room)?)?;
     Ok(())
 }
 
@@ -121,6 +136,7 @@ fn move_link(
     fst: &Fst,
     link: Arrival,
     item: Item,
+    room: usize,
     found: &mut Vec<Item>,
 ) -> Result<(), Memory>
     ensures { OnOk result (AddsBack fst.now.edges false (link ∷ []) (item ∷ []) found.old.items found.new.items) }
@@ -131,7 +147,7 @@ fn move_link(
     if !leads(edge, link, &item, false) {
         return Ok(());
     }
-    found.push(item_before(alloc, edge, item.back)?)?;
+    found.push(item_before(alloc, edge, item.back, room)?)?;
     Ok(())
 }
 
@@ -170,7 +186,7 @@ fn move_before(
         return Ok(());
     };
     add_links(alloc, fst, others, &item, room, found)?;
-    move_link(alloc, fst, *last, item, found)
+    move_link(alloc, fst, *last, item, room, found)
 }
 
 /// Goes back from these items by edges with a left symbol. The items before them take their place.
@@ -215,7 +231,7 @@ fn add_silent_link(
         return Ok(());
     }
     let back = copy_symbols(alloc, &item.back, room)?;
-    items.push(item_before(alloc, edge, back)?)?;
+    items.push(item_before(alloc, edge, back, room)?)?;
     Ok(())
 }
 
@@ -320,8 +336,8 @@ fn close_back(
     rounds_back(alloc, fst, links, room, items)
 }
 
-/// The final ones of these states, with an empty output that has room for so many symbols.
-fn final_items(alloc: Global, fst: &Fst, states: &[usize], room: usize) -> Result<Vec<Item>, Memory>
+/// The final ones of these states, with an empty output.
+fn final_items(alloc: Global, fst: &Fst, states: &[usize]) -> Result<Vec<Item>, Memory>
     ensures { IfOk result (λ items. AreFinals fst.now states.now items.items) }
 {
     let mut items = Vec::new(alloc);
@@ -329,7 +345,7 @@ fn final_items(alloc: Global, fst: &Fst, states: &[usize], room: usize) -> Resul
         if fst.is_final(*state) {
             items.push(Item {
                 state: *state,
-                back: Sequence::from_vec(Vec::with_capacity(alloc, room)?),
+                back: Sequence::new(alloc),
             })?;
         }
     }
@@ -370,7 +386,7 @@ fn outputs_back(alloc: Global, fst: &Fst, rows: &[SharedRow]) -> Result<Vec<Symb
     let mut at = rows.len() - 1;
     let room = rows.len().saturating_add(SPARE);
     let last = &rows[at];
-    let mut items = final_items(alloc, fst, last.states(), room)?;
+    let mut items = final_items(alloc, fst, last.states())?;
     let mut found = Vec::new(alloc);
     close_back(alloc, fst, last.silent(), room, &mut items)?;
     while at > 0 {

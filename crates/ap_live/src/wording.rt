@@ -50,6 +50,9 @@ fn sort_words(words: &mut Vec<Word>)
     ensures members { (w : List Symbol) → IsIn w words.new.items ↔ IsIn w words.old.items }
     ensures order { IsStrictlySortedBy word_cmp words.new.items }
 {
+    if words.len() < 2 {
+        return;
+    }
     one_rendering();
     words.sort_unstable_by(|a, b| compare(a, b));
     words.dedup_by(|a, b| compare(a, b).is_eq());
