@@ -1,4 +1,4 @@
-use Rattle.std.proofs.Common.{◌≡◌, ◌⊎◌, inl, inr, ℕ, ◌+◌, ◌<◌, Bool, true, nat_eq, List, [], ◌∷◌, ◌++◌, refl, sym, ◌∙◌, ap, subst, arith, Option, Some, None, slice_get, length, take, suc, zero, length-append, ◌-◌, ◌≤◌}
+use Rattle.std.proofs.Common.{◌≡◌, ◌⊎◌, inl, inr, ℕ, ◌+◌, ◌<◌, Bool, true, nat_eq, List, [], ◌∷◌, ◌++◌, refl, sym, ◌∙◌, ap, subst, arith, Some, None, slice_get, length, take, suc, zero, length-append, ◌-◌, ◌≤◌}
 use Rattle.std.proofs.lemmas.List.{take-append-le}
 use Rattle.std.proofs.lemmas.Bool.Decides.{nat_tests}
 use Rattle.std.specs.Prelude.{◌↔◌}
@@ -11,10 +11,10 @@ use Rattle.std.proofs.lemmas.Option.{none-some}
 use Rattle.ap_fst.specs.declared.label.Edge.{Edge}
 use Rattle.ap_live.specs.Fitting.{Input}
 use Rattle.ap_live.specs.Spreads.{arrival, Picked, Spread, PickedFrom, From, given, onward, Closed}
-use Rattle.ap_live.specs.Rows.{Reach, begin, silent, taken, EntersSilently, EntersTaking, IsRow, IsFirst, IsNext, IsVoid, AreRows}
+use Rattle.ap_live.specs.Rows.{Reach, begin, silent, taken, EntersSilently, EntersTaking, IsRow, IsFirst, IsNext, AreRows}
 use Rattle.ap_live.specs.declared.arrivals.Arrival.{Arrival}
 use Rattle.ap_live.specs.declared.rows.Row.{Row}
-use Rattle.ap_live.proofs.Spreading.{in_front, spread_nothing}
+use Rattle.ap_live.proofs.Spreading.{in_front}
 
 pub no_snoc : {X : Type 0} (xs : List X) (x : X) → xs ++ x ∷ [] ≡ [] → ⊥
 no_snoc [] x e = cc
@@ -123,16 +123,6 @@ first_is_row edges row first =
       taken_complete = λ s j e. absurd (no_snoc e.before e.input (sym e.whole));
       silent_sound = λ a i. closed_sound edges [] (0 ∷ []) row a c sound i;
       silent_complete = λ s j e. closed_complete edges [] (0 ∷ []) row s j c complete e;
-    }
-
--- From no state no input leads to a state.
-pub void_next : (edges : List Edge) (pick : Option Input) (row : Row) → IsVoid row → IsNext edges pick row.states.items row
-void_next edges pick row v =
-    let closed : Closed edges [] [] [] [] = record { spread = spread_nothing edges None [] []; sound = λ s i. elim i [ ] } in
-    record {
-      base = [];
-      taken = subst (λ (z : List ℕ). Spread edges pick z [] [] [] row.taken.items) (sym v.states) (subst (λ (z : List Arrival). Spread edges pick [] [] [] [] z) (sym v.taken) (spread_nothing edges pick [] []));
-      closed = subst (λ (z : List ℕ). Closed edges [] [] z row.silent.items) (sym v.states) (subst (λ (z : List Arrival). Closed edges [] [] [] z) (sym v.silent) closed);
     }
 
 -- the last row

@@ -39,16 +39,15 @@ pub record IsRow (edges : List Edge) (seen : List Input) (row : Row) : Type 0 wh
   pub silent_sound : (a : Arrival) → IsIn a row.silent.items → EntersSilently edges seen a.to a.edge
   pub silent_complete : (s j : ℕ) → EntersSilently edges seen s j → IsIn (arrival s j) row.silent.items
 
--- a row with no state and no edge
-pub record IsVoid (row : Row) : Type 0 where
-  pub states : row.states.items ≡ []
-  pub taken : row.taken.items ≡ []
-  pub silent : row.silent.items ≡ []
-
 -- The row's edges stand in the order of the states that they lead to.
 pub record IsOrdered (row : Row) : Type 0 where
   pub taken : IsNonDecreasingBy arrival_to row.taken.items
   pub silent : IsNonDecreasingBy arrival_to row.silent.items
+
+-- the row that is seen: the shared one, or else that of its own lists
+abbrev pub seen_row : Row → Option Row → Row
+seen_row own None = own
+seen_row own (Some row) = row
 
 -- a row for each number of inputs so far, from none on
 pub record AreRows (edges : List Edge) (seen : List Input) (rows : List Row) : Type 0 where

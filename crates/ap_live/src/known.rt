@@ -2,11 +2,13 @@ ghost use Rattle.std.specs.Prelude.{◌≡◌, ◌++◌, take, ◌∷◌, ◌-�
 ghost use Rattle.std.specs.Option.{option_copied};
 ghost use Rattle.ap_fst.specs.declared.label.Edge.{Edge};
 ghost use Rattle.ap_live.specs.Fitting.{Input};
-ghost use Rattle.ap_live.specs.Rows.{IsNext, AreRows, IsKnown, Follows, IsLinked, Tells};
+ghost use Rattle.ap_live.specs.Rows.{IsNext, IsOrdered, AreRows, IsKnown, Follows, IsLinked};
 ghost use Rattle.ap_live.specs.declared.rows.Row.{Row};
 
+use crate::held::{HeldRow, SharedRow, size_of};
 use crate::picking::{Pick, is_symbol};
-use crate::rows::{SharedRow, next_row, share};
+use crate::rows::{Row, next_row};
+use crate::stack::Rows;
 use ap_fst::Fst;
 use ap_symbol::{Memory, Symbol};
 use std::alloc::Global;
@@ -170,16 +172,18 @@ fn row_at(rows: &[SharedRow], at: usize) -> Option<&SharedRow>
 }
 
 /// Adds a known row. After a refusal nothing is changed.
-fn add_known(rows: &mut Vec<SharedRow>, known: &mut Known, to: usize) -> Result<(), Memory>
-    ensures ok { OnOk result ((edges : List Edge) (finals : List ℕ) (seen : List Input) (input : Input) → AreRows edges seen rows.old.items → IsKnown edges finals rows.old.items known.old.rows.items known.old.links.items known.old.path.items
-        → Follows edges rows.old.items known.old.rows.items known.old.path.items input to
-        → AreRows edges (seen ++ input ∷ []) rows.new.items × IsKnown edges finals rows.new.items known.new.rows.items known.new.links.items known.new.path.items) }
-    ensures err { OnErr result ((rows.new.items ≡ rows.old.items) × (known.new.rows.items ≡ known.old.rows.items) × (known.new.links.items ≡ known.old.links.items) × (known.new.path.items ≡ known.old.path.items)) }
+fn add_known(rows: &mut Rows, known: &mut Known, to: usize) -> Result<(), Memory>
+    ensures ok { OnOk result ((edges : List Edge) (finals : List ℕ) (seen : List Input) (input : Input) → AreRows edges seen rows.old → IsKnown edges finals rows.old known.old.rows.items known.old.links.items known.old.path.items
+        → Follows edges rows.old known.old.rows.items known.old.path.items input to
+        → AreRows edges (seen ++ input ∷ []) rows.new × IsKnown edges finals rows.new known.new.rows.items known.new.links.items known.new.path.items) }
+    ensures err { OnErr result ((rows.new ≡ rows.old) × (known.new.rows.items ≡ known.old.rows.items) × (known.new.links.items ≡ known.old.links.items) × (known.new.path.items ≡ known.old.path.items)) }
 {
     let Some(row) = row_at(known.rows.as_slice(), to) else {
         return Ok(());
     };
-    rows.push(row.copy()?)?;
+    let row = row.copy()?;
+    let room = rows.take_room();
+    rows.push(HeldRow::shared(row, room))?;
     let _ = known.path.push(to);
     Ok(())
 }
@@ -188,32 +192,40 @@ fn is_full(known: &Known) -> bool {
     MOST_ROWS <= known.rows.as_slice().len() || MOST_HELD <= known.held
 }
 
-fn held_at(rows: &[SharedRow], at: usize) -> usize {
-    match row_at(rows, at) {
-        None => 0,
-        Some(row) => row.held(),
+/// Whether a row is worth keeping: the rows before it are known, there is room, and it isn't cheap
+/// to compute again from the one before it.
+fn is_worth(known: &Known, rows: &[HeldRow], row: &Row) -> bool {
+    let Some(last) = rows.last() else {
+        return false;
+    };
+    if last.size().saturating_add(size_of(row)) < LEAST_KEPT {
+        return false;
+    }
+    !is_full(known) && known.path.len().max(1) == rows.len()
+}
+
+/// The row at a place, if it is there and shared.
+fn shared_at(rows: &[HeldRow], at: usize) -> Result<Option<SharedRow>, Memory>
+    ensures { IfOk result (λ made. (row : Row) → made ≡ Some row → slice_get rows.now at ≡ Some row) }
+{
+    match rows.get(at) {
+        None => Ok(None),
+        Some(row) => row.copy(),
     }
 }
 
-/// Whether the last row and the one before it, that it is computed from, are small.
-fn is_cheap(rows: &[SharedRow]) -> bool {
-    let last = held_at(rows, rows.len().saturating_sub(1));
-    let before = held_at(rows, rows.len().saturating_sub(2));
-    last.saturating_add(before) < LEAST_KEPT
-}
-
 /// Begins with the first row, where nothing is known.
-fn plant(known: &mut Known, alloc: Global, rows: &[SharedRow]) -> Result<(), Memory>
+fn plant(known: &mut Known, alloc: Global, rows: &[HeldRow]) -> Result<(), Memory>
     ensures { (edges : List Edge) (finals : List ℕ) → IsKnown edges finals rows.now known.old.rows.items known.old.links.items known.old.path.items → IsKnown edges finals rows.now known.new.rows.items known.new.links.items known.new.path.items }
 {
     if !known.rows.as_slice().is_empty() || !known.path.as_slice().is_empty() {
         return Ok(());
     }
-    let Some(first) = row_at(rows, 0) else {
+    let Some(first) = shared_at(rows, 0)? else {
         return Ok(());
     };
     known.guesses = vec![in alloc; 0; GUESSES]?;
-    known.rows.push(first.copy()?)?;
+    known.rows.push(first)?;
     known.path.push(0)?;
     known.heads.push(0)?;
     Ok(())
@@ -239,7 +251,7 @@ fn keep(
         → IsKnown edges finals rows known.old.rows.items known.old.links.items known.old.path.items → IsKnown edges finals rows known.new.rows.items known.new.links.items known.new.path.items }
 {
     let to = known.rows.as_slice().len();
-    let held = row.held();
+    let held = row.size();
     let symbol = input.copy(alloc)?;
     known.heads.push(0)?;
     known.rows.push(row)?;
@@ -259,12 +271,11 @@ fn keep(
     Ok(())
 }
 
-/// Keeps the row after one input more, if that after one less is known, there is room, and it isn't
-/// cheap to compute again.
+/// Keeps the row after one input more, if it is shared, and that after one less is known.
 fn remember(
     known: &mut Known,
     alloc: Global,
-    rows: &[SharedRow],
+    rows: &[HeldRow],
     input: &Symbol,
     sensitive: bool,
 ) -> Result<(), Memory>
@@ -272,63 +283,53 @@ fn remember(
         → IsNext edges (Some (record { symbol = input.now; sensitive = sensitive })) last.states.items row
         → IsKnown edges finals rows.now known.old.rows.items known.old.links.items known.old.path.items → IsKnown edges finals rows.now known.new.rows.items known.new.links.items known.new.path.items }
 {
-    if is_cheap(rows) {
-        return Ok(());
-    }
-    if is_full(known) || known.path.as_slice().len() != rows.len().saturating_sub(1) {
+    let end = rows.len().saturating_sub(1);
+    if known.path.as_slice().len() != end {
         return Ok(());
     }
     let Some(from) = known.path.last() else {
         return Ok(());
     };
     let from = *from;
-    let Some(row) = rows.last() else {
+    let Some(row) = shared_at(rows, end)? else {
         return Ok(());
     };
-    let row = row.copy()?;
     keep(known, alloc, from, row, input, sensitive)
 }
 
-/// The row that this input leads to. From no state it leads to none, and the row is shared.
-fn row_after(
-    alloc: Global,
-    fst: &Fst,
-    hints: &[usize],
-    last: &SharedRow,
-    input: &Symbol,
-    sensitive: bool,
-) -> Result<SharedRow, Memory>
-    ensures next { IfOk result (λ row. IsNext fst.now.edges (Some (record { symbol = input.now; sensitive = sensitive })) last.now.states.items row) }
-    ensures told { IfOk result (λ row. Tells fst.now.finals last.now → Tells fst.now.finals row) }
+/// The row, which is shared where it is worth keeping.
+fn hold(alloc: Global, known: &Known, rows: &[HeldRow], row: Row) -> HeldRow
+    requires { IsOrdered row }
+    ensures { result ≡ row }
 {
-    if last.is_void() {
-        let same = last.copy()?;
-        return Ok(same);
+    if is_worth(known, rows, &row) {
+        return HeldRow::new_shared(alloc, row);
     }
-    let pick = Pick::Fitting(input, sensitive);
-    let row = next_row(alloc, fst, hints, last.states(), pick)?;
-    let shared = share(alloc, row)?;
-    Ok(shared)
+    HeldRow::own(row)
 }
 
 /// Adds a row that is computed. After a refusal nothing is changed.
 fn add_new(
-    rows: &mut Vec<SharedRow>,
+    rows: &mut Rows,
     known: &mut Known,
     fst: &Fst,
     hints: &[usize],
     input: &Symbol,
     sensitive: bool,
 ) -> Result<(), Memory>
-    ensures ok { OnOk result ((seen : List Input) → AreRows fst.now.edges seen rows.old.items → IsKnown fst.now.edges fst.now.finals rows.old.items known.old.rows.items known.old.links.items known.old.path.items
-        → AreRows fst.now.edges (seen ++ record { symbol = input.now; sensitive = sensitive } ∷ []) rows.new.items × IsKnown fst.now.edges fst.now.finals rows.new.items known.new.rows.items known.new.links.items known.new.path.items) }
-    ensures err { OnErr result ((rows.new.items ≡ rows.old.items) × (known.new.rows.items ≡ known.old.rows.items) × (known.new.links.items ≡ known.old.links.items) × (known.new.path.items ≡ known.old.path.items)) }
+    ensures ok { OnOk result ((seen : List Input) → AreRows fst.now.edges seen rows.old → IsKnown fst.now.edges fst.now.finals rows.old known.old.rows.items known.old.links.items known.old.path.items
+        → AreRows fst.now.edges (seen ++ record { symbol = input.now; sensitive = sensitive } ∷ []) rows.new × IsKnown fst.now.edges fst.now.finals rows.new known.new.rows.items known.new.links.items known.new.path.items) }
+    ensures err { OnErr result ((rows.new ≡ rows.old) × (known.new.rows.items ≡ known.old.rows.items) × (known.new.links.items ≡ known.old.links.items) × (known.new.path.items ≡ known.old.path.items)) }
 {
-    let alloc = *rows.allocator();
-    let Some(last) = rows.last() else {
+    let alloc = rows.allocator();
+    let room = rows.take_room();
+    let before = rows.as_slice();
+    let Some(last) = before.last() else {
         return Ok(());
     };
-    let row = row_after(alloc, fst, hints, last, input, sensitive)?;
+    let pick = Pick::Fitting(input, sensitive);
+    let row = next_row(fst, hints, last.states(), pick, room)?;
+    let row = hold(alloc, known, before, row);
     rows.push(row)?;
     let _ = plant(known, alloc, rows.as_slice());
     let _ = remember(known, alloc, rows.as_slice(), input, sensitive);
@@ -338,18 +339,18 @@ fn add_new(
 /// Adds the row after one input more: a known one, or else one that is computed. After a refusal
 /// nothing is changed.
 pub(crate) fn add_row(
-    rows: &mut Vec<SharedRow>,
+    rows: &mut Rows,
     known: &mut Known,
     fst: &Fst,
     hints: &[usize],
     input: &Symbol,
     sensitive: bool,
 ) -> Result<(), Memory>
-    ensures ok { OnOk result ((seen : List Input) → AreRows fst.now.edges seen rows.old.items → IsKnown fst.now.edges fst.now.finals rows.old.items known.old.rows.items known.old.links.items known.old.path.items
-        → AreRows fst.now.edges (seen ++ record { symbol = input.now; sensitive = sensitive } ∷ []) rows.new.items × IsKnown fst.now.edges fst.now.finals rows.new.items known.new.rows.items known.new.links.items known.new.path.items) }
-    ensures err { OnErr result ((rows.new.items ≡ rows.old.items) × (known.new.rows.items ≡ known.old.rows.items) × (known.new.links.items ≡ known.old.links.items) × (known.new.path.items ≡ known.old.path.items)) }
+    ensures ok { OnOk result ((seen : List Input) → AreRows fst.now.edges seen rows.old → IsKnown fst.now.edges fst.now.finals rows.old known.old.rows.items known.old.links.items known.old.path.items
+        → AreRows fst.now.edges (seen ++ record { symbol = input.now; sensitive = sensitive } ∷ []) rows.new × IsKnown fst.now.edges fst.now.finals rows.new known.new.rows.items known.new.links.items known.new.path.items) }
+    ensures err { OnErr result ((rows.new ≡ rows.old) × (known.new.rows.items ≡ known.old.rows.items) × (known.new.links.items ≡ known.old.links.items) × (known.new.path.items ≡ known.old.path.items)) }
 {
-    match find(known, rows.as_slice().len(), input, sensitive) {
+    match find(known, rows.len(), input, sensitive) {
         None => add_new(rows, known, fst, hints, input, sensitive),
         Some(to) => add_known(rows, known, to),
     }
@@ -371,11 +372,11 @@ fn forget(known: &mut Known)
 
 /// Goes back to the rows of the first so many inputs. At none of them known rows are forgotten where
 /// these are too many.
-pub(crate) fn cut_rows(rows: &mut Vec<SharedRow>, known: &mut Known, len: usize)
-    ensures { (edges : List Edge) (finals : List ℕ) (seen : List Input) → AreRows edges seen rows.old.items → IsKnown edges finals rows.old.items known.old.rows.items known.old.links.items known.old.path.items
-        → AreRows edges (take len seen) rows.new.items × IsKnown edges finals rows.new.items known.new.rows.items known.new.links.items known.new.path.items }
+pub(crate) fn cut_rows(rows: &mut Rows, known: &mut Known, len: usize)
+    ensures { (edges : List Edge) (finals : List ℕ) (seen : List Input) → AreRows edges seen rows.old → IsKnown edges finals rows.old known.old.rows.items known.old.links.items known.old.path.items
+        → AreRows edges (take len seen) rows.new × IsKnown edges finals rows.new known.new.rows.items known.new.links.items known.new.path.items }
 {
-    if rows.as_slice().len() <= len {
+    if rows.len() <= len {
         return;
     }
     rows.truncate(len + 1);

@@ -5,7 +5,7 @@ use Rattle.ap_live.proofs.Spreading.{closed_sorted}
 use Rattle.ap_live.proofs.rows.closed_row.Goals as goal
 
 pub returns-clause-closed : goal.returns-clause-closed
-returns-clause-closed c = closed_sorted c.args.fst.now.edges c.args.base.items c.new-silent.result.items c.close.new.states.items c.close.new.links.items c.sort_arrivals.new.arrivals.items c.new-silent.ensures.items c.sort_arrivals.ensures.members c.in_ok-close.ensures
+returns-clause-closed c = closed_sorted c.args.fst.now.edges c.args.base.states.items c.clear.new.self.items c.close.new.states.items c.close.new.links.items c.sort_arrivals.new.arrivals.items c.clear.ensures.items c.sort_arrivals.ensures.members c.in_ok-close.ensures
 
 pub returns-clause-order : goal.returns-clause-order
 returns-clause-order c = record { taken = c.requires.order; silent = c.sort_arrivals.ensures.order }
