@@ -39,6 +39,12 @@ pub record IsRow (edges : List Edge) (seen : List Input) (row : Row) : Type 0 wh
   pub silent_sound : (a : Arrival) → IsIn a row.silent.items → EntersSilently edges seen a.to a.edge
   pub silent_complete : (s j : ℕ) → EntersSilently edges seen s j → IsIn (arrival s j) row.silent.items
 
+-- a row with no state and no edge
+pub record IsVoid (row : Row) : Type 0 where
+  pub states : row.states.items ≡ []
+  pub taken : row.taken.items ≡ []
+  pub silent : row.silent.items ≡ []
+
 -- The row's edges stand in the order of the states that they lead to.
 pub record IsOrdered (row : Row) : Type 0 where
   pub taken : IsNonDecreasingBy arrival_to row.taken.items

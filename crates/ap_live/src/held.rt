@@ -13,6 +13,7 @@ use crate::rows::{Row, no_row};
 use ap_symbol::Memory;
 use std::alloc::Global;
 use std::marker::Model;
+use std::mem;
 use std::rc::Rc;
 
 /// A row that is shared, so that a copy takes no memory. Contracts see the row. Its edges stand in
@@ -50,7 +51,7 @@ impl SharedRow {
 }
 
 /// How many states and edges a row holds.
-pub(crate) fn size_of(row: &Row) -> usize {
+fn size_of(row: &Row) -> usize {
     row.states
         .len()
         .saturating_add(row.taken.len())
@@ -89,31 +90,48 @@ impl HeldRow {
         }
     }
 
-    /// A row that is shared. It keeps the lists of another as room.
-    pub(crate) fn shared(row: SharedRow, room: Row) -> HeldRow
+    /// A row that is shared.
+    pub(crate) fn shared(alloc: Global, row: SharedRow) -> HeldRow
         ensures { result ≡ row }
     {
         HeldRow {
-            own: room,
+            own: no_row(alloc),
             shared: Some(row),
         }
     }
 
-    /// A row that is shared from now on. Where there is no memory for that it stands in lists of
-    /// its own.
-    pub(crate) fn new_shared(alloc: Global, row: Row) -> HeldRow
-        requires { IsOrdered row }
-        ensures { result ≡ row }
+    /// Becomes a row that stands in lists of its own. The lists that it had take the row's place.
+    pub(crate) fn take_over(&mut self, row: &mut Row)
+        requires { IsOrdered row.old }
+        ensures { self.new ≡ row.old }
     {
-        match Rc::new(alloc, row) {
-            Ok(row) => HeldRow::shared(SharedRow { row }, no_row(alloc)),
-            Err(refused) => HeldRow::own(refused.value),
-        }
+        mem::swap(&mut self.own, row);
+        self.shared = None;
     }
 
-    /// The lists of its own, as room.
-    pub(crate) fn into_room(self) -> Row {
-        self.own
+    /// Becomes a row that is shared, and keeps the lists of its own as room.
+    pub(crate) fn become_shared(&mut self, row: SharedRow)
+        ensures { self.new ≡ row }
+    {
+        self.shared = Some(row);
+    }
+
+    /// Shares the row from now on, if there is memory for that.
+    pub(crate) fn share(&mut self, alloc: Global)
+        ensures { self.new ≡ self.old }
+    {
+        if self.shared.is_some() {
+            return;
+        }
+        let row = mem::replace(&mut self.own, no_row(alloc));
+        match Rc::new(alloc, row) {
+            Ok(row) => {
+                self.shared = Some(SharedRow { row });
+            }
+            Err(refused) => {
+                self.own = refused.value;
+            }
+        }
     }
 
     pub(crate) fn row(&self) -> &Row

@@ -2,12 +2,11 @@ ghost use Rattle.std.specs.Prelude.{◌≡◌, ◌++◌, take, ◌∷◌, ◌-�
 ghost use Rattle.std.specs.Option.{option_copied};
 ghost use Rattle.ap_fst.specs.declared.label.Edge.{Edge};
 ghost use Rattle.ap_live.specs.Fitting.{Input};
-ghost use Rattle.ap_live.specs.Rows.{IsNext, IsOrdered, AreRows, IsKnown, Follows, IsLinked};
+ghost use Rattle.ap_live.specs.Rows.{IsNext, AreRows, IsKnown, Follows, IsLinked};
 ghost use Rattle.ap_live.specs.declared.rows.Row.{Row};
 
-use crate::held::{HeldRow, SharedRow, size_of};
+use crate::held::{HeldRow, SharedRow};
 use crate::picking::{Pick, is_symbol};
-use crate::rows::{Row, next_row};
 use crate::stack::Rows;
 use ap_fst::Fst;
 use ap_symbol::{Memory, Symbol};
@@ -181,9 +180,7 @@ fn add_known(rows: &mut Rows, known: &mut Known, to: usize) -> Result<(), Memory
     let Some(row) = row_at(known.rows.as_slice(), to) else {
         return Ok(());
     };
-    let row = row.copy()?;
-    let room = rows.take_room();
-    rows.push(HeldRow::shared(row, room))?;
+    rows.push_shared(row.copy()?)?;
     let _ = known.path.push(to);
     Ok(())
 }
@@ -192,16 +189,19 @@ fn is_full(known: &Known) -> bool {
     MOST_ROWS <= known.rows.as_slice().len() || MOST_HELD <= known.held
 }
 
-/// Whether a row is worth keeping: the rows before it are known, there is room, and it isn't cheap
-/// to compute again from the one before it.
-fn is_worth(known: &Known, rows: &[HeldRow], row: &Row) -> bool {
-    let Some(last) = rows.last() else {
-        return false;
-    };
-    if last.size().saturating_add(size_of(row)) < LEAST_KEPT {
-        return false;
+/// How many states and edges the row at a place holds.
+fn size_at(rows: &[HeldRow], at: usize) -> usize {
+    match rows.get(at) {
+        None => 0,
+        Some(row) => row.size(),
     }
-    !is_full(known) && known.path.len().max(1) == rows.len()
+}
+
+/// Whether the last row and the one before it, that it is computed from, are small.
+fn is_cheap(rows: &[HeldRow]) -> bool {
+    let last = size_at(rows, rows.len().saturating_sub(1));
+    let before = size_at(rows, rows.len().saturating_sub(2));
+    last.saturating_add(before) < LEAST_KEPT
 }
 
 /// The row at a place, if it is there and shared.
@@ -271,18 +271,22 @@ fn keep(
     Ok(())
 }
 
-/// Keeps the row after one input more, if it is shared, and that after one less is known.
+/// Keeps the row after one input more, if that after one less is known, there is room, and it isn't
+/// cheap to compute again.
 fn remember(
     known: &mut Known,
-    alloc: Global,
-    rows: &[HeldRow],
+    rows: &mut Rows,
     input: &Symbol,
     sensitive: bool,
 ) -> Result<(), Memory>
-    ensures { (edges : List Edge) (finals : List ℕ) (before : List Row) (last row : Row) → rows.now ≡ before ++ row ∷ [] → slice_get before (length before - 1) ≡ Some last
+    ensures same { rows.new ≡ rows.old }
+    ensures known { (edges : List Edge) (finals : List ℕ) (before : List Row) (last row : Row) → rows.old ≡ before ++ row ∷ [] → slice_get before (length before - 1) ≡ Some last
         → IsNext edges (Some (record { symbol = input.now; sensitive = sensitive })) last.states.items row
-        → IsKnown edges finals rows.now known.old.rows.items known.old.links.items known.old.path.items → IsKnown edges finals rows.now known.new.rows.items known.new.links.items known.new.path.items }
+        → IsKnown edges finals rows.old known.old.rows.items known.old.links.items known.old.path.items → IsKnown edges finals rows.old known.new.rows.items known.new.links.items known.new.path.items }
 {
+    if is_full(known) || is_cheap(rows.as_slice()) {
+        return Ok(());
+    }
     let end = rows.len().saturating_sub(1);
     if known.path.as_slice().len() != end {
         return Ok(());
@@ -291,21 +295,11 @@ fn remember(
         return Ok(());
     };
     let from = *from;
-    let Some(row) = shared_at(rows, end)? else {
+    rows.share_last();
+    let Some(row) = shared_at(rows.as_slice(), end)? else {
         return Ok(());
     };
-    keep(known, alloc, from, row, input, sensitive)
-}
-
-/// The row, which is shared where it is worth keeping.
-fn hold(alloc: Global, known: &Known, rows: &[HeldRow], row: Row) -> HeldRow
-    requires { IsOrdered row }
-    ensures { result ≡ row }
-{
-    if is_worth(known, rows, &row) {
-        return HeldRow::new_shared(alloc, row);
-    }
-    HeldRow::own(row)
+    keep(known, rows.allocator(), from, row, input, sensitive)
 }
 
 /// Adds a row that is computed. After a refusal nothing is changed.
@@ -321,18 +315,10 @@ fn add_new(
         → AreRows fst.now.edges (seen ++ record { symbol = input.now; sensitive = sensitive } ∷ []) rows.new × IsKnown fst.now.edges fst.now.finals rows.new known.new.rows.items known.new.links.items known.new.path.items) }
     ensures err { OnErr result ((rows.new ≡ rows.old) × (known.new.rows.items ≡ known.old.rows.items) × (known.new.links.items ≡ known.old.links.items) × (known.new.path.items ≡ known.old.path.items)) }
 {
-    let alloc = rows.allocator();
-    let room = rows.take_room();
-    let before = rows.as_slice();
-    let Some(last) = before.last() else {
-        return Ok(());
-    };
     let pick = Pick::Fitting(input, sensitive);
-    let row = next_row(fst, hints, last.states(), pick, room)?;
-    let row = hold(alloc, known, before, row);
-    rows.push(row)?;
-    let _ = plant(known, alloc, rows.as_slice());
-    let _ = remember(known, alloc, rows.as_slice(), input, sensitive);
+    rows.push_next(fst, hints, pick)?;
+    let _ = plant(known, rows.allocator(), rows.as_slice());
+    let _ = remember(known, rows, input, sensitive);
     Ok(())
 }
 

@@ -4,7 +4,7 @@ ghost use Rattle.std.specs.List.Sorted.{IsNonDecreasingBy};
 ghost use Rattle.std.specs.Option.{option_copied};
 ghost use Rattle.ap_fst.specs.declared.label.Edge.{Edge};
 ghost use Rattle.ap_fst.specs.Lists.{IsIn};
-ghost use Rattle.ap_live.specs.Rows.{IsFirst, IsNext, IsOrdered, Tells};
+ghost use Rattle.ap_live.specs.Rows.{IsFirst, IsNext, IsOrdered, IsVoid, Tells};
 ghost use Rattle.ap_live.specs.declared.rows.Row.{Row};
 ghost use Rattle.ap_live.specs.Fitting.{Input, pick_of, picks};
 ghost use Rattle.ap_live.specs.Runs.{IsRun, Leaves, LeavesSilently};
@@ -288,7 +288,8 @@ fn holds_final(fst: &Fst, states: &[usize]) -> bool
 
 /// A row with no state and no edge, which takes no memory.
 pub(crate) fn no_row(alloc: Global) -> Row
-    ensures { IsOrdered result }
+    ensures void { IsVoid result }
+    ensures order { IsOrdered result }
 {
     Row {
         states: Vec::new(alloc),
@@ -298,61 +299,54 @@ pub(crate) fn no_row(alloc: Global) -> Row
     }
 }
 
-/// A row with states and edges that took an input is given. It gets all that edges with an empty
-/// left side lead to from them, in the room of its list.
-fn closed_row(fst: &Fst, hints: &[usize], base: Row) -> Result<Row, Memory>
-    requires distinct { IsDistinct nat_eq base.states.items }
-    requires below { (s : ℕ) → IsIn s base.states.items → s < fst.now.states }
-    requires order { IsNonDecreasingBy arrival_to base.taken.items }
-    ensures taken { IfOk result (λ row. row.taken.items ≡ base.taken.items) }
-    ensures closed { IfOk result (λ row. Closed fst.now.edges base.states.items [] row.states.items row.silent.items) }
-    ensures order { IfOk result (λ row. IsOrdered row) }
-    ensures told { IfOk result (λ row. Tells fst.now.finals row) }
+/// Goes on from the states of a row, and the edges that took an input, to all that edges with an
+/// empty left side lead to. What else the row holds is room alone.
+fn close_row(fst: &Fst, hints: &[usize], row: &mut Row) -> Result<(), Memory>
+    requires distinct { IsDistinct nat_eq row.old.states.items }
+    requires below { (s : ℕ) → IsIn s row.old.states.items → s < fst.now.states }
+    requires order { IsNonDecreasingBy arrival_to row.old.taken.items }
+    ensures taken { OnOk result (row.new.taken.items ≡ row.old.taken.items) }
+    ensures closed { OnOk result (Closed fst.now.edges row.old.states.items [] row.new.states.items row.new.silent.items) }
+    ensures order { OnOk result (IsOrdered row.new) }
+    ensures told { OnOk result (Tells fst.now.finals row.new) }
 {
-    let mut states = base.states;
-    let mut silent = base.silent;
-    silent.clear();
-    close(fst, hints, &mut states, &mut silent)?;
-    sort_arrivals(&mut silent);
-    let ends = holds_final(fst, states.as_slice());
-    Ok(Row {
-        states,
-        taken: base.taken,
-        silent,
-        ends,
-    })
+    row.silent.clear();
+    close(fst, hints, &mut row.states, &mut row.silent)?;
+    sort_arrivals(&mut row.silent);
+    row.ends = holds_final(fst, row.states.as_slice());
+    Ok(())
 }
 
-/// The row after one input more, in the room of the lists of another, whatever these hold.
-pub(crate) fn next_row(
+/// Makes a row that after one input more. What it holds is room alone.
+pub(crate) fn fill_row(
     fst: &Fst,
     hints: &[usize],
     last: &[usize],
     pick: Pick<'_>,
-    room: Row,
-) -> Result<Row, Memory>
-    ensures next { IfOk result (λ row. IsNext fst.now.edges (pick_of pick.entry) last.now row) }
-    ensures order { IfOk result (λ row. IsOrdered row) }
-    ensures told { IfOk result (λ row. Tells fst.now.finals row) }
+    row: &mut Row,
+) -> Result<(), Memory>
+    ensures next { OnOk result (IsNext fst.now.edges (pick_of pick.entry) last.now row.new) }
+    ensures order { OnOk result (IsOrdered row.new) }
+    ensures told { OnOk result (Tells fst.now.finals row.new) }
 {
     let _ = fst.states();
-    let mut states = room.states;
-    let mut taken = room.taken;
-    states.clear();
-    taken.clear();
+    row.states.clear();
+    row.taken.clear();
     let other = other_symbol(pick);
     let partner = other.as_ref();
-    spread(fst, hints, last, pick, partner, &mut states, &mut taken)?;
-    sort_states(&mut states);
-    sort_arrivals(&mut taken);
-    let base = Row {
-        states,
-        taken,
-        silent: room.silent,
-        ends: false,
-    };
-    let row = closed_row(fst, hints, base)?;
-    Ok(row)
+    spread(
+        fst,
+        hints,
+        last,
+        pick,
+        partner,
+        &mut row.states,
+        &mut row.taken,
+    )?;
+    sort_states(&mut row.states);
+    sort_arrivals(&mut row.taken);
+    close_row(fst, hints, row)?;
+    Ok(())
 }
 
 /// The row before any input.
@@ -362,14 +356,8 @@ pub(crate) fn first_row(alloc: Global, fst: &Fst, hints: &[usize]) -> Result<Row
     ensures told { IfOk result (λ row. Tells fst.now.finals row) }
 {
     let _ = fst.states();
-    let mut states = Vec::new(alloc);
-    states.push(0)?;
-    let base = Row {
-        states,
-        taken: Vec::new(alloc),
-        silent: Vec::new(alloc),
-        ends: false,
-    };
-    let row = closed_row(fst, hints, base)?;
+    let mut row = no_row(alloc);
+    row.states.push(0)?;
+    close_row(fst, hints, &mut row)?;
     Ok(row)
 }

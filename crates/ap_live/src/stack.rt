@@ -1,9 +1,11 @@
-ghost use Rattle.std.specs.Prelude.{◌≡◌, ◌++◌, ◌∷◌, ℕ, [], List, IfOk, OnOk, OnErr, Some, length, slice_get, take};
-ghost use Rattle.ap_live.specs.Rows.{AreRows, Tells};
+ghost use Rattle.std.specs.Prelude.{◌≡◌, ◌++◌, ◌∷◌, ◌-◌, ℕ, [], List, IfOk, OnOk, OnErr, Some, length, slice_get, take};
+ghost use Rattle.ap_live.specs.Fitting.{pick_of};
+ghost use Rattle.ap_live.specs.Rows.{AreRows, IsNext, Tells};
 ghost use Rattle.ap_live.specs.declared.rows.Row.{Row};
 
-use crate::held::HeldRow;
-use crate::rows::{Row, first_row, no_row};
+use crate::held::{HeldRow, SharedRow};
+use crate::picking::Pick;
+use crate::rows::{Row, fill_row, first_row, no_row};
 use ap_fst::Fst;
 use ap_symbol::Memory;
 use std::alloc::Global;
@@ -63,29 +65,58 @@ impl Rows {
         self.count
     }
 
-    /// The lists of a row that is no longer there, for another.
-    pub(crate) fn take_room(&mut self) -> Row
-        ensures { self.new ≡ self.old }
+    /// Adds the row that the picked edges lead to from the last one. After a refusal nothing is
+    /// changed.
+    pub(crate) fn push_next(
+        &mut self,
+        fst: &Fst,
+        hints: &[usize],
+        pick: Pick<'_>,
+    ) -> Result<(), Memory>
+        ensures ok { OnOk result ((last : Row) → slice_get self.old (length self.old - 1) ≡ Some last → (row : Row) × ((self.new ≡ self.old ++ row ∷ []) × IsNext fst.now.edges (pick_of pick.entry) last.states.items row × Tells fst.now.finals row)) }
+        ensures err { OnErr result (self.new ≡ self.old) }
     {
-        let alloc = self.allocator();
-        mem::replace(&mut self.room, no_row(alloc))
+        let Some(last) = self.held[..self.count].last() else {
+            return Ok(());
+        };
+        fill_row(fst, hints, last.states(), pick, &mut self.room)?;
+        if self.held.len() <= self.count {
+            let room = no_row(self.allocator());
+            self.held
+                .push(HeldRow::own(mem::replace(&mut self.room, room)))?;
+            self.count += 1;
+            return Ok(());
+        }
+        self.held[self.count].take_over(&mut self.room);
+        self.count += 1;
+        Ok(())
     }
 
-    /// Adds a row. Room is kept of the lists of that which stood in its place. After a refusal
-    /// nothing is changed.
-    pub(crate) fn push(&mut self, row: HeldRow) -> Result<(), Memory>
+    /// Adds a row that is shared. After a refusal nothing is changed.
+    pub(crate) fn push_shared(&mut self, row: SharedRow) -> Result<(), Memory>
         ensures ok { OnOk result (self.new ≡ self.old ++ row ∷ []) }
         ensures err { OnErr result (self.new ≡ self.old) }
     {
         if self.held.len() <= self.count {
-            self.held.push(row)?;
+            let alloc = self.allocator();
+            self.held.push(HeldRow::shared(alloc, row))?;
             self.count += 1;
             return Ok(());
         }
-        let before = mem::replace(&mut self.held[self.count], row);
-        self.room = before.into_room();
+        self.held[self.count].become_shared(row);
         self.count += 1;
         Ok(())
+    }
+
+    /// Shares the last row from now on, if there is memory for that.
+    pub(crate) fn share_last(&mut self)
+        ensures { self.new ≡ self.old }
+    {
+        if self.count == 0 {
+            return;
+        }
+        let alloc = self.allocator();
+        self.held[self.count - 1].share(alloc);
     }
 
     /// Goes back to so many rows. It takes no memory.
@@ -108,6 +139,8 @@ pub(crate) fn first_rows(alloc: Global, fst: &Fst, hints: &[usize]) -> Result<Ro
     ensures told { IfOk result (λ rows. (at : ℕ) (row : Row) → slice_get rows at ≡ Some row → Tells fst.now.finals row) }
 {
     let row = first_row(alloc, fst, hints)?;
-    let rows = Rows::one(alloc, HeldRow::new_shared(alloc, row))?;
+    let mut first = HeldRow::own(row);
+    first.share(alloc);
+    let rows = Rows::one(alloc, first)?;
     Ok(rows)
 }
