@@ -284,11 +284,11 @@ fn remember(
         → IsNext edges (Some (record { symbol = input.now; sensitive = sensitive })) last.states.items row
         → IsKnown edges finals rows.old known.old.rows.items known.old.links.items known.old.path.items → IsKnown edges finals rows.old known.new.rows.items known.new.links.items known.new.path.items }
 {
-    if is_full(known) || is_cheap(rows.as_slice()) {
-        return Ok(());
-    }
     let end = rows.len().saturating_sub(1);
     if known.path.as_slice().len() != end {
+        return Ok(());
+    }
+    if is_full(known) || is_cheap(rows.as_slice()) {
         return Ok(());
     }
     let Some(from) = known.path.last() else {
