@@ -3,6 +3,7 @@ pub mod Others
 pub mod Running
 pub mod Arriving
 pub mod RowLaws
+pub mod StackLaws
 pub mod KnownLaws
 pub mod Backing
 pub mod TailLaws

@@ -1,4 +1,4 @@
-use Rattle.std.proofs.Common.{◌≡◌, ◌⊎◌, inl, inr, ℕ, ◌+◌, ◌<◌, Bool, true, nat_eq, List, [], ◌∷◌, ◌++◌, refl, sym, ◌∙◌, ap, subst, arith, Option, Some, None, slice_get, length, take, suc, zero, length-append, ◌-◌, ◌≤◌}
+use Rattle.std.proofs.Common.{◌≡◌, ◌⊎◌, inl, inr, ℕ, ◌+◌, ◌<◌, Bool, true, nat_eq, List, [], ◌∷◌, ◌++◌, refl, sym, ◌∙◌, ap, subst, arith, Some, None, slice_get, length, take, suc, zero, length-append, ◌-◌, ◌≤◌}
 use Rattle.std.proofs.lemmas.List.{take-append-le}
 use Rattle.std.proofs.lemmas.Bool.Decides.{nat_tests}
 use Rattle.std.specs.Prelude.{◌↔◌}
@@ -11,10 +11,10 @@ use Rattle.std.proofs.lemmas.Option.{none-some}
 use Rattle.ap_fst.specs.declared.label.Edge.{Edge}
 use Rattle.ap_live.specs.Fitting.{Input}
 use Rattle.ap_live.specs.Spreads.{arrival, Picked, Spread, PickedFrom, From, given, onward, Closed}
-use Rattle.ap_live.specs.Rows.{Reach, begin, silent, taken, EntersSilently, EntersTaking, IsRow, IsFirst, IsNext, IsVoid, AreRows}
+use Rattle.ap_live.specs.Rows.{Reach, begin, silent, taken, EntersSilently, EntersTaking, IsRow, IsFirst, IsNext, AreRows}
 use Rattle.ap_live.specs.declared.arrivals.Arrival.{Arrival}
 use Rattle.ap_live.specs.declared.rows.Row.{Row}
-use Rattle.ap_live.proofs.Spreading.{in_front, spread_nothing}
+use Rattle.ap_live.proofs.Spreading.{in_front}
 
 pub no_snoc : {X : Type 0} (xs : List X) (x : X) → xs ++ x ∷ [] ≡ [] → ⊥
 no_snoc [] x e = cc
@@ -125,16 +125,6 @@ first_is_row edges row first =
       silent_complete = λ s j e. closed_complete edges [] (0 ∷ []) row s j c complete e;
     }
 
--- From no state no input leads to a state.
-pub void_next : (edges : List Edge) (pick : Option Input) (row : Row) → IsVoid row → IsNext edges pick row.states.items row
-void_next edges pick row v =
-    let closed : Closed edges [] [] [] [] = record { spread = spread_nothing edges None [] []; sound = λ s i. elim i [ ] } in
-    record {
-      base = [];
-      taken = subst (λ (z : List ℕ). Spread edges pick z [] [] [] row.taken.items) (sym v.states) (subst (λ (z : List Arrival). Spread edges pick [] [] [] [] z) (sym v.taken) (spread_nothing edges pick [] []));
-      closed = subst (λ (z : List ℕ). Closed edges [] [] z row.silent.items) (sym v.states) (subst (λ (z : List Arrival). Closed edges [] [] [] z) (sym v.silent) closed);
-    }
-
 -- the last row
 pub last_row : (edges : List Edge) (seen : List Input) (rows : List Row) (row : Row) (k : ℕ) → AreRows edges seen rows → k + 1 ≡ length rows → slice_get rows k ≡ Some row → IsRow edges seen row
 last_row edges seen rows row k live n at =
@@ -181,6 +171,18 @@ last_read edges seen rows inside slice last live v d at =
     let c : length rows ≡ length seen + 1 = live.count in
     let at' : slice_get rows (length rows - 1) ≡ Some last = ap (λ x. slice_get x (length x - 1)) (sym same) ∙ sym at in
     last_row edges seen rows last (length rows - 1) live (omega arith) at'
+
+end_there : {X : Type 0} (x : X) (xs : List X) → (y : X) × (slice_get (x ∷ xs) (length xs) ≡ Some y)
+end_there x [] = (x, refl)
+end_there x (y ∷ xs) = end_there y xs
+
+-- There is a last row.
+pub last_there : (rows : List Row) (n : ℕ) → length rows ≡ n + 1 → (last : Row) × (slice_get rows (length rows - 1) ≡ Some last)
+last_there [] n e = absurd (omega (arith, e))
+last_there (x ∷ xs) n e =
+    let (y, at) = end_there x xs in
+    let less : length (x ∷ xs) - 1 ≡ length xs = omega arith in
+    (y, ap (λ (k : ℕ). slice_get (x ∷ xs) k) less ∙ at)
 
 pub step_law : (edges : List Edge) (seen : List Input) (input : Input) (rows inside slice rows' : List Row) (last row : Row) (froms : List ℕ) → AreRows edges seen rows → inside ≡ rows → slice ≡ inside
     → Some last ≡ slice_get slice (length slice - 1) → froms ≡ last.states.items → IsNext edges (Some input) froms row → rows' ≡ inside ++ row ∷ [] → AreRows edges (seen ++ input ∷ []) rows'

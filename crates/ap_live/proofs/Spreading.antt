@@ -301,6 +301,12 @@ start_distinct xs e = subst (λ (x : List ℕ). IsDistinct nat_eq (x ++ 0 ∷ []
 pub none_ordered : IsNonDecreasingBy arrival_to []
 none_ordered i j d le lt = absurd (omega arith)
 
+pub few_distinct : (xs : List ℕ) → length xs < 2 → IsDistinct nat_eq xs
+unfolding IsDistinct
+few_distinct [] few = tt
+few_distinct (x ∷ []) few = (tt, tt)
+few_distinct (x ∷ y ∷ xs) few = absurd (omega arith)
+
 -- the states put into order, each once, and the arrivals put into order
 pub spread_sorted : (edges : List Edge) (pick : Option Input) (froms raw base : List ℕ) (links links' : List Arrival) → ((s : ℕ) → IsIn s base ↔ IsIn s raw) → IsDistinct nat_eq base → ((a : Arrival) → IsIn a links' ↔ IsIn a links) → Spread edges pick froms [] [] raw links
     → Spread edges pick froms [] [] base links'

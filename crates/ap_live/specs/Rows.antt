@@ -50,6 +50,11 @@ pub record IsOrdered (row : Row) : Type 0 where
   pub taken : IsNonDecreasingBy arrival_to row.taken.items
   pub silent : IsNonDecreasingBy arrival_to row.silent.items
 
+-- the row that is seen: the shared one, or else that of its own lists
+abbrev pub seen_row : Row → Option Row → Row
+seen_row own None = own
+seen_row own (Some row) = row
+
 -- a row for each number of inputs so far, from none on
 pub record AreRows (edges : List Edge) (seen : List Input) (rows : List Row) : Type 0 where
   pub count : length rows ≡ length seen + 1

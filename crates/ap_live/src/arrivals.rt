@@ -16,6 +16,9 @@ pub(crate) fn sort_arrivals(arrivals: &mut Vec<Arrival>)
     ensures members { (a : Arrival) → IsIn a arrivals.new.items ↔ IsIn a arrivals.old.items }
     ensures order { IsNonDecreasingBy arrival_to arrivals.new.items }
 {
+    if arrivals.len() < 2 {
+        return;
+    }
     arrivals.sort_unstable_by_key(|a| a.to);
 }
 

@@ -13,7 +13,7 @@ ghost use Rattle.ap_symbol.specs.Words.{is_word_symbol};
 ghost use Rattle.ap_symbol.specs.declared.symbol.Symbol.{Symbol};
 
 use crate::arrivals::{Arrival, arrivals_at};
-use crate::rows::SharedRow;
+use crate::held::HeldRow;
 use ap_fst::{Edge, Fst, empty_cycle_law};
 use ap_symbol::{Memory, Sequence, Symbol};
 use std::alloc::Global;
@@ -375,7 +375,7 @@ fn at_start(alloc: Global, items: Vec<Item>) -> Result<Vec<Symbols>, Memory>
 }
 
 /// The outputs of these rows, each last symbol first.
-fn outputs_back(alloc: Global, fst: &Fst, rows: &[SharedRow]) -> Result<Vec<Symbols>, Memory>
+fn outputs_back(alloc: Global, fst: &Fst, rows: &[HeldRow]) -> Result<Vec<Symbols>, Memory>
     requires no_cycle { HasNoEmptyCycle fst.now }
     requires writes { WritesWords fst.now }
     requires some { 0 < length rows.now }
@@ -400,7 +400,7 @@ fn outputs_back(alloc: Global, fst: &Fst, rows: &[SharedRow]) -> Result<Vec<Symb
 }
 
 /// The same, and none where there is no row.
-pub(crate) fn backs_of(alloc: Global, fst: &Fst, rows: &[SharedRow]) -> Result<Vec<Symbols>, Memory>
+pub(crate) fn backs_of(alloc: Global, fst: &Fst, rows: &[HeldRow]) -> Result<Vec<Symbols>, Memory>
     requires no_cycle { HasNoEmptyCycle fst.now }
     requires writes { WritesWords fst.now }
     ensures outputs { IfOk result (λ backs. (seen : List Input) → AreRows fst.now.edges seen rows.now → AreBacks fst.now seen backs.items) }

@@ -2,11 +2,12 @@ ghost use Rattle.std.specs.Prelude.{◌≡◌, ◌++◌, take, ◌∷◌, ◌-�
 ghost use Rattle.std.specs.Option.{option_copied};
 ghost use Rattle.ap_fst.specs.declared.label.Edge.{Edge};
 ghost use Rattle.ap_live.specs.Fitting.{Input};
-ghost use Rattle.ap_live.specs.Rows.{IsNext, AreRows, IsKnown, Follows, IsLinked, Tells};
+ghost use Rattle.ap_live.specs.Rows.{IsNext, AreRows, IsKnown, Follows, IsLinked};
 ghost use Rattle.ap_live.specs.declared.rows.Row.{Row};
 
+use crate::held::{HeldRow, SharedRow};
 use crate::picking::{Pick, is_symbol};
-use crate::rows::{SharedRow, next_row, share};
+use crate::stack::Rows;
 use ap_fst::Fst;
 use ap_symbol::{Memory, Symbol};
 use std::alloc::Global;
@@ -170,16 +171,16 @@ fn row_at(rows: &[SharedRow], at: usize) -> Option<&SharedRow>
 }
 
 /// Adds a known row. After a refusal nothing is changed.
-fn add_known(rows: &mut Vec<SharedRow>, known: &mut Known, to: usize) -> Result<(), Memory>
-    ensures ok { OnOk result ((edges : List Edge) (finals : List ℕ) (seen : List Input) (input : Input) → AreRows edges seen rows.old.items → IsKnown edges finals rows.old.items known.old.rows.items known.old.links.items known.old.path.items
-        → Follows edges rows.old.items known.old.rows.items known.old.path.items input to
-        → AreRows edges (seen ++ input ∷ []) rows.new.items × IsKnown edges finals rows.new.items known.new.rows.items known.new.links.items known.new.path.items) }
-    ensures err { OnErr result ((rows.new.items ≡ rows.old.items) × (known.new.rows.items ≡ known.old.rows.items) × (known.new.links.items ≡ known.old.links.items) × (known.new.path.items ≡ known.old.path.items)) }
+fn add_known(rows: &mut Rows, known: &mut Known, to: usize) -> Result<(), Memory>
+    ensures ok { OnOk result ((edges : List Edge) (finals : List ℕ) (seen : List Input) (input : Input) → AreRows edges seen rows.old → IsKnown edges finals rows.old known.old.rows.items known.old.links.items known.old.path.items
+        → Follows edges rows.old known.old.rows.items known.old.path.items input to
+        → AreRows edges (seen ++ input ∷ []) rows.new × IsKnown edges finals rows.new known.new.rows.items known.new.links.items known.new.path.items) }
+    ensures err { OnErr result ((rows.new ≡ rows.old) × (known.new.rows.items ≡ known.old.rows.items) × (known.new.links.items ≡ known.old.links.items) × (known.new.path.items ≡ known.old.path.items)) }
 {
     let Some(row) = row_at(known.rows.as_slice(), to) else {
         return Ok(());
     };
-    rows.push(row.copy()?)?;
+    rows.push_shared(row.copy()?)?;
     let _ = known.path.push(to);
     Ok(())
 }
@@ -188,32 +189,43 @@ fn is_full(known: &Known) -> bool {
     MOST_ROWS <= known.rows.as_slice().len() || MOST_HELD <= known.held
 }
 
-fn held_at(rows: &[SharedRow], at: usize) -> usize {
-    match row_at(rows, at) {
+/// How many states and edges the row at a place holds.
+fn size_at(rows: &[HeldRow], at: usize) -> usize {
+    match rows.get(at) {
         None => 0,
-        Some(row) => row.held(),
+        Some(row) => row.size(),
     }
 }
 
 /// Whether the last row and the one before it, that it is computed from, are small.
-fn is_cheap(rows: &[SharedRow]) -> bool {
-    let last = held_at(rows, rows.len().saturating_sub(1));
-    let before = held_at(rows, rows.len().saturating_sub(2));
+fn is_cheap(rows: &[HeldRow]) -> bool {
+    let last = size_at(rows, rows.len().saturating_sub(1));
+    let before = size_at(rows, rows.len().saturating_sub(2));
     last.saturating_add(before) < LEAST_KEPT
 }
 
+/// The row at a place, if it is there and shared.
+fn shared_at(rows: &[HeldRow], at: usize) -> Result<Option<SharedRow>, Memory>
+    ensures { IfOk result (λ made. (row : Row) → made ≡ Some row → slice_get rows.now at ≡ Some row) }
+{
+    match rows.get(at) {
+        None => Ok(None),
+        Some(row) => row.copy(),
+    }
+}
+
 /// Begins with the first row, where nothing is known.
-fn plant(known: &mut Known, alloc: Global, rows: &[SharedRow]) -> Result<(), Memory>
+fn plant(known: &mut Known, alloc: Global, rows: &[HeldRow]) -> Result<(), Memory>
     ensures { (edges : List Edge) (finals : List ℕ) → IsKnown edges finals rows.now known.old.rows.items known.old.links.items known.old.path.items → IsKnown edges finals rows.now known.new.rows.items known.new.links.items known.new.path.items }
 {
     if !known.rows.as_slice().is_empty() || !known.path.as_slice().is_empty() {
         return Ok(());
     }
-    let Some(first) = row_at(rows, 0) else {
+    let Some(first) = shared_at(rows, 0)? else {
         return Ok(());
     };
     known.guesses = vec![in alloc; 0; GUESSES]?;
-    known.rows.push(first.copy()?)?;
+    known.rows.push(first)?;
     known.path.push(0)?;
     known.heads.push(0)?;
     Ok(())
@@ -239,7 +251,7 @@ fn keep(
         → IsKnown edges finals rows known.old.rows.items known.old.links.items known.old.path.items → IsKnown edges finals rows known.new.rows.items known.new.links.items known.new.path.items }
 {
     let to = known.rows.as_slice().len();
-    let held = row.held();
+    let held = row.size();
     let symbol = input.copy(alloc)?;
     known.heads.push(0)?;
     known.rows.push(row)?;
@@ -263,93 +275,68 @@ fn keep(
 /// cheap to compute again.
 fn remember(
     known: &mut Known,
-    alloc: Global,
-    rows: &[SharedRow],
+    rows: &mut Rows,
     input: &Symbol,
     sensitive: bool,
 ) -> Result<(), Memory>
-    ensures { (edges : List Edge) (finals : List ℕ) (before : List Row) (last row : Row) → rows.now ≡ before ++ row ∷ [] → slice_get before (length before - 1) ≡ Some last
+    ensures same { rows.new ≡ rows.old }
+    ensures known { (edges : List Edge) (finals : List ℕ) (before : List Row) (last row : Row) → rows.old ≡ before ++ row ∷ [] → slice_get before (length before - 1) ≡ Some last
         → IsNext edges (Some (record { symbol = input.now; sensitive = sensitive })) last.states.items row
-        → IsKnown edges finals rows.now known.old.rows.items known.old.links.items known.old.path.items → IsKnown edges finals rows.now known.new.rows.items known.new.links.items known.new.path.items }
+        → IsKnown edges finals rows.old known.old.rows.items known.old.links.items known.old.path.items → IsKnown edges finals rows.old known.new.rows.items known.new.links.items known.new.path.items }
 {
-    if is_cheap(rows) {
+    let end = rows.len().saturating_sub(1);
+    if known.path.as_slice().len() != end {
         return Ok(());
     }
-    if is_full(known) || known.path.as_slice().len() != rows.len().saturating_sub(1) {
+    if is_full(known) || is_cheap(rows.as_slice()) {
         return Ok(());
     }
     let Some(from) = known.path.last() else {
         return Ok(());
     };
     let from = *from;
-    let Some(row) = rows.last() else {
+    rows.share_last();
+    let Some(row) = shared_at(rows.as_slice(), end)? else {
         return Ok(());
     };
-    let row = row.copy()?;
-    keep(known, alloc, from, row, input, sensitive)
-}
-
-/// The row that this input leads to. From no state it leads to none, and the row is shared.
-fn row_after(
-    alloc: Global,
-    fst: &Fst,
-    hints: &[usize],
-    last: &SharedRow,
-    input: &Symbol,
-    sensitive: bool,
-) -> Result<SharedRow, Memory>
-    ensures next { IfOk result (λ row. IsNext fst.now.edges (Some (record { symbol = input.now; sensitive = sensitive })) last.now.states.items row) }
-    ensures told { IfOk result (λ row. Tells fst.now.finals last.now → Tells fst.now.finals row) }
-{
-    if last.is_void() {
-        let same = last.copy()?;
-        return Ok(same);
-    }
-    let pick = Pick::Fitting(input, sensitive);
-    let row = next_row(alloc, fst, hints, last.states(), pick)?;
-    let shared = share(alloc, row)?;
-    Ok(shared)
+    keep(known, rows.allocator(), from, row, input, sensitive)
 }
 
 /// Adds a row that is computed. After a refusal nothing is changed.
 fn add_new(
-    rows: &mut Vec<SharedRow>,
+    rows: &mut Rows,
     known: &mut Known,
     fst: &Fst,
     hints: &[usize],
     input: &Symbol,
     sensitive: bool,
 ) -> Result<(), Memory>
-    ensures ok { OnOk result ((seen : List Input) → AreRows fst.now.edges seen rows.old.items → IsKnown fst.now.edges fst.now.finals rows.old.items known.old.rows.items known.old.links.items known.old.path.items
-        → AreRows fst.now.edges (seen ++ record { symbol = input.now; sensitive = sensitive } ∷ []) rows.new.items × IsKnown fst.now.edges fst.now.finals rows.new.items known.new.rows.items known.new.links.items known.new.path.items) }
-    ensures err { OnErr result ((rows.new.items ≡ rows.old.items) × (known.new.rows.items ≡ known.old.rows.items) × (known.new.links.items ≡ known.old.links.items) × (known.new.path.items ≡ known.old.path.items)) }
+    ensures ok { OnOk result ((seen : List Input) → AreRows fst.now.edges seen rows.old → IsKnown fst.now.edges fst.now.finals rows.old known.old.rows.items known.old.links.items known.old.path.items
+        → AreRows fst.now.edges (seen ++ record { symbol = input.now; sensitive = sensitive } ∷ []) rows.new × IsKnown fst.now.edges fst.now.finals rows.new known.new.rows.items known.new.links.items known.new.path.items) }
+    ensures err { OnErr result ((rows.new ≡ rows.old) × (known.new.rows.items ≡ known.old.rows.items) × (known.new.links.items ≡ known.old.links.items) × (known.new.path.items ≡ known.old.path.items)) }
 {
-    let alloc = *rows.allocator();
-    let Some(last) = rows.last() else {
-        return Ok(());
-    };
-    let row = row_after(alloc, fst, hints, last, input, sensitive)?;
-    rows.push(row)?;
-    let _ = plant(known, alloc, rows.as_slice());
-    let _ = remember(known, alloc, rows.as_slice(), input, sensitive);
+    let pick = Pick::Fitting(input, sensitive);
+    rows.push_next(fst, hints, pick)?;
+    let _ = plant(known, rows.allocator(), rows.as_slice());
+    let _ = remember(known, rows, input, sensitive);
     Ok(())
 }
 
 /// Adds the row after one input more: a known one, or else one that is computed. After a refusal
 /// nothing is changed.
 pub(crate) fn add_row(
-    rows: &mut Vec<SharedRow>,
+    rows: &mut Rows,
     known: &mut Known,
     fst: &Fst,
     hints: &[usize],
     input: &Symbol,
     sensitive: bool,
 ) -> Result<(), Memory>
-    ensures ok { OnOk result ((seen : List Input) → AreRows fst.now.edges seen rows.old.items → IsKnown fst.now.edges fst.now.finals rows.old.items known.old.rows.items known.old.links.items known.old.path.items
-        → AreRows fst.now.edges (seen ++ record { symbol = input.now; sensitive = sensitive } ∷ []) rows.new.items × IsKnown fst.now.edges fst.now.finals rows.new.items known.new.rows.items known.new.links.items known.new.path.items) }
-    ensures err { OnErr result ((rows.new.items ≡ rows.old.items) × (known.new.rows.items ≡ known.old.rows.items) × (known.new.links.items ≡ known.old.links.items) × (known.new.path.items ≡ known.old.path.items)) }
+    ensures ok { OnOk result ((seen : List Input) → AreRows fst.now.edges seen rows.old → IsKnown fst.now.edges fst.now.finals rows.old known.old.rows.items known.old.links.items known.old.path.items
+        → AreRows fst.now.edges (seen ++ record { symbol = input.now; sensitive = sensitive } ∷ []) rows.new × IsKnown fst.now.edges fst.now.finals rows.new known.new.rows.items known.new.links.items known.new.path.items) }
+    ensures err { OnErr result ((rows.new ≡ rows.old) × (known.new.rows.items ≡ known.old.rows.items) × (known.new.links.items ≡ known.old.links.items) × (known.new.path.items ≡ known.old.path.items)) }
 {
-    match find(known, rows.as_slice().len(), input, sensitive) {
+    match find(known, rows.len(), input, sensitive) {
         None => add_new(rows, known, fst, hints, input, sensitive),
         Some(to) => add_known(rows, known, to),
     }
@@ -371,11 +358,11 @@ fn forget(known: &mut Known)
 
 /// Goes back to the rows of the first so many inputs. At none of them known rows are forgotten where
 /// these are too many.
-pub(crate) fn cut_rows(rows: &mut Vec<SharedRow>, known: &mut Known, len: usize)
-    ensures { (edges : List Edge) (finals : List ℕ) (seen : List Input) → AreRows edges seen rows.old.items → IsKnown edges finals rows.old.items known.old.rows.items known.old.links.items known.old.path.items
-        → AreRows edges (take len seen) rows.new.items × IsKnown edges finals rows.new.items known.new.rows.items known.new.links.items known.new.path.items }
+pub(crate) fn cut_rows(rows: &mut Rows, known: &mut Known, len: usize)
+    ensures { (edges : List Edge) (finals : List ℕ) (seen : List Input) → AreRows edges seen rows.old → IsKnown edges finals rows.old known.old.rows.items known.old.links.items known.old.path.items
+        → AreRows edges (take len seen) rows.new × IsKnown edges finals rows.new known.new.rows.items known.new.links.items known.new.path.items }
 {
-    if rows.as_slice().len() <= len {
+    if rows.len() <= len {
         return;
     }
     rows.truncate(len + 1);

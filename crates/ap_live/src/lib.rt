@@ -4,12 +4,14 @@
 
 mod arrivals;
 mod backward;
+mod held;
 mod hints;
 mod known;
 mod laws;
 mod live;
 mod picking;
 mod rows;
+mod stack;
 #[cfg(test)]
 mod tests;
 mod wording;

@@ -8,9 +8,10 @@ ghost use Rattle.ap_fst.specs.Silence.{HasNoEmptyCycle};
 ghost use Rattle.ap_fst.specs.Trimming.{IsTrimmed};
 
 use crate::backward::backs_of;
+use crate::held::{ends_finally, reaches_none};
 use crate::hints::hints_of;
 use crate::known::{Known, add_row, cut_rows, nothing_known};
-use crate::rows::{SharedRow, ends_finally, first_rows, reaches_none};
+use crate::stack::{Rows, first_rows};
 use crate::wording::ordered_words;
 use ap_fst::Fst;
 use ap_symbol::{Memory, Symbol, Words};
@@ -31,7 +32,7 @@ use std::marker::Model;
 /// for. They are tried before they are used, so that a wrong one costs time alone.
 #[derive(Debug, Drop)]
 pub struct Live {
-    rows: Vec<SharedRow>,
+    rows: Rows,
     known: Known,
     hints: Vec<usize>,
     is_void: bool,
@@ -42,7 +43,7 @@ impl Model for Live {
 
     ghost Value = { Lives };
 
-    ghost view = { λ l. record { rows = l.rows.items; known = l.known.rows.items; links = l.known.links.items; path = l.known.path.items; is_void = l.is_void } };
+    ghost view = { λ l. record { rows = l.rows; known = l.known.rows.items; links = l.known.links.items; path = l.known.path.items; is_void = l.is_void } };
 }
 
 fn has_no_final(fst: &Fst) -> bool

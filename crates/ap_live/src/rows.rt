@@ -4,8 +4,7 @@ ghost use Rattle.std.specs.List.Sorted.{IsNonDecreasingBy};
 ghost use Rattle.std.specs.Option.{option_copied};
 ghost use Rattle.ap_fst.specs.declared.label.Edge.{Edge};
 ghost use Rattle.ap_fst.specs.Lists.{IsIn};
-ghost use Rattle.ap_live.specs.Rows.{IsFirst, IsNext, IsOrdered, IsVoid, Reach, AreRows, Tells};
-ghost use Rattle.ap_fst.specs.Machines.{Machine};
+ghost use Rattle.ap_live.specs.Rows.{IsFirst, IsNext, IsOrdered, IsVoid, Tells};
 ghost use Rattle.ap_live.specs.declared.rows.Row.{Row};
 ghost use Rattle.ap_live.specs.Fitting.{Input, pick_of, picks};
 ghost use Rattle.ap_live.specs.Runs.{IsRun, Leaves, LeavesSilently};
@@ -17,8 +16,6 @@ use crate::picking::{Pick, is_picked, other_symbol};
 use ap_fst::{Edge, Fst};
 use ap_symbol::{Memory, Symbol};
 use std::alloc::Global;
-use std::marker::Model;
-use std::rc::Rc;
 
 fn add_state(states: &mut Vec<usize>, state: usize) -> Result<(), Memory>
     ensures { OnOk result (states.new.items ≡ with_state states.old.items state) }
@@ -51,6 +48,9 @@ fn sort_states(states: &mut Vec<usize>)
     ensures members { (s : ℕ) → IsIn s states.new.items ↔ IsIn s states.old.items }
     ensures distinct { IsDistinct nat_eq states.new.items }
 {
+    if states.len() < 2 {
+        return;
+    }
     states.sort_unstable();
     states.dedup();
 }
@@ -286,183 +286,78 @@ fn holds_final(fst: &Fst, states: &[usize]) -> bool
     false
 }
 
-/// A row that is shared, so that a copy takes no memory. Contracts see the row. Its edges stand in
-/// the order of the states that they lead to.
-#[derive(Debug, Drop)]
-pub struct SharedRow {
-    row: Rc<Row>,
-}
-
-impl Model for SharedRow {
-    ghost use Rattle.ap_live.specs.declared.rows.Row.{Row};
-    ghost use Rattle.ap_live.specs.Rows.{IsOrdered};
-
-    ghost Value = { Row };
-
-    ghost view = { λ s. s.row.value };
-
-    ghost invariant = { λ s. IsOrdered s.row.value };
-}
-
-impl SharedRow {
-    pub(crate) fn states(&self) -> &[usize]
-        ensures { result.now ≡ self.now.states.items }
-    {
-        self.row.states.as_slice()
-    }
-
-    /// The edges that took the last input.
-    pub(crate) fn taken(&self) -> &[Arrival]
-        ensures value { result.now ≡ self.now.taken.items }
-        ensures order { IsNonDecreasingBy arrival_to result.now }
-    {
-        self.row.taken.as_slice()
-    }
-
-    /// The edges with an empty left side.
-    pub(crate) fn silent(&self) -> &[Arrival]
-        ensures value { result.now ≡ self.now.silent.items }
-        ensures order { IsNonDecreasingBy arrival_to result.now }
-    {
-        self.row.silent.as_slice()
-    }
-
-    pub(crate) fn ends(&self) -> bool
-        ensures { result ≡ self.now.ends }
-    {
-        self.row.ends
-    }
-
-    /// Whether no state and no edge is there.
-    pub(crate) fn is_void(&self) -> bool
-        ensures { IsTrue result → IsVoid self.now }
-    {
-        self.states().is_empty() && self.taken().is_empty() && self.silent().is_empty()
-    }
-
-    /// An equal row, which shares the memory.
-    pub(crate) fn copy(&self) -> Result<SharedRow, Memory>
-        ensures { IfOk result (λ made. made ≡ self.now) }
-    {
-        Ok(SharedRow {
-            row: self.row.clone()?,
-        })
-    }
-
-    /// How many states and edges it holds.
-    pub(crate) fn held(&self) -> usize {
-        self.states()
-            .len()
-            .saturating_add(self.taken().len())
-            .saturating_add(self.silent().len())
-    }
-}
-
-pub(crate) fn share(alloc: Global, row: Row) -> Result<SharedRow, Memory>
-    requires { IsOrdered row }
-    ensures { IfOk result (λ made. made ≡ row) }
+/// A row with no state and no edge, which takes no memory.
+pub(crate) fn no_row(alloc: Global) -> Row
+    ensures void { IsVoid result }
+    ensures order { IsOrdered result }
 {
-    Ok(SharedRow {
-        row: Rc::new(alloc, row)?,
-    })
+    Row {
+        states: Vec::new(alloc),
+        taken: Vec::new(alloc),
+        silent: Vec::new(alloc),
+        ends: false,
+    }
 }
 
-/// The row of these states and of all that edges with an empty left side lead to from them.
-fn closed_row(
-    alloc: Global,
-    fst: &Fst,
-    hints: &[usize],
-    base: Vec<usize>,
-    taken: Vec<Arrival>,
-) -> Result<Row, Memory>
-    requires distinct { IsDistinct nat_eq base.items }
-    requires below { (s : ℕ) → IsIn s base.items → s < fst.now.states }
-    requires order { IsNonDecreasingBy arrival_to taken.items }
-    ensures taken { IfOk result (λ row. row.taken.items ≡ taken.items) }
-    ensures closed { IfOk result (λ row. Closed fst.now.edges base.items [] row.states.items row.silent.items) }
-    ensures order { IfOk result (λ row. IsOrdered row) }
-    ensures told { IfOk result (λ row. Tells fst.now.finals row) }
+/// Goes on from the states of a row, and the edges that took an input, to all that edges with an
+/// empty left side lead to. What else the row holds is room alone.
+fn close_row(fst: &Fst, hints: &[usize], row: &mut Row) -> Result<(), Memory>
+    requires distinct { IsDistinct nat_eq row.old.states.items }
+    requires below { (s : ℕ) → IsIn s row.old.states.items → s < fst.now.states }
+    requires order { IsNonDecreasingBy arrival_to row.old.taken.items }
+    ensures taken { OnOk result (row.new.taken.items ≡ row.old.taken.items) }
+    ensures closed { OnOk result (Closed fst.now.edges row.old.states.items [] row.new.states.items row.new.silent.items) }
+    ensures order { OnOk result (IsOrdered row.new) }
+    ensures told { OnOk result (Tells fst.now.finals row.new) }
 {
-    let mut states = base;
-    let mut silent = Vec::new(alloc);
-    close(fst, hints, &mut states, &mut silent)?;
-    sort_arrivals(&mut silent);
-    let ends = holds_final(fst, states.as_slice());
-    Ok(Row {
-        states,
-        taken,
-        silent,
-        ends,
-    })
+    row.silent.clear();
+    close(fst, hints, &mut row.states, &mut row.silent)?;
+    sort_arrivals(&mut row.silent);
+    row.ends = holds_final(fst, row.states.as_slice());
+    Ok(())
 }
 
-/// The row after one input more.
-pub(crate) fn next_row(
-    alloc: Global,
+/// Makes a row that after one input more. What it holds is room alone.
+pub(crate) fn fill_row(
     fst: &Fst,
     hints: &[usize],
     last: &[usize],
     pick: Pick<'_>,
-) -> Result<Row, Memory>
-    ensures next { IfOk result (λ row. IsNext fst.now.edges (pick_of pick.entry) last.now row) }
-    ensures order { IfOk result (λ row. IsOrdered row) }
-    ensures told { IfOk result (λ row. Tells fst.now.finals row) }
+    row: &mut Row,
+) -> Result<(), Memory>
+    ensures next { OnOk result (IsNext fst.now.edges (pick_of pick.entry) last.now row.new) }
+    ensures order { OnOk result (IsOrdered row.new) }
+    ensures told { OnOk result (Tells fst.now.finals row.new) }
 {
     let _ = fst.states();
-    let mut states = Vec::new(alloc);
-    let mut taken = Vec::new(alloc);
+    row.states.clear();
+    row.taken.clear();
     let other = other_symbol(pick);
     let partner = other.as_ref();
-    spread(fst, hints, last, pick, partner, &mut states, &mut taken)?;
-    sort_states(&mut states);
-    sort_arrivals(&mut taken);
-    let row = closed_row(alloc, fst, hints, states, taken)?;
-    Ok(row)
+    spread(
+        fst,
+        hints,
+        last,
+        pick,
+        partner,
+        &mut row.states,
+        &mut row.taken,
+    )?;
+    sort_states(&mut row.states);
+    sort_arrivals(&mut row.taken);
+    close_row(fst, hints, row)?;
+    Ok(())
 }
 
-fn first_row(alloc: Global, fst: &Fst, hints: &[usize]) -> Result<Row, Memory>
+/// The row before any input.
+pub(crate) fn first_row(alloc: Global, fst: &Fst, hints: &[usize]) -> Result<Row, Memory>
     ensures first { IfOk result (λ row. IsFirst fst.now.edges row) }
     ensures order { IfOk result (λ row. IsOrdered row) }
     ensures told { IfOk result (λ row. Tells fst.now.finals row) }
 {
     let _ = fst.states();
-    let mut states = Vec::new(alloc);
-    states.push(0)?;
-    let row = closed_row(alloc, fst, hints, states, Vec::new(alloc))?;
+    let mut row = no_row(alloc);
+    row.states.push(0)?;
+    close_row(fst, hints, &mut row)?;
     Ok(row)
-}
-
-/// The rows before any input.
-pub(crate) fn first_rows(
-    alloc: Global,
-    fst: &Fst,
-    hints: &[usize],
-) -> Result<Vec<SharedRow>, Memory>
-    ensures rows { IfOk result (λ rows. AreRows fst.now.edges [] rows.items) }
-    ensures told { IfOk result (λ rows. (at : ℕ) (row : Row) → slice_get rows.items at ≡ Some row → Tells fst.now.finals row) }
-{
-    let mut rows = Vec::new(alloc);
-    let row = first_row(alloc, fst, hints)?;
-    rows.push(share(alloc, row)?)?;
-    Ok(rows)
-}
-
-/// Whether the last row has no state.
-pub(crate) fn reaches_none(rows: &[SharedRow]) -> bool
-    ensures { (edges : List Edge) (seen : List Input) → AreRows edges seen rows.now → (IsTrue result ↔ ((s : ℕ) → Reach edges seen s → ⊥)) }
-{
-    match rows.last() {
-        None => true,
-        Some(last) => last.states().is_empty(),
-    }
-}
-
-/// Whether the last row has a final state.
-pub(crate) fn ends_finally(rows: &[SharedRow]) -> bool
-    ensures { (m : Machine) (seen : List Input) → AreRows m.edges seen rows.now → ((at : ℕ) (row : Row) → slice_get rows.now at ≡ Some row → Tells m.finals row) → (IsTrue result ↔ ((s : ℕ) × (Reach m.edges seen s × IsIn s m.finals))) }
-{
-    match rows.last() {
-        None => false,
-        Some(last) => last.ends(),
-    }
 }

@@ -12,10 +12,10 @@ returns-then-self-clause-found c = λ m seen ok none trimmed live. other_answer 
 
 pub returns-else-self-clause-none : goal.returns-else-self-clause-none
 returns-else-self-clause-none c = λ m seen ok trimmed live. dead_law m seen c.args.self.now c.as_slice.result.now c.self.inside.is_void c.reaches_none.result ok trimmed live
-    (c.as_slice.ensures.value ∙ ap (λ (l : Lives). l.rows) c.self.view_is) (ap (λ (l : Lives). l.is_void) c.self.view_is) c.if-self.false c.reaches_none.ensures
+    (c.as_slice.ensures ∙ ap (λ (l : Lives). l.rows) c.self.view_is) (ap (λ (l : Lives). l.is_void) c.self.view_is) c.if-self.false c.reaches_none.ensures
 
 pub returns-else-self-clause-found : goal.returns-else-self-clause-found
 returns-else-self-clause-found c = λ m seen ok none trimmed live. other_answer c.reaches_none.result (is_viable m seen) (FitBeginning m seen)
     (dead_law m seen c.args.self.now c.as_slice.result.now c.self.inside.is_void c.reaches_none.result ok trimmed live
-    (c.as_slice.ensures.value ∙ ap (λ (l : Lives). l.rows) c.self.view_is) (ap (λ (l : Lives). l.is_void) c.self.view_is) c.if-self.false c.reaches_none.ensures)
+    (c.as_slice.ensures ∙ ap (λ (l : Lives). l.rows) c.self.view_is) (ap (λ (l : Lives). l.is_void) c.self.view_is) c.if-self.false c.reaches_none.ensures)
     (viable_found m seen ok none trimmed)
