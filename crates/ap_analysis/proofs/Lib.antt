@@ -18,3 +18,4 @@ pub mod Running
 pub mod Limits
 pub mod Turned
 pub mod PushedOn
+pub mod Writings

@@ -1,13 +1,12 @@
-ghost use Rattle.std.specs.Prelude.{◌≡◌, ℕ, Bool, ◌≤◌, length, take, drop, IsTrue, IfSome, IfOk};
+ghost use Rattle.std.specs.Prelude.{◌≡◌, ℕ, Bool, ◌≤◌, length, take, drop, IsTrue, IfSome, OnOk};
 ghost use Rattle.ap_symbol.specs.Words.{is_white as white_test, is_word_symbol};
 ghost use Rattle.ap_analysis.specs.Items.{symbol_of, front};
 ghost use Rattle.ap_analysis.specs.Lexicon.{lexicon_of};
-ghost use Rattle.ap_analysis.specs.Licence.{is_alphabetic as alphabetic_test, begins_alphabetic as begins_test, surface as surface_lem};
+ghost use Rattle.ap_analysis.specs.Licence.{is_alphabetic as alphabetic_test, begins_alphabetic as begins_test, surface};
 
 use ap_fst::Compiled;
 use ap_stream::{Item, Read};
 use ap_symbol::{Memory, Symbol, Word};
-use std::alloc::Global;
 
 fn is_white(letter: char) -> bool
     ensures { result ≡ white_test letter }
@@ -60,17 +59,18 @@ pub(crate) fn begins_alphabetic(compiled: &Compiled, reads: &[Read], at: usize) 
     }
 }
 
-/// The word of the first so many items. Each of them fits a symbol.
-pub(crate) fn surface(alloc: Global, reads: &[Read], count: usize) -> Result<Word, Memory>
+/// Makes the word that of the first so many items, each of which fits a symbol. What it was before
+/// is let go, and its room is kept.
+pub(crate) fn read_surface(reads: &[Read], count: usize, word: &mut Word) -> Result<(), Memory>
     requires { count ≤ length (front reads.now) }
-    ensures { IfOk result (λ word. word ≡ surface_lem reads.now count) }
+    ensures { OnOk result (word.new ≡ surface reads.now count) }
 {
-    let mut word = Word::new(alloc);
+    word.clear();
     for i in 0..count {
         match symbol_of_item(&reads[i].item) {
             Some(symbol) => word.push(symbol)?,
             None => unreachable!(),
         }
     }
-    Ok(word)
+    Ok(())
 }

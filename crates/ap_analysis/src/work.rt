@@ -13,12 +13,14 @@ use crate::search::Search;
 use crate::writing::{Written, first_step as write_step};
 use ap_fst::Compiled;
 use ap_stream::{Handler, LimitKind, Read, SPAN_MAX, StageFault, Turn};
-use ap_symbol::{Bytes, Memory};
+use ap_symbol::{Bytes, Memory, Word};
 use std::alloc::Global;
 use std::marker::Model;
+use std::mem;
 
 /// The analysis of items (`lt-proc -a`): a `Handler` over the items of a raw text. It holds the items that one step must
-/// see together, and looks at each of them once while further ones come.
+/// see together, and looks at each of them once while further ones come. The word and the text have
+/// room for the surface of a step and for what it writes, which is kept from step to step.
 #[derive(Drop)]
 pub struct AnalysisWork {
     alloc: Global,
@@ -27,6 +29,17 @@ pub struct AnalysisWork {
     items: Queue,
     search: Search,
     finished: bool,
+    seen: Word,
+    text: Bytes,
+}
+
+/// No bytes, in the room of those that are kept.
+fn take_room(alloc: Global, kept: &mut Bytes) -> Bytes
+    ensures { result ≡ [] }
+{
+    let mut text = mem::replace(kept, Bytes::new(alloc));
+    text.clear();
+    text
 }
 
 impl Model for AnalysisWork {
@@ -67,11 +80,13 @@ impl AnalysisWork {
             items: Queue::new(alloc),
             search,
             finished: false,
+            seen: Word::new(alloc),
+            text: Bytes::new(alloc),
         })
     }
 
-    /// Lets the first so many items go.
-    fn forget(&mut self, count: usize)
+    /// Lets the first so many items go, and keeps the room of the text that was written for them.
+    fn forget(&mut self, count: usize, text: Bytes)
         requires { count ≤ length self.old.items }
         ensures items { self.new.items ≡ drop count self.old.items }
         ensures compiled { self.new.compiled ≡ self.old.compiled }
@@ -80,6 +95,7 @@ impl AnalysisWork {
     {
         self.items.forget(count);
         self.search.restart();
+        self.text = text;
     }
 
     /// The number of held items.
@@ -127,6 +143,7 @@ impl AnalysisWork {
         {
             None => Ok(None),
             Some(found) => {
+                let text = take_room(self.alloc, &mut self.text);
                 let made = write_step(
                     self.alloc,
                     &self.compiled,
@@ -135,6 +152,8 @@ impl AnalysisWork {
                     reads,
                     self.items.bytes(),
                     found,
+                    &mut self.seen,
+                    text,
                 )?;
                 Ok(Some(made))
             }
@@ -189,7 +208,7 @@ impl Handler for AnalysisWork {
             Ok(Some(Written::Stops { kind })) => Err(StageFault::Limit { kind, place }),
             Ok(Some(Written::Gives { count, text })) => match into.extend(text.as_slice()) {
                 Ok(()) => {
-                    self.forget(count);
+                    self.forget(count, text);
                     Ok(Turn::Wrote)
                 }
                 Err(_) => Err(StageFault::Memory),
