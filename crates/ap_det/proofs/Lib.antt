@@ -1,0 +1,6 @@
+pub mod Numberings
+pub mod Sorting
+pub mod Grouping
+pub mod Constructing
+pub mod DetLaws
+pub mod TrimLaws
