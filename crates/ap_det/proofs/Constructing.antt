@@ -17,8 +17,8 @@ use Rattle.ap_fst.proofs.Listing.{in_either, in_front, in_back, in_from_place, p
 use Rattle.ap_fst.proofs.PlaceLaws.{cmp_less, cmp_same}
 use Rattle.ap_fst.proofs.Trims.{ascends_append}
 use Rattle.ap_det.specs.Determinism.{IsDeterministic}
-use Rattle.ap_det.specs.Exits.{edge_at, IsPlaceFrom, LeadsBy, HasLabel, IsLabelOf, IsOut, HoldsLabel, AddsOuts}
-use Rattle.ap_det.specs.Subsets.{HoldsFinal, AddsFinal, added, same, LeadsFrom, IsSetEdge, Leaves, IsFinalSet, start_cmp, AreSubsets}
+use Rattle.ap_det.specs.Exits.{edge_at, IsPlaceFrom, LeadsBy, HasLabel, IsLabelOf, IsOut, HoldsLabel, LeadsInto, AddsOuts}
+use Rattle.ap_det.specs.Subsets.{HoldsFinal, AddsFinal, added, same, LeadsFrom, IsSetEdge, Leaves, IsEntered, IsFinalSet, start_cmp, AreSubsets}
 use Rattle.ap_det.proofs.Sorting.{named, naming, IsNamed}
 use Rattle.ap_det.proofs.Grouping.{label_itself}
 
@@ -47,9 +47,10 @@ none_all m set n long h f =
 
 -- ---- nothing made yet
 
-pub subsets_begun : (m : Machine) (sets : List (List ℕ)) (edges : List Edge) (finals : List ℕ) → slice_get sets 0 ≡ Some (0 ∷ []) → edges ≡ [] → finals ≡ [] → AreSubsets m 0 sets edges finals
-subsets_begun m sets edges finals first no_edges no_finals = record {
-  first = first;
+pub subsets_begun : (m : Machine) (sets : List (List ℕ)) (edges : List Edge) (finals : List ℕ) → sets ≡ (0 ∷ []) ∷ [] → edges ≡ [] → finals ≡ [] → AreSubsets m 0 sets edges finals
+subsets_begun m sets edges finals alone no_edges no_finals = record {
+  first = ap (λ (z : List (List ℕ)). slice_get z 0) alone;
+  entered = λ i pos lt. let one : length sets ≡ 1 = ap length alone in absurd (omega arith);
   sound = λ e i. elim (subst (λ (z : List Edge). IsIn e z) no_edges i) [ ];
   below = λ e i. elim (subst (λ (z : List Edge). IsIn e z) no_edges i) [ ];
   all = λ i set d lt at listed from. absurd (omega arith);
@@ -127,6 +128,8 @@ module _ (m : Machine) (ok : IsMachine m) (set : List ℕ) (places : List ℕ) (
       target = h.target;
       target_at = g.keeps e.to h.target h.target_at;
       exactly = h.exactly;
+      state = h.state;
+      held = h.held;
       sided = h.sided;
     }
 
@@ -140,6 +143,8 @@ module _ (m : Machine) (ok : IsMachine m) (set : List ℕ) (places : List ℕ) (
           target = h.target;
           target_at = h.target_at;
           exactly = λ t. (λ i. (leads_same e.label t).0 ((h.exactly t).0 i), λ k. (h.exactly t).1 ((leads_same e.label t).1 k));
+          state = l.edge.to;
+          held = (h.exactly l.edge.to).1 (record { number = h.some.number; edge = l.edge; at = l.at; label_is = l.label_is; to_is = refl });
           sided = subst (λ (z : Label). IsTrue (has_side z)) l.label_is (ok.each l.edge x.listed).sided;
         }
 
@@ -159,6 +164,16 @@ module _ (m : Machine) (ok : IsMachine m) (set : List ℕ) (places : List ℕ) (
           let q : IsNumbered d = exit_number d listed (subst (λ (z : List ℕ). IsIn d.from z) (sym (own_set i other e at)) from) in
           let h : HoldsLabel g.outs d.label = g.all q.number d q.below q.at in
           record { edge = h.edge; listed = in_new h.edge (in_back h.edge old g.outs h.listed); from_is = g.from_is h.edge h.listed ∙ sym e; label_is = h.label_is }
+    ]
+
+    all_entered : (i : ℕ) → 0 < i → i < length sets → IsEntered new i
+    all_entered i pos lt = elim (cases_lt i (length old_sets)) [
+      | inl before ↦ let e : IsEntered old i = s.entered i pos before in record { edge = e.edge; listed = in_new e.edge (in_front e.edge old g.outs e.listed); to_is = e.to_is; rises = e.rises }
+      | inr behind ↦
+          let e : LeadsInto g.outs i = g.entered i behind lt in
+          let from : e.edge.from ≡ n = g.from_is e.edge e.listed in
+          let low : n < length old_sets = slice_get_within old_sets n set set_at in
+          record { edge = e.edge; listed = in_new e.edge (in_back e.edge old g.outs e.listed); to_is = e.to_is; rises = omega arith }
     ]
 
     -- ---- final sets
@@ -203,6 +218,7 @@ module _ (m : Machine) (ok : IsMachine m) (set : List ℕ) (places : List ℕ) (
       sound = λ e i. either e (IsSetEdge m sets e) i (λ k. old_edge e (s.sound e k)) (λ k. new_edge e (g.from_is e k) (g.sound e k));
       below = λ e i. either e (e.from < n + 1) i (λ k. let b : e.from < n = s.below e k in omega arith) (λ k. let b : e.from ≡ n = g.from_is e k in omega arith);
       all = all_made;
+      entered = all_entered;
       ascend = subst (λ (z : List Edge). Ascends start_cmp z) (sym g.grown)
           (ascends_append start_cmp old g.outs s.ascend (ascends_from n g.outs g.from_is g.ascend) (λ x y i k. let a : x.from < n = s.below x i in let b : y.from ≡ n = g.from_is y k in from_less x y (omega arith)));
       final = λ i. (final_in finals f i, in_final finals f i);

@@ -1,9 +1,10 @@
 -- What is made of all sets is a transducer with at most one edge per state and label, and accepts the same.
-use Rattle.std.proofs.Common.{◌≡◌, inl, inr, ℕ, ◌<◌, ◌≤◌, List, [], ◌∷◌, length, refl, sym, ◌∙◌, ap, subst, arith, Some}
+use Rattle.std.proofs.Common.{◌≡◌, inl, inr, ◌⊎◌, ℕ, ◌<◌, ◌≤◌, zero, suc, List, [], ◌∷◌, ◌++◌, length, refl, sym, ◌∙◌, ap, subst, arith, Some}
 use Rattle.std.specs.Prelude.{◌↔◌, slice_get}
 use Rattle.std.specs.Ordering.{nat_cmp, ordering_then}
 use Rattle.std.specs.declared.cmp.Ordering.{Ordering}
 use Rattle.std.specs.declared.cmp.Ordering.TheVariants.{Less, Equal, Greater}
+use Rattle.std.proofs.lemmas.Bool.{cases_lt}
 use Rattle.std.proofs.lemmas.Option.{same_Some, slice_get_within}
 use Rattle.ap_fst.specs.Lists.{IsIn, Ascends}
 use Rattle.ap_fst.specs.Order.{label_cmp, edge_cmp}
@@ -12,9 +13,11 @@ use Rattle.ap_fst.specs.Walks.{Walk, ends, goes, AcceptsLabels}
 use Rattle.ap_fst.specs.declared.label.Label.{Label}
 use Rattle.ap_fst.specs.declared.label.Edge.{Edge}
 use Rattle.ap_fst.proofs.Listing.{in_from_place, placed_in, IsPlaced}
+use Rattle.ap_fst.specs.Trimming.{IsReached, IsFinishing, IsTrimmed}
+use Rattle.ap_fst.proofs.WalkLaws.{walk_then, walk_edge}
 use Rattle.ap_fst.proofs.PlaceLaws.{cmp_same}
 use Rattle.ap_det.specs.Determinism.{IsDeterministic}
-use Rattle.ap_det.specs.Subsets.{LeadsFrom, IsSetEdge, Leaves, IsFinalSet, start_cmp, AreSubsets}
+use Rattle.ap_det.specs.Subsets.{LeadsFrom, IsSetEdge, Leaves, IsEntered, IsFinalSet, start_cmp, AreSubsets}
 use Rattle.ap_det.proofs.Grouping.{label_itself}
 
 -- ---- the order
@@ -41,6 +44,42 @@ ascends_one (x ∷ edges) a d e (inl p) (inl q) from label = p ∙ sym q
 ascends_one (x ∷ edges) a d e (inl p) (inr k) from label = absurd (start_same d e (subst (λ (z : Edge). start_cmp z e ≡ Less) (sym p) (a.0 e k)) from label)
 ascends_one (x ∷ edges) a d e (inr i) (inl q) from label = absurd (start_same e d (subst (λ (z : Edge). start_cmp z d ≡ Less) (sym q) (a.0 d i)) (sym from) (sym label))
 ascends_one (x ∷ edges) a d e (inr i) (inr k) from label = ascends_one edges a.1 d e i k from label
+
+-- ---- a trimmed transducer with an edge
+
+some_or_none : {X : Type 0} (xs : List X) → (xs ≡ []) ⊎ ((x : X) × IsIn x xs)
+some_or_none [] = inl refl
+some_or_none (x ∷ xs) = inr (x, inl refl)
+
+none_is_nil : {X : Type 0} (xs : List X) → ((x : X) → IsIn x xs → ⊥) → xs ≡ []
+none_is_nil [] h = refl
+none_is_nil (x ∷ xs) h = absurd (h x (inl refl))
+
+not_in_nil : {X : Type 0} (x : X) (xs : List X) → xs ≡ [] → IsIn x xs → ⊥
+not_in_nil {X} x xs e i = elim (subst (λ (z : List X). IsIn x z) e i) [ ]
+
+-- where one state is all, it is final
+lone_finishing : (m : Machine) → IsMachine m → IsTrimmed m → (d : Edge) → IsIn d m.edges → m.states ≤ 1 → IsFinishing m 0
+lone_finishing m ok t d listed few = elim (some_or_none m.finals) [
+  | inl none ↦ absurd (not_in_nil d m.edges (t.nothing (λ w h. not_in_nil h.last m.finals none h.final)).1 listed)
+  | inr some ↦
+      let low : some.0 < m.states = ok.finals_in some.0 some.1 in
+      let zero_is : 0 ≡ some.0 = omega arith in
+      record { labels = []; last = some.0; final = some.1; walk = ends zero_is }
+]
+
+start_finishing : (m : Machine) → IsMachine m → IsTrimmed m → (d : Edge) → IsIn d m.edges → IsFinishing m 0
+start_finishing m ok t d listed = elim (cases_lt 1 m.states) [
+  | inl more ↦
+      let r : IsReached m 1 = t.reached 1 (omega arith) more in
+      let f : IsFinishing m 1 = t.finishing 1 (omega arith) more in
+      record { labels = r.labels ++ f.labels; last = f.last; final = f.final; walk = walk_then m.edges 0 1 f.last r.labels f.labels r.walk f.walk }
+  | inr few ↦ lone_finishing m ok t d listed few
+]
+
+state_finishing : (m : Machine) → IsMachine m → IsTrimmed m → (d : Edge) → IsIn d m.edges → (i : ℕ) → i < m.states → IsFinishing m i
+state_finishing m ok t d listed zero lt = start_finishing m ok t d listed
+state_finishing m ok t d listed (suc i) lt = t.finishing (suc i) (omega arith) lt
 
 module _ (m made : Machine) (n : ℕ) (sets : List (List ℕ)) (s : AreSubsets m n sets made.edges made.finals) where
   pub is_deterministic : IsDeterministic made
@@ -147,3 +186,53 @@ module _ (m made : Machine) (n : ℕ) (sets : List (List ℕ)) (s : AreSubsets m
 
   pub accepts_same : length sets ≤ n → (w : List Label) → AcceptsLabels made w ↔ AcceptsLabels m w
   accepts_same done w = (accepts_out w, accepts_in done w)
+
+  -- ---- trimmed
+
+  reach : (b i : ℕ) → i < b → i < length sets → IsReached made i
+  reach zero i lt low = absurd (omega arith)
+  reach (suc b) zero lt low = record { labels = []; walk = ends refl }
+  reach (suc b) (suc i) lt low =
+      let e : IsEntered made.edges (suc i) = s.entered (suc i) (omega arith) low in
+      let up : e.edge.from < suc i = e.rises in
+      let r : IsReached made e.edge.from = reach b e.edge.from (omega arith) (omega arith) in
+      record { labels = r.labels ++ e.edge.label ∷ []; walk = subst (λ (z : ℕ). Walk made.edges 0 (r.labels ++ e.edge.label ∷ []) z) e.to_is (walk_edge made.edges 0 r.labels e.edge e.listed r.walk) }
+
+  finish : IsMachine m → IsTrimmed m → length sets ≤ n → (i : ℕ) → 0 < i → i < length sets → IsFinishing made i
+  finish ok trimmed done i pos low =
+      let e : IsEntered made.edges i = s.entered i pos low in
+      let h : IsSetEdge m sets e.edge = s.sound e.edge e.listed in
+      let l : LeadsFrom m h.set e.edge.label h.state = (h.exactly h.state).0 h.held in
+      let within : h.state < m.states = subst (λ (z : ℕ). z < m.states) (sym l.to_is) (ok.each l.edge l.listed).to_in in
+      let f : IsFinishing m h.state = state_finishing m ok trimmed l.edge l.listed h.state within in
+      let r : IsGathered i f.labels f.last = gather done i h.state f.last h.target f.labels (ap (slice_get sets) (sym e.to_is) ∙ h.target_at) h.held f.walk in
+      let last_low : r.last < length sets = slice_get_within sets r.last r.target r.target_at in
+      record {
+        labels = f.labels;
+        last = r.last;
+        final = (s.final r.last).1 (record { below = omega arith; set = r.target; set_at = r.target_at; holds = record { state = f.last; listed = r.listed; final = f.final } });
+        walk = r.walk;
+      }
+
+  no_edge : m.edges ≡ [] → (e : Edge) → IsIn e made.edges → ⊥
+  no_edge none e i =
+      let h : IsSetEdge m sets e = s.sound e i in
+      let l : LeadsFrom m h.set e.label h.state = (h.exactly h.state).0 h.held in
+      not_in_nil l.edge m.edges none l.listed
+
+  one_set : m.edges ≡ [] → length sets ≡ 1
+  one_set none =
+      let some : 0 < length sets = slice_get_within sets 0 (0 ∷ []) s.first in
+      elim (cases_lt 1 (length sets)) [
+        | inl more ↦ let e : IsEntered made.edges 1 = s.entered 1 (omega arith) more in absurd (no_edge none e.edge e.listed)
+        | inr few ↦ omega arith
+      ]
+
+  pub is_trimmed : made.states ≡ length sets → length sets ≤ n → IsMachine m → IsTrimmed m → IsTrimmed made
+  is_trimmed long done ok trimmed = record {
+    reached = λ i pos lt. reach (suc i) i (omega arith) (omega arith);
+    finishing = λ i pos lt. finish ok trimmed done i pos (omega arith);
+    nothing = λ none.
+        let lone : m.edges ≡ [] = (trimmed.nothing (λ w a. none w (accepts_in done w a))).1 in
+        (long ∙ one_set lone, none_is_nil made.edges (no_edge lone));
+  }

@@ -18,8 +18,8 @@ use Rattle.ap_fst.proofs.Listing.{in_either, in_front, in_back, in_contains, con
 use Rattle.ap_fst.proofs.Adding.{adds_one, adds_none}
 use Rattle.ap_fst.proofs.OrderLaws.{label_total, label_equal, is_equal}
 use Rattle.ap_det.specs.Numbered.{IsNumbered}
-use Rattle.ap_det.specs.Exits.{RisesByLabel, HasLabel, IsGroup, LeadsAt, LeadsWithin, LeadsBy, AddsGroup, IsLabelOf, IsOut, HoldsLabel, AddsOuts}
-use Rattle.ap_det.proofs.Numberings.{numbered_keeps}
+use Rattle.ap_det.specs.Exits.{RisesByLabel, HasLabel, IsGroup, LeadsAt, LeadsWithin, LeadsBy, AddsGroup, IsLabelOf, IsOut, HoldsLabel, LeadsInto, AddsOuts}
+use Rattle.ap_det.proofs.Numberings.{numbered_keeps, numbered_fresh}
 
 -- ---- the order of labels
 
@@ -148,6 +148,7 @@ module _ (edge_of : ℕ → Option Edge) where
         target_at = ap (slice_get sets) to_is ∙ n.at;
         exactly = exactly;
         keeps = numbered_keeps old_sets sets targets number n;
+        fresh = λ i ge lt. numbered_fresh old_sets sets targets number n i ge lt ∙ sym to_is;
       }
 
   -- ---- all groups
@@ -162,6 +163,7 @@ module _ (edge_of : ℕ → Option Edge) where
     ascend = tt;
     below = λ e k d i le at. elim i [ ];
     keeps = λ i set h. h;
+    entered = λ i ge lt. absurd (omega arith);
   }
 
   module _ (from low high : ℕ) (first_sets old_sets sets : List (List ℕ)) (first_made old new : List Edge) (o : AddsOuts edge_of from low first_sets old_sets first_made old) (g : AddsGroup edge_of from low high old_sets sets old new) where
@@ -210,4 +212,8 @@ module _ (edge_of : ℕ → Option Edge) where
         | inr j ↦ last_is e (λ x. label_cmp x.label d.label ≡ Less) j (g.after k d le at)
       ];
       keeps = λ i set h. g.keeps i set (o.keeps i set h);
+      entered = λ i ge lt. elim (cases_lt i (length old_sets)) [
+        | inl before ↦ let e : LeadsInto o.outs i = o.entered i ge before in record { edge = e.edge; listed = in_front e.edge o.outs (g.edge ∷ []) e.listed; to_is = e.to_is }
+        | inr behind ↦ record { edge = g.edge; listed = in_back g.edge o.outs (g.edge ∷ []) (inl refl); to_is = sym (g.fresh i behind lt) }
+      ];
     }

@@ -3,4 +3,3 @@ pub mod Sorting
 pub mod Grouping
 pub mod Constructing
 pub mod DetLaws
-pub mod TrimLaws

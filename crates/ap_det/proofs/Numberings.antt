@@ -1,12 +1,12 @@
 -- Sets and their numbers.
-use Rattle.std.proofs.Common.{◌≡◌, ℕ, ◌+◌, ◌<◌, zero, suc, Bool, true, false, List, [], ◌∷◌, ◌++◌, Option, Some, length, get_or, map, eqb, not, refl, sym, ap, subst, ◌∙◌, arith, inl, inr, position, slice_get, option_map}
+use Rattle.std.proofs.Common.{◌≡◌, ℕ, ◌+◌, ◌<◌, ◌≤◌, zero, suc, Bool, true, false, List, [], ◌∷◌, ◌++◌, Option, Some, length, get_or, map, eqb, not, refl, sym, ap, subst, ◌∙◌, arith, inl, inr, position, slice_get, option_map}
 use Rattle.std.specs.declared.alloc.Global.{Global}
 use Rattle.std.specs.declared.vec.Vec.{Vec}
 use Rattle.std.specs.List.{position_or_len, list_any}
 use Rattle.std.specs.Cmp.Lexicographic.{pointwise}
 use Rattle.std.proofs.lemmas.Bool.{cases_Bool, or_parts, not_from_false, cond-true, cond-false}
 use Rattle.std.proofs.lemmas.Option.{none-some, same_Some, slice_get-map, slice_get-get_or}
-use Rattle.std.proofs.lemmas.List.{length-map, map_push}
+use Rattle.std.proofs.lemmas.List.{length_push, length-map, map_push}
 use Rattle.std.proofs.lemmas.List.Quantifiers.{position-Some}
 use Rattle.std.proofs.lemmas.Slice.Eq.{bytes_eq-Decides}
 use Rattle.indexmap.specs.IndexSet.{insert_key}
@@ -54,10 +54,18 @@ numbered_keeps old new set number n i other h =
       | inr e ↦ subst (λ (z : List (List ℕ)). slice_get z i ≡ Some other) (sym e.1) (place_front old (set ∷ []) i other h)
     ]
 
--- the first set of all has the number 0
-pub numbered_first : (old new : List (List ℕ)) (set : List ℕ) (number : ℕ) → old ≡ [] → IsNumbered old new set number → slice_get new 0 ≡ Some set
+-- the first set of all stands alone
+pub numbered_first : (old new : List (List ℕ)) (set : List ℕ) (number : ℕ) → old ≡ [] → IsNumbered old new set number → new ≡ set ∷ []
 numbered_first old new set number none n =
-    elim n.grew [
-      | inl e ↦ absurd (none-some set (ap (λ (z : List (List ℕ)). slice_get z number) (sym (e ∙ none)) ∙ n.at))
-      | inr e ↦ let zero_is : number ≡ 0 = e.0 ∙ ap length none in sym (ap (slice_get new) zero_is) ∙ n.at
+    elim n.grew
+    [ inl e ↦ absurd (none-some set (ap (λ (z : List (List ℕ)). slice_get z number) (sym (e ∙ none)) ∙ n.at))
+    | inr e ↦ e.1 ∙ ap (λ (z : List (List ℕ)). z ++ set ∷ []) none
+    ]
+
+-- no other number is new
+pub numbered_fresh : (old new : List (List ℕ)) (set : List ℕ) (number : ℕ) → IsNumbered old new set number → (i : ℕ) → length old ≤ i → i < length new → i ≡ number
+numbered_fresh old new set number n i from below =
+    elim n.grew
+    [ inl e ↦ let l : length new ≡ length old = ap length e in absurd (omega arith)
+    | inr e ↦ let l : length new ≡ length old + 1 = ap length e.1 ∙ length_push old set in let k : number ≡ length old = e.0 in omega arith
     ]

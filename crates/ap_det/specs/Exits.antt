@@ -1,4 +1,4 @@
-use Rattle.std.specs.Prelude.{◌≡◌, ◌↔◌, ℕ, ◌<◌, ◌≤◌, List, [], ◌∷◌, ◌++◌, Option, Some, slice_get, option_and_then}
+use Rattle.std.specs.Prelude.{◌≡◌, ◌↔◌, ℕ, ◌<◌, ◌≤◌, List, [], ◌∷◌, ◌++◌, Option, Some, slice_get, length, option_and_then}
 use Rattle.std.specs.Option.{option_cmp}
 use Rattle.std.specs.Ordering.{nat_cmp, ordering_then}
 use Rattle.std.specs.declared.cmp.Ordering.{Ordering}
@@ -84,6 +84,7 @@ pub record AddsGroup (edge_of : ℕ → Option Edge) (from low high : ℕ) (old_
   pub target_at : slice_get sets edge.to ≡ Some target
   pub exactly : (t : ℕ) → IsIn t target ↔ LeadsWithin edge_of low high t
   pub keeps : (i : ℕ) (set : List ℕ) → slice_get old_sets i ≡ Some set → slice_get sets i ≡ Some set
+  pub fresh : (i : ℕ) → length old_sets ≤ i → i < length sets → i ≡ edge.to
 
 -- some edge has the label
 pub record IsLabelOf (edge_of : ℕ → Option Edge) (label : Label) : Type 0 where
@@ -103,6 +104,12 @@ pub record HoldsLabel (edges : List Edge) (label : Label) : Type 0 where
   pub listed : IsIn edge edges
   pub label_is : edge.label ≡ label
 
+-- one of these edges leads to the number
+pub record LeadsInto (edges : List Edge) (i : ℕ) : Type 0 where
+  pub edge : Edge
+  pub listed : IsIn edge edges
+  pub to_is : edge.to ≡ i
+
 -- the edges below a number were grouped by label: one edge for each label
 pub record AddsOuts (edge_of : ℕ → Option Edge) (from low : ℕ) (old_sets sets : List (List ℕ)) (old new : List Edge) : Type 0 where
   pub outs : List Edge
@@ -113,3 +120,4 @@ pub record AddsOuts (edge_of : ℕ → Option Edge) (from low : ℕ) (old_sets s
   pub ascend : Ascends (λ a b. label_cmp a.label b.label) outs
   pub below : (e : Edge) (k : ℕ) (d : Edge) → IsIn e outs → low ≤ k → edge_of k ≡ Some d → label_cmp e.label d.label ≡ Less
   pub keeps : (i : ℕ) (set : List ℕ) → slice_get old_sets i ≡ Some set → slice_get sets i ≡ Some set
+  pub entered : (i : ℕ) → length old_sets ≤ i → i < length sets → LeadsInto outs i
