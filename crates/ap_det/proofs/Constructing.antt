@@ -92,13 +92,13 @@ module _ (m : Machine) (ok : IsMachine m) (set : List ℕ) (places : List ℕ) (
         from_in = subst (λ (z : Edge). IsIn z.from set) (same_Some p.edge d (sym p.at ∙ n.edge_is)) p.from_in;
       }
 
-  pub record IsNumbered (d : Edge) : Type 0 where
+  pub record HasNumber (d : Edge) : Type 0 where
     pub number : ℕ
     pub at : edge_at m.edges places number ≡ Some d
     pub below : number < length places
 
   -- an edge from the set has a number
-  exit_number : (d : Edge) → IsIn d m.edges → IsIn d.from set → IsNumbered d
+  exit_number : (d : Edge) → IsIn d m.edges → IsIn d.from set → HasNumber d
   exit_number d listed from =
       let p : IsPlaced d m.edges = placed_in d m.edges listed in
       let q : IsPlaced p.place places = placed_in p.place places ((exactly p.place).1 (record { edge = d; at = p.at; from_in = from })) in
@@ -107,7 +107,7 @@ module _ (m : Machine) (ok : IsMachine m) (set : List ℕ) (places : List ℕ) (
   leads_same : (label : Label) (t : ℕ) → LeadsBy (edge_at m.edges places) label t ↔ LeadsFrom m set label t
   leads_same label t = (
     λ l. let x : IsExit l.edge = exit_at l.number l.edge l.at in record { edge = l.edge; listed = x.listed; from_in = x.from_in; label_is = l.label_is; to_is = l.to_is },
-    λ l. let n : IsNumbered l.edge = exit_number l.edge l.listed l.from_in in record { number = n.number; edge = l.edge; at = n.at; label_is = l.label_is; to_is = l.to_is },
+    λ l. let n : HasNumber l.edge = exit_number l.edge l.listed l.from_in in record { number = n.number; edge = l.edge; at = n.at; label_is = l.label_is; to_is = l.to_is },
   )
 
   module _ (n : ℕ) (old_sets sets : List (List ℕ)) (old new : List Edge) (old_finals finals : List ℕ) (s : AreSubsets m n old_sets old old_finals) (set_at : slice_get old_sets n ≡ Some set)
@@ -161,7 +161,7 @@ module _ (m : Machine) (ok : IsMachine m) (set : List ℕ) (places : List ℕ) (
           record { edge = l.edge; listed = in_new l.edge (in_front l.edge old g.outs l.listed); from_is = l.from_is; label_is = l.label_is }
       | inr ge ↦
           let e : i ≡ n = omega arith in
-          let q : IsNumbered d = exit_number d listed (subst (λ (z : List ℕ). IsIn d.from z) (sym (own_set i other e at)) from) in
+          let q : HasNumber d = exit_number d listed (subst (λ (z : List ℕ). IsIn d.from z) (sym (own_set i other e at)) from) in
           let h : HoldsLabel g.outs d.label = g.all q.number d q.below q.at in
           record { edge = h.edge; listed = in_new h.edge (in_back h.edge old g.outs h.listed); from_is = g.from_is h.edge h.listed ∙ sym e; label_is = h.label_is }
     ]

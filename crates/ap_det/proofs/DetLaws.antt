@@ -158,7 +158,7 @@ module _ (m made : Machine) (n : ℕ) (sets : List (List ℕ)) (s : AreSubsets m
       }) in
       let r : IsGathered l.edge.to labels t = gather done l.edge.to d.to t h.target labels h.target_at next rest in
       let p : IsPlaced l.edge made.edges = placed_in l.edge made.edges l.listed in
-      record { last = r.last; target = r.target; target_at = r.target_at; listed = r.listed; walk = goes p.place l.edge p.at (sym l.from_is) (whole ∙ ap (λ z. z ∷ labels) (sym l.label_is)) r.walk }
+      record { last = r.last; target = r.target; target_at = r.target_at; listed = r.listed; walk = goes {t = r.last} p.place l.edge p.at (sym l.from_is) (whole ∙ ap (λ z. z ∷ labels) (sym l.label_is)) r.walk }
 
   -- ---- the same label strings
 

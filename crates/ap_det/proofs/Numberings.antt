@@ -57,15 +57,15 @@ numbered_keeps old new set number n i other h =
 -- the first set of all stands alone
 pub numbered_first : (old new : List (List ℕ)) (set : List ℕ) (number : ℕ) → old ≡ [] → IsNumbered old new set number → new ≡ set ∷ []
 numbered_first old new set number none n =
-    elim n.grew
-    [ inl e ↦ absurd (none-some set (ap (λ (z : List (List ℕ)). slice_get z number) (sym (e ∙ none)) ∙ n.at))
-    | inr e ↦ e.1 ∙ ap (λ (z : List (List ℕ)). z ++ set ∷ []) none
+    elim n.grew [
+      | inl e ↦ absurd (none-some set (ap (λ (z : List (List ℕ)). slice_get z number) (sym (e ∙ none)) ∙ n.at))
+      | inr e ↦ e.1 ∙ ap (λ (z : List (List ℕ)). z ++ set ∷ []) none
     ]
 
 -- no other number is new
 pub numbered_fresh : (old new : List (List ℕ)) (set : List ℕ) (number : ℕ) → IsNumbered old new set number → (i : ℕ) → length old ≤ i → i < length new → i ≡ number
 numbered_fresh old new set number n i from below =
-    elim n.grew
-    [ inl e ↦ let l : length new ≡ length old = ap length e in absurd (omega arith)
-    | inr e ↦ let l : length new ≡ length old + 1 = ap length e.1 ∙ length_push old set in let k : number ≡ length old = e.0 in omega arith
+    elim n.grew [
+      | inl e ↦ let l : length new ≡ length old = ap length e in absurd (omega arith)
+      | inr e ↦ let l : length new ≡ length old + 1 = ap length e.1 ∙ length_push old set in let k : number ≡ length old = e.0 in omega arith
     ]
