@@ -1,4 +1,4 @@
-use Rattle.std.proofs.Common.{◌≡◌, List, subst}
+use Rattle.std.proofs.Common.{◌≡◌, List, sym, subst}
 use Rattle.std.specs.Prelude.{◌↔◌}
 use Rattle.ap_dix.specs.Derivation.{Label as EntryLabel, Strings}
 use Rattle.ap_dix.specs.declared.dictionary.Dictionary.{Dictionary}
@@ -26,3 +26,8 @@ section_strings d direction kind sections draft old new e h made same w =
       (λ a. string_of d direction kind (derived_labels w) ((k.exact w).0 ((made w).0 ((same w).0 a)))),
       (λ s. (same w).1 ((made w).1 ((k.exact w).1 (any_string d direction kind (derived_labels w) s)))),
     )
+
+-- the label strings stay the same through trimming and determinisation
+pub same_on : (old useful made new : Machine) → new ≡ made → ((w : List Label) → AcceptsLabels useful w ↔ AcceptsLabels old w) → ((w : List Label) → AcceptsLabels made w ↔ AcceptsLabels useful w) → (w : List Label) → AcceptsLabels new w ↔ AcceptsLabels old w
+same_on old useful made new e first second w =
+    subst (λ (z : Machine). AcceptsLabels z w ↔ AcceptsLabels old w) (sym e) (λ a. (first w).0 ((second w).0 a), λ a. (second w).1 ((first w).1 a))

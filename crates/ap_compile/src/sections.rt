@@ -1,5 +1,6 @@
 ghost use Rattle.std.specs.Prelude.{◌≡◌, ◌↔◌, List, length, IsTrue, IfOk};
 ghost use Rattle.std.specs.List.{list_all};
+ghost use Rattle.ap_det.specs.Determinism.{IsDeterministic};
 ghost use Rattle.ap_dix.specs.Derivation.{Strings};
 ghost use Rattle.ap_dix.specs.Soundness.{is_sound_entry, IsSound};
 ghost use Rattle.ap_dix.specs.declared.dictionary.Dictionary.{Dictionary as Lexicon};
@@ -10,6 +11,7 @@ ghost use Rattle.ap_compile.specs.Labels.{derived_labels, ArePlain};
 ghost use Rattle.ap_compile.specs.Drafts.{IsDraftOf, IsMoreBy, Any, SpellsIn, AreDrafts};
 
 use crate::gathering::entries_draft;
+use ap_det::determinise;
 use ap_dix::{Dictionary, Direction, Kind, Section};
 use ap_fst::{Draft, Fst, trim, without_empty};
 use ap_symbol::Memory;
@@ -51,8 +53,9 @@ fn kind_draft(
     Ok(made)
 }
 
-/// The transducer of the sections of a kind: trimmed, it accepts exactly the label strings that a kept
-/// entry of such a section derives in the direction. The drafts are those of the paradigms.
+/// The transducer of the sections of a kind: trimmed, with at most one edge per state and label, it
+/// accepts exactly the label strings that a kept entry of such a section derives in the direction. The
+/// drafts are those of the paradigms.
 pub fn section(
     alloc: Global,
     direction: Direction,
@@ -66,6 +69,7 @@ pub fn section(
     ensures strings { IfOk result (λ fst. (w : List Label) → AcceptsLabels fst w ↔ Strings dictionary.now direction kind (derived_labels w)) }
     ensures plain { IfOk result (λ fst. (w : List Label) → AcceptsLabels fst w → ArePlain w) }
     ensures trimmed { IfOk result (λ fst. IsTrimmed fst) }
+    ensures one { IfOk result (λ fst. IsDeterministic fst) }
 {
     let draft = kind_draft(
         alloc,
@@ -75,5 +79,7 @@ pub fn section(
         dictionary.sections.as_slice(),
     )?;
     let fst = without_empty(alloc, &draft)?;
-    trim(alloc, &fst)
+    let useful = trim(alloc, &fst)?;
+    let made = determinise(alloc, &useful)?;
+    Ok(made.into_fst())
 }

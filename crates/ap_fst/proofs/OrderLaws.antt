@@ -23,7 +23,7 @@ use Rattle.ap_fst.proofs.WalkLaws.{equal_from_cmp}
 pub side_total : IsTotalOrder side_cmp
 side_total = then_total (on_total side_class nat_cmp_total) (on_total side_text nat_list_cmp_total)
 
-label_total : IsTotalOrder label_cmp
+pub label_total : IsTotalOrder label_cmp
 label_total = then_total (on_total (λ (l : Label). l.left) side_total) (on_total (λ (l : Label). l.right) side_total)
 
 pub edge_total : IsTotalOrder edge_cmp
@@ -69,7 +69,7 @@ side_equal s t h =
     let p : (nat_cmp (side_class s) (side_class t) ≡ Equal) × (slice_cmp nat_cmp (side_text s) (side_text t) ≡ Equal) = then_equal (nat_cmp (side_class s) (side_class t)) (slice_cmp nat_cmp (side_text s) (side_text t)) h in
     sym (side_again s) ∙ ap (λ z. side_of z (side_text s)) (equal_from_cmp (side_class s) (side_class t) p.0) ∙ ap (side_of (side_class t)) (lists_equal (side_text s) (side_text t) p.1) ∙ side_again t
 
-label_equal : (a b : Label) → label_cmp a b ≡ Equal → a ≡ b
+pub label_equal : (a b : Label) → label_cmp a b ≡ Equal → a ≡ b
 label_equal a b h =
     let p : (side_cmp a.left b.left ≡ Equal) × (side_cmp a.right b.right ≡ Equal) = then_equal (side_cmp a.left b.left) (side_cmp a.right b.right) h in
     let l : a.left ≡ b.left = side_equal a.left b.left p.0 in
@@ -85,7 +85,7 @@ edge_equal a b h =
     let t : a.to ≡ b.to = equal_from_cmp a.to b.to q.1 in
     λ i. record { from = f i; label = l i; to = t i }
 
-is_equal : (o : Ordering) → is_eq o ≡ true → o ≡ Equal
+pub is_equal : (o : Ordering) → is_eq o ≡ true → o ≡ Equal
 is_equal Less h = cc
 is_equal Equal h = refl
 is_equal Greater h = cc

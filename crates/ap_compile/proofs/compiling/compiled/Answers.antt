@@ -17,4 +17,10 @@ returns c = subst (λ (p : Parts). IsCompiledFrom c.args.dictionary.now c.args.d
     postblank_is = c.in_ok-postblank.ensures.section;
     preblank_is = c.in_ok-preblank.ensures.section;
   };
+  one = record {
+    standard_one = c.in_ok-standard.ensures.one;
+    inconditional_one = c.in_ok-inconditional.ensures.one;
+    postblank_one = c.in_ok-postblank.ensures.one;
+    preblank_one = c.in_ok-preblank.ensures.one;
+  };
 })

@@ -1,0 +1,5 @@
+pub mod Numberings
+pub mod Sorting
+pub mod Grouping
+pub mod Constructing
+pub mod DetLaws

@@ -1,0 +1,4 @@
+pub mod Determinism
+pub mod Numbered
+pub mod Exits
+pub mod Subsets
