@@ -44,18 +44,14 @@ impl SharedRow {
         })
     }
 
-    /// How many states and edges it holds.
-    pub(crate) fn size(&self) -> usize {
-        size_of(self.row.as_ref())
+    /// For how many states and edges its lists have room.
+    pub(crate) fn room(&self) -> usize {
+        self.row
+            .states
+            .capacity()
+            .saturating_add(self.row.taken.capacity())
+            .saturating_add(self.row.silent.capacity())
     }
-}
-
-/// How many states and edges a row holds.
-fn size_of(row: &Row) -> usize {
-    row.states
-        .len()
-        .saturating_add(row.taken.len())
-        .saturating_add(row.silent.len())
 }
 
 /// A row that is shared, or else stands in lists of its own. Where it is shared, the lists of its
@@ -184,7 +180,10 @@ impl HeldRow {
 
     /// How many states and edges it holds.
     pub(crate) fn size(&self) -> usize {
-        size_of(self.row())
+        self.states()
+            .len()
+            .saturating_add(self.taken().len())
+            .saturating_add(self.silent().len())
     }
 }
 

@@ -15,8 +15,8 @@ use std::alloc::Global;
 /// At so many known rows no more are kept.
 const MOST_ROWS: usize = 131_072;
 
-/// At so many states and links in known rows no more are kept.
-const MOST_HELD: usize = 8_000_000;
+/// Where known rows have room for so many states and edges no more are kept.
+const MOST_ROOM: usize = 8_000_000;
 
 /// A row that has fewer states and edges than this, together with the row that it is computed from,
 /// is computed again as fast as it is found. It isn't kept, so that what is kept stays small on
@@ -44,7 +44,8 @@ pub struct Link {
 ///
 /// `path` has the numbers of the rows so far, as long as these are known. `heads` has for each known
 /// row one more than the place of its last link, or 0; `guesses` has such places by row and letter.
-/// Links are checked when they are found by them. `held` counts the states and links of known rows.
+/// Links are checked when they are found by them. `room` counts the states and edges that known
+/// rows have room for.
 #[derive(Debug, Drop)]
 pub struct Known {
     pub rows: Vec<SharedRow>,
@@ -52,7 +53,7 @@ pub struct Known {
     pub path: Vec<usize>,
     heads: Vec<usize>,
     guesses: Vec<usize>,
-    held: usize,
+    room: usize,
 }
 
 pub(crate) fn nothing_known(alloc: Global) -> Known
@@ -66,7 +67,7 @@ pub(crate) fn nothing_known(alloc: Global) -> Known
         path: Vec::new(alloc),
         heads: Vec::new(alloc),
         guesses: Vec::new(alloc),
-        held: 0,
+        room: 0,
     }
 }
 
@@ -186,7 +187,7 @@ fn add_known(rows: &mut Rows, known: &mut Known, to: usize) -> Result<(), Memory
 }
 
 fn is_full(known: &Known) -> bool {
-    MOST_ROWS <= known.rows.as_slice().len() || MOST_HELD <= known.held
+    MOST_ROWS <= known.rows.as_slice().len() || MOST_ROOM <= known.room
 }
 
 /// How many states and edges the row at a place holds.
@@ -251,11 +252,11 @@ fn keep(
         → IsKnown edges finals rows known.old.rows.items known.old.links.items known.old.path.items → IsKnown edges finals rows known.new.rows.items known.new.links.items known.new.path.items }
 {
     let to = known.rows.as_slice().len();
-    let held = row.size();
+    let room = row.room();
     let symbol = input.copy(alloc)?;
     known.heads.push(0)?;
     known.rows.push(row)?;
-    known.held = known.held.saturating_add(held);
+    known.room = known.room.saturating_add(room);
     let earlier = head_of(known.heads.as_slice(), from);
     known.links.push(Link {
         from,
@@ -353,7 +354,7 @@ fn forget(known: &mut Known)
     known.path.clear();
     known.heads.clear();
     known.guesses.clear();
-    known.held = 0;
+    known.room = 0;
 }
 
 /// Goes back to the rows of the first so many inputs. At none of them known rows are forgotten where

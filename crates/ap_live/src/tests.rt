@@ -172,22 +172,3 @@ fn hints_for_another_transducer_are_not_taken(rt: HostRuntime) -> Result<(), Fai
     }
     Ok(())
 }
-
-#[test]
-fn a_long_word_is_gone_back_over(rt: HostRuntime) -> Result<(), Fail> {
-    let alloc = rt.alloc();
-    let fst = wide(alloc)?;
-    let mut live = Live::start(alloc, &fst)?;
-    for _ in 0..5_000 {
-        live.step(&fst, &Symbol::Letter('a'), true)?;
-    }
-    assert_eq!(rt; live.len(), 5_000);
-    for (second, want) in [('b', "xb/"), ('k', "xk/"), ('v', "")] {
-        live.cut(0);
-        live.step(&fst, &Symbol::Letter('a'), true)?;
-        live.step(&fst, &Symbol::Letter(second), true)?;
-        let text = outputs(alloc, &fst, &live)?;
-        assert_eq!(rt; text.as_slice(), want.as_bytes());
-    }
-    Ok(())
-}
