@@ -1,26 +1,22 @@
 -- Sets of states as the states of a transducer: what is made of them, and what it accepts.
-use Rattle.std.proofs.Common.{◌≡◌, inl, inr, ℕ, ◌+◌, ◌<◌, ◌≤◌, zero, suc, List, [], ◌∷◌, ◌++◌, length, refl, sym, ◌∙◌, ap, subst, arith, Some, None}
+use Rattle.std.proofs.Common.{◌≡◌, inl, inr, ℕ, ◌+◌, ◌<◌, ◌≤◌, zero, suc, List, [], ◌∷◌, ◌++◌, length, refl, sym, ◌∙◌, ap, subst, arith, Some}
 use Rattle.std.specs.Prelude.{◌↔◌, slice_get, IsTrue}
 use Rattle.std.specs.Ordering.{nat_cmp, ordering_then}
-use Rattle.std.specs.declared.cmp.Ordering.{Ordering}
-use Rattle.std.specs.declared.cmp.Ordering.TheVariants.{Less, Equal, Greater}
+use Rattle.std.specs.declared.cmp.Ordering.TheVariants.{Less, Equal}
 use Rattle.std.proofs.lemmas.Bool.{cases_lt}
 use Rattle.std.proofs.lemmas.Option.{none-some, same_Some, slice_get_within}
 use Rattle.ap_fst.specs.Lists.{IsIn, Ascends}
-use Rattle.ap_fst.specs.Order.{label_cmp, edge_cmp}
+use Rattle.ap_fst.specs.Order.{label_cmp}
 use Rattle.ap_fst.specs.Sides.{has_side}
 use Rattle.ap_fst.specs.Machines.{Machine, IsMachine}
-use Rattle.ap_fst.specs.Walks.{Walk, ends, goes, AcceptsLabels}
 use Rattle.ap_fst.specs.declared.label.Label.{Label}
 use Rattle.ap_fst.specs.declared.label.Edge.{Edge}
 use Rattle.ap_fst.proofs.Listing.{in_either, in_front, in_back, in_from_place, placed_in, IsPlaced, ascends_push}
 use Rattle.ap_fst.proofs.PlaceLaws.{cmp_less, cmp_same}
 use Rattle.ap_fst.proofs.Trims.{ascends_append}
-use Rattle.ap_det.specs.Determinism.{IsDeterministic}
-use Rattle.ap_det.specs.Exits.{edge_at, IsPlaceFrom, LeadsBy, HasLabel, IsLabelOf, IsOut, HoldsLabel, LeadsInto, AddsOuts}
+use Rattle.ap_det.specs.Exits.{edge_at, IsPlaceFrom, LeadsBy, HasLabel, IsOut, HoldsLabel, LeadsInto, AddsOuts}
 use Rattle.ap_det.specs.Subsets.{HoldsFinal, AddsFinal, added, same, LeadsFrom, IsSetEdge, Leaves, IsEntered, IsFinalSet, start_cmp, AreSubsets}
 use Rattle.ap_det.proofs.Sorting.{named, naming, IsNamed}
-use Rattle.ap_det.proofs.Grouping.{label_itself}
 
 -- ---- final states of a set
 

@@ -1,15 +1,14 @@
 -- Edges in the order of labels, grouped by label.
-use Rattle.std.proofs.Common.{◌≡◌, ◌⊎◌, inl, inr, ℕ, max, ◌+◌, ◌<◌, ◌≤◌, List, [], ◌∷◌, ◌++◌, length, refl, sym, ◌∙◌, ap, subst, arith, append_assoc, append-nil, eqb, Option, Some, None}
+use Rattle.std.proofs.Common.{◌≡◌, inl, inr, ℕ, max, ◌+◌, ◌<◌, ◌≤◌, List, [], ◌∷◌, ◌++◌, length, refl, sym, ◌∙◌, ap, subst, arith, append_assoc, append-nil, eqb, Option, Some, None}
 use Rattle.std.specs.Prelude.{◌↔◌, slice_get, IsTrue, Bool}
 use Rattle.std.specs.List.{dedup}
-use Rattle.std.specs.Cmp.{IsTotalOrder}
 use Rattle.std.specs.Ordering.{ordering_reverse, is_eq}
 use Rattle.std.specs.declared.cmp.Ordering.{Ordering}
 use Rattle.std.specs.declared.cmp.Ordering.TheVariants.{Less, Equal, Greater}
 use Rattle.std.proofs.lemmas.Bool.{cases_lt}
 use Rattle.std.proofs.lemmas.List.Kept.{Contains-dedup_nat, Contains-from_dedup}
 use Rattle.std.proofs.lemmas.Option.{none-some, same_Some}
-use Rattle.ap_fst.specs.Lists.{IsIn, Ascends}
+use Rattle.ap_fst.specs.Lists.{IsIn}
 use Rattle.ap_fst.specs.Order.{label_cmp}
 use Rattle.ap_fst.specs.Removal.{AddsWhere}
 use Rattle.ap_fst.specs.declared.label.Label.{Label}
@@ -18,7 +17,7 @@ use Rattle.ap_fst.proofs.Listing.{in_either, in_front, in_back, in_contains, con
 use Rattle.ap_fst.proofs.Adding.{adds_one, adds_none}
 use Rattle.ap_fst.proofs.OrderLaws.{label_total, label_equal, is_equal}
 use Rattle.ap_det.specs.Numbered.{IsNumbered}
-use Rattle.ap_det.specs.Exits.{RisesByLabel, HasLabel, IsGroup, LeadsAt, LeadsWithin, LeadsBy, AddsGroup, IsLabelOf, IsOut, HoldsLabel, LeadsInto, AddsOuts}
+use Rattle.ap_det.specs.Exits.{RisesByLabel, HasLabel, IsGroup, LeadsAt, LeadsWithin, LeadsBy, AddsGroup, IsOut, HoldsLabel, LeadsInto, AddsOuts}
 use Rattle.ap_det.proofs.Numberings.{numbered_keeps, numbered_fresh}
 
 -- ---- the order of labels

@@ -1,11 +1,11 @@
 -- Sets and their numbers.
-use Rattle.std.proofs.Common.{◌≡◌, ℕ, ◌+◌, ◌<◌, ◌≤◌, zero, suc, Bool, true, false, List, [], ◌∷◌, ◌++◌, Option, Some, length, get_or, map, eqb, not, refl, sym, ap, subst, ◌∙◌, arith, inl, inr, position, slice_get, option_map}
+use Rattle.std.proofs.Common.{◌≡◌, ℕ, ◌+◌, ◌<◌, ◌≤◌, suc, Bool, true, false, List, [], ◌∷◌, ◌++◌, Some, length, get_or, eqb, not, refl, sym, ap, subst, ◌∙◌, arith, inl, inr, position, slice_get, option_map}
 use Rattle.std.specs.declared.alloc.Global.{Global}
 use Rattle.std.specs.declared.vec.Vec.{Vec}
 use Rattle.std.specs.List.{position_or_len, list_any}
 use Rattle.std.specs.Cmp.Lexicographic.{pointwise}
 use Rattle.std.proofs.lemmas.Bool.{cases_Bool, or_parts, not_from_false, cond-true, cond-false}
-use Rattle.std.proofs.lemmas.Option.{none-some, same_Some, slice_get-map, slice_get-get_or}
+use Rattle.std.proofs.lemmas.Option.{none-some, slice_get-map, slice_get-get_or}
 use Rattle.std.proofs.lemmas.List.{length_push, length-map, map_push}
 use Rattle.std.proofs.lemmas.List.Quantifiers.{position-Some}
 use Rattle.std.proofs.lemmas.Slice.Eq.{bytes_eq-Decides}

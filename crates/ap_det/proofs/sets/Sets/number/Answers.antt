@@ -1,5 +1,4 @@
 use Rattle.std.proofs.Common.{inl, refl}
-use Rattle.ap_det.specs.Numbered.{IsNumbered}
 use Rattle.ap_det.proofs.Numberings.{found, inserted}
 use Rattle.ap_det.proofs.sets.Sets.number.Goals as goal
 
