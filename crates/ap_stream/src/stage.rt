@@ -1,5 +1,6 @@
 ghost use Rattle.std.specs.Prelude.{◌≡◌, ◌≢◌, ℕ, ◌+◌, ◌-◌, ◌<◌, ◌≤◌, min, List, [], ◌∷◌, ◌++◌, take, drop, length, Bool, true, false, Option, Some, None, IfOk, OnOk, IfErr, OnErr, ◌⊎◌};
 ghost use Rattle.ap_stream.specs.declared.fault.StreamFault.{StreamFault};
+ghost use Rattle.ap_stream.specs.declared.fault.MalformedKind.{MalformedKind};
 ghost use Rattle.ap_stream.specs.declared.TheConstants.{SPAN_MAX, UNIT_MAX};
 ghost use Rattle.ap_stream.specs.Told.{Told, Ending, Clean, Cut, silent, behind, ends_in, Begins, cut_told};
 
@@ -48,6 +49,7 @@ pub trait Stage {
         ensures fault { IfErr result (λ f. fault self.new ≡ Some f) }
         ensures cause { IfErr result (λ f. f ≢ StreamFault.Memory → fault self.old ≡ None → (n : ℕ) × (n ≤ length piece.now) × ((x : List ℕ) (e : Ending) →
             rest self.old (take n piece.now ++ x) e ≡ ends_in (pending self.new) f)) }
+        ensures whole { IfErr result (λ f. fault self.old ≡ None → (place : ℕ) → f ≢ StreamFault.Malformed MalformedKind.Unfinished place) }
         ensures front { OnErr result (fault self.old ≡ None → (x : List ℕ) (e : Ending) → Begins (pending self.new) (rest self.old (piece.now ++ x) e).text) }
         ensures stays { (f : StreamFault) → fault self.old ≡ Some f → (result ≡ Err f) × (self.new ≡ self.old) }
         ensures bounded { (held self.new ≤ SPAN_MAX + UNIT_MAX + 2) × (length (pending self.new) ≤ SPAN_MAX + UNIT_MAX + 2) };

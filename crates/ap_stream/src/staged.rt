@@ -1,5 +1,6 @@
 ghost use Rattle.std.specs.Prelude.{◌≡◌, ◌≢◌, ℕ, ◌+◌, ◌-◌, ◌*◌, ◌<◌, ◌≤◌, List, [], ◌∷◌, ◌++◌, take, drop, length, Bool, true, false, Option, Some, None, IfOk, OnOk, IfErr, OnErr};
 ghost use Rattle.ap_stream.specs.declared.fault.StreamFault.{StreamFault};
+ghost use Rattle.ap_stream.specs.declared.fault.MalformedKind.{MalformedKind};
 ghost use Rattle.ap_stream.specs.Dialects.{has_units as units_test};
 ghost use Rattle.ap_stream.specs.declared.TheConstants.{SPAN_MAX, UNIT_MAX};
 ghost use Rattle.ap_stream.specs.Told.{Told, Ending, Clean, Cut, silent, behind, ends_in, Begins};
@@ -92,6 +93,7 @@ impl<H: Handler + Drop> Staged<H> {
         ensures going { OnOk result (self.new.fault ≡ None) }
         ensures rest { OnOk result ((x : List ℕ) (e : Ending) → May self.old x e → rest_of H.work self.old x e ≡ rest_of H.work self.new x e) }
         ensures err { IfErr result (λ f. (self.new.fault ≡ Some f) × (self.new.pending ≡ [])) }
+        ensures whole { IfErr result (λ f. self.old.ended ≡ false → (place : ℕ) → f ≢ StreamFault.Malformed MalformedKind.Unfinished place) }
         ensures cause { IfErr result (λ f. f ≢ StreamFault.Memory → (x : List ℕ) (e : Ending) → May self.old x e → rest_of H.work self.old x e ≡ ends_in [] f) }
     {
         self.out.clear();

@@ -1,5 +1,0 @@
-use Rattle.std.proofs.Common.{false}
-use Rattle.ap_tool.proofs.opening.open_entries.Goals as goal
-
-pub returns-in-Err-clause-refused : goal.returns-in-Err-clause-refused
-returns-in-Err-clause-refused g c = c.in-Err.ensures.refused false
