@@ -2,9 +2,13 @@ use Rattle.std.specs.Prelude.{◌≡◌, ℕ, ◌+◌, ◌-◌, ◌^◌, ◌≤�
 use Rattle.ap_outside.specs.declared.files.LoadRefusal.{LoadRefusal}
 use Rattle.ap_outside.specs.declared.files.LoadRefusal.TheVariants.{Failed}
 
+-- a count that is raised by one, and stands still at its end
+abbrev pub raised : ℕ → ℕ
+raised count = min (count + 1) (2 ^ 64 - 1)
+
 -- the count has risen, or stands at its end
 abbrev pub Rose : ℕ → ℕ → Type 0
-Rose before now = min (before + 1) (2 ^ 64 - 1) ≤ now
+Rose before now = raised before ≤ now
 
 -- a count of faults never falls, rises where the call failed, and stays where it did not
 pub record HasCause {T E : Type 0} (before now : ℕ) (result : Result T E) : Type 0 where

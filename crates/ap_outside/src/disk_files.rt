@@ -1,4 +1,4 @@
-ghost use Rattle.std.specs.Prelude.{◌≡◌, ◌≤◌, None, IfOk, length};
+ghost use Rattle.std.specs.Prelude.{◌≡◌, ◌≤◌, ◌<◌, None, IfOk, IfSome, IsErrOf, length};
 
 use crate::files::{Files, LoadRefusal, StoreRefusal};
 use std::alloc::Global;
@@ -24,7 +24,9 @@ impl<R: rt::Files + Drop> DiskFiles<R> {
 
 /// Reads to the end, at most one byte beyond `most`.
 fn read_whole<F: Read + Drop>(alloc: Global, file: F, most: u64) -> Result<Vec<u8>, LoadRefusal>
-    ensures { IfOk result (λ bytes. length bytes.items ≤ most) }
+    ensures most { IfOk result (λ bytes. length bytes.items ≤ most) }
+    ensures whole { IfOk result (λ bytes. IfSome (F.remaining file) (λ all. bytes.items ≡ all)) }
+    ensures too_long { IsErrOf result LoadRefusal.TooLong → IfSome (F.remaining file) (λ all. most < length all) }
 {
     let mut bytes = Vec::new(alloc);
     match file.take(most.saturating_add(1)).read_to_end(&mut bytes) {
@@ -44,7 +46,9 @@ fn read_whole<F: Read + Drop>(alloc: Global, file: F, most: u64) -> Result<Vec<u
 }
 
 impl<R: rt::Files + Drop> DiskFiles<R> {
-    fn read(&self, alloc: Global, name: &str, most: u64) -> Result<Vec<u8>, LoadRefusal> {
+    fn read(&self, alloc: Global, name: &str, most: u64) -> Result<Vec<u8>, LoadRefusal>
+        ensures { IfOk result (λ bytes. length bytes.items ≤ most) }
+    {
         match File::open(&self.rt, name) {
             Ok(file) => read_whole(alloc, file, most),
             Err(_) => Err(LoadRefusal::Failed),

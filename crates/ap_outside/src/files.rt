@@ -1,4 +1,4 @@
-ghost use Rattle.std.specs.Prelude.{◌≡◌, List, ℕ, IfOk, OnOk, Option, IsErrOf};
+ghost use Rattle.std.specs.Prelude.{◌≡◌, ◌≤◌, List, ℕ, length, IfOk, OnOk, Option, IsErrOf};
 ghost use Rattle.ap_outside.specs.Causes.{HasLoadCause, SparesStoreFaults};
 ghost use Rattle.ap_outside.specs.StoreCauses.{HasStoreCause, SparesLoadFaults};
 ghost use Rattle.ap_outside.specs.Told.{Loads, IsTooLong, Stores, StoresSome};
@@ -44,6 +44,7 @@ pub trait Files {
     /// `TooLong` comes only where the file has more than `most` bytes, and `Failed` only where the
     /// count of faults of that name rose.
     fn load(&mut self, alloc: Global, name: &str, most: u64) -> Result<Vec<u8>, LoadRefusal>
+        ensures most { IfOk result (λ bytes. length bytes.items ≤ most) }
         ensures loaded { IfOk result (λ bytes. Loads (contents self.old) name.now most bytes.items) }
         ensures too_long { IsErrOf result LoadRefusal.TooLong → IsTooLong (contents self.old) name.now most }
         ensures kept { contents self.new ≡ contents self.old }

@@ -1,5 +1,5 @@
 ghost use Rattle.std.specs.Prelude.{◌≡◌, ◌≤◌, ◌||◌, ◌↔◌, None, Some, length, IfOk, IfSome, IsErrOf, OnErr, OnOk, IsTrue, is_none, option_map};
-ghost use Rattle.ap_outside.specs.Causes.{HasLoadCause, SparesStoreFaults};
+ghost use Rattle.ap_outside.specs.Causes.{HasLoadCause, SparesStoreFaults, raised};
 ghost use Rattle.ap_outside.specs.Held.{content_of, faults_of, place_of};
 ghost use Rattle.ap_outside.specs.Numbered.{next_call, is_listed};
 ghost use Rattle.ap_outside.specs.StoreCauses.{HasStoreCause, SparesLoadFaults};
@@ -102,11 +102,13 @@ impl Files for MemFiles {
 
     /// It fails exactly where its number is listed or the name isn't there.
     fn load(&mut self, alloc: Global, name: &str, most: u64) -> Result<Vec<u8>, LoadRefusal>
+        ensures most { IfOk result (λ bytes. length bytes.items ≤ most) }
         ensures loaded { IfOk result (λ bytes. Loads (Some (content_of self.old.files.items)) name.now most bytes.items) }
         ensures too_long { IsErrOf result LoadRefusal.TooLong → IsTooLong (Some (content_of self.old.files.items)) name.now most }
         ensures kept { Some (content_of self.new.files.items) ≡ Some (content_of self.old.files.items) }
         ensures cause { HasLoadCause (faults_of self.old.files.items self.old.faults.items self.old.absent_faults) (faults_of self.new.files.items self.new.faults.items self.new.absent_faults) name.now result }
         ensures store_cause { SparesStoreFaults self.old.store_faults self.new.store_faults result }
+        ensures raised { IsErrOf result LoadRefusal.Failed → faults_of self.new.files.items self.new.faults.items self.new.absent_faults name.now ≡ raised (faults_of self.old.files.items self.old.faults.items self.old.absent_faults name.now) }
         ensures listed { IsErrOf result LoadRefusal.Failed ↔ IsTrue (is_none (content_of self.old.files.items name.now) || is_listed self.old.failing.items self.old.calls) }
         ensures memory { IsErrOf result LoadRefusal.Memory → IfSome (content_of self.old.files.items name.now) (λ bytes. length bytes ≤ most) }
         ensures settings { (self.new.failing ≡ self.old.failing) × (self.new.calls ≡ next_call self.old.calls) }
@@ -138,6 +140,7 @@ impl Files for MemFiles {
         ensures memory { IsErrOf result StoreRefusal.Memory → Some (content_of self.new.files.items) ≡ Some (content_of self.old.files.items) }
         ensures cause { HasStoreCause self.old.store_faults self.new.store_faults result }
         ensures load_cause { SparesLoadFaults (faults_of self.old.files.items self.old.faults.items self.old.absent_faults) (faults_of self.new.files.items self.new.faults.items self.new.absent_faults) result }
+        ensures raised { IsErrOf result StoreRefusal.Failed → self.new.store_faults ≡ raised self.old.store_faults }
         ensures listed { IsErrOf result StoreRefusal.Failed ↔ IsTrue (is_listed self.old.failing.items self.old.calls) }
         ensures kept { OnErr result (Some (content_of self.new.files.items) ≡ Some (content_of self.old.files.items)) }
         ensures settings { (self.new.failing ≡ self.old.failing) × (self.new.calls ≡ next_call self.old.calls) }

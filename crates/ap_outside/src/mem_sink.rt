@@ -1,5 +1,5 @@
 ghost use Rattle.std.specs.Prelude.{◌≡◌, ◌≤◌, ◌-◌, ◌++◌, ◌||◌, Some, [], IfOk, OnOk, OnErr, is_err, length, take, min, nat_lt, if◌then◌else◌, vec_len, vec_capacity};
-ghost use Rattle.ap_outside.specs.Causes.{HasCause};
+ghost use Rattle.ap_outside.specs.Causes.{HasCause, raised};
 ghost use Rattle.ap_outside.specs.Numbered.{next_call, is_listed};
 ghost use Rattle.ap_outside.specs.Told.{Puts, PutsFront};
 
@@ -65,6 +65,7 @@ impl Sink for MemSink {
         ensures ok { OnOk result (Puts (Some self.old.bytes.items) (Some self.new.bytes.items) piece.now) }
         ensures failed { OnErr result (PutsFront (Some self.old.bytes.items) (Some self.new.bytes.items) piece.now) }
         ensures cause { HasCause self.old.faults self.new.faults result }
+        ensures raised { OnErr result (self.new.faults ≡ raised self.old.faults) }
         ensures front { let most = (if is_listed self.old.failing.items self.old.calls then self.old.keep else length piece.now) in self.new.bytes.items ≡ self.old.bytes.items ++ take (min most (self.old.room - length self.old.bytes.items)) piece.now }
         ensures listed { is_err result ≡ (is_listed self.old.failing.items self.old.calls || nat_lt (self.old.room - length self.old.bytes.items) (length piece.now)) }
         ensures settings { (self.new.room ≡ self.old.room) × (self.new.failing ≡ self.old.failing) × (self.new.keep ≡ self.old.keep) × (self.new.calls ≡ next_call self.old.calls) }

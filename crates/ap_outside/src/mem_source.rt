@@ -1,5 +1,5 @@
 ghost use Rattle.std.specs.Prelude.{◌≡◌, ◌≤◌, ◌<◌, ◌-◌, Some, take, drop, length, min, IfOk, OnErr, is_err};
-ghost use Rattle.ap_outside.specs.Causes.{HasCause};
+ghost use Rattle.ap_outside.specs.Causes.{HasCause, raised};
 ghost use Rattle.ap_outside.specs.Numbered.{next_call, is_listed};
 ghost use Rattle.ap_outside.specs.Told.{Takes, IsEnd};
 
@@ -51,6 +51,7 @@ impl Source for MemSource {
         ensures end { IfOk result (λ n. n ≡ 0 → 0 < length into.old → IsEnd (Some (drop self.new.at self.new.bytes.items))) }
         ensures failed { OnErr result (drop self.new.at self.new.bytes.items ≡ drop self.old.at self.old.bytes.items) }
         ensures cause { HasCause self.old.faults self.new.faults result }
+        ensures raised { OnErr result (self.new.faults ≡ raised self.old.faults) }
         ensures amount { IfOk result (λ n. n ≡ min (min (length into.old) self.old.cut) (length self.old.bytes.items - self.old.at)) }
         ensures listed { is_err result ≡ is_listed self.old.failing.items self.old.calls }
         ensures settings { (self.new.cut ≡ self.old.cut) × (self.new.failing ≡ self.old.failing) × (self.new.calls ≡ next_call self.old.calls) }

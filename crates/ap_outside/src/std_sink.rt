@@ -1,4 +1,7 @@
-ghost use Rattle.std.specs.Prelude.{◌≡◌, None};
+ghost use Rattle.std.specs.Prelude.{◌≡◌, None, OnOk, OnErr};
+ghost use Rattle.std.specs.Io.KnownBytes.{Appends};
+ghost use Rattle.ap_outside.specs.Causes.{HasCause};
+ghost use Rattle.ap_outside.specs.Told.{Puts, PutsFront};
 
 use crate::sink::Sink;
 use crate::source::Failed;
@@ -22,7 +25,9 @@ impl<W: Write + Drop> StdSink<W> {
 
 /// Writes the whole piece and flushes it. A writer that takes nothing of bytes that are left is an
 /// error.
-fn write_out<W: Write>(writer: &mut W, piece: &[u8]) -> io::Result<()> {
+fn write_out<W: Write>(writer: &mut W, piece: &[u8]) -> io::Result<()>
+    ensures { OnOk result (Appends (W.contents writer.old) (W.contents writer.new) piece.now) }
+{
     writer.write_all(piece)?;
     writer.flush()
 }
@@ -32,7 +37,14 @@ impl<W: Write + Drop> Sink for StdSink<W> {
 
     ghost faults = { λ s. s.faults };
 
-    fn put(&mut self, piece: &[u8]) -> Result<(), Failed> {
+    /// Writes the whole piece to the writer and flushes it. An error of the writer, and one that
+    /// takes nothing of bytes that are left, is a fault.
+    fn put(&mut self, piece: &[u8]) -> Result<(), Failed>
+        ensures ok { OnOk result (Puts None None piece.now) }
+        ensures failed { OnErr result (PutsFront None None piece.now) }
+        ensures cause { HasCause self.old.faults self.new.faults result }
+        ensures whole { OnOk result (Appends (W.contents self.old.writer) (W.contents self.new.writer) piece.now) }
+    {
         match write_out(&mut self.writer, piece) {
             Ok(()) => Ok(()),
             Err(_) => {
