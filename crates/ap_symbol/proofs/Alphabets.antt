@@ -1,7 +1,7 @@
-use Rattle.std.proofs.Common.{◌≡◌, ℕ, Bool, true, false, ◌&&◌, ◌||◌, eqb, List, [], ◌∷◌, refl, sym, ap, ◌∙◌, IsTrue}
-use Rattle.std.specs.List.{list_any, list_all}
+use Rattle.std.proofs.Common.{◌≡◌, ℕ, Bool, true, false, ◌||◌, List, [], ◌∷◌, refl, sym, ap, ◌∙◌}
+use Rattle.std.specs.List.{list_all}
 use Rattle.ap_symbol.specs.Case.{partner_lem}
-use Rattle.ap_symbol.specs.Alphabet.{has_letter, is_in_closure, IsClosure, is_closed, ClosureIsClosed}
+use Rattle.ap_symbol.specs.Alphabet.{has_letter, IsClosure, ClosureIsClosed}
 use Rattle.ap_symbol.proofs.Partners.{partner_twice, or_left, or_right, and_both, eqb_eq}
 
 or_swap : (a b : Bool) → (a || b) ≡ (b || a)

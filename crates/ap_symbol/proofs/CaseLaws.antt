@@ -1,11 +1,7 @@
-use Rattle.std.proofs.Common.{◌≡◌, ℕ, Bool, true, false, not, ◌&&◌, ◌||◌, ◌⊎◌, List, [], ◌∷◌, ◌++◌, IsTrue, refl, sym, ap, inl, inr, ◌∙◌, length}
+use Rattle.std.proofs.Common.{◌≡◌, ℕ, Bool, true, false, sym, ap, inl, inr, ◌∙◌}
 use Rattle.std.proofs.lemmas.Bool.{false≢true}
-use Rattle.ap_symbol.specs.declared.symbol.Symbol.{Symbol}
-use Rattle.ap_symbol.specs.declared.symbol.Symbol.TheVariants.{Letter, Tag, Blank, Join, Queue, Alarm, Star, At}
-use Rattle.ap_symbol.specs.declared.recasing.Case.{Case}
-use Rattle.ap_symbol.specs.declared.recasing.Case.TheVariants.{Low, First, All}
-use Rattle.ap_symbol.specs.Case.{lower_lem, upper_lem, is_upper_lem, partner_lem}
-use Rattle.ap_symbol.specs.CaseLaws.{ArePartners, IsLower, PartnersAreInverse, NoLetterIsBoth, UpperLettersMove, LowerLettersMove, CaseSettles, ComesBackUnlessUpper}
+use Rattle.ap_symbol.specs.Case.{lower_lem, upper_lem, is_upper_lem}
+use Rattle.ap_symbol.specs.CaseLaws.{PartnersAreInverse, NoLetterIsBoth, UpperLettersMove, LowerLettersMove, CaseSettles, ComesBackUnlessUpper}
 use Rattle.ap_symbol.proofs.Partners.{upper_lower, lower_upper, lower_is_not_upper, lower_stays_or, upper_stays_or, is_partner_or, upper_twice}
 
 both : {b : Bool} → b ≡ true → b ≡ false → ⊥

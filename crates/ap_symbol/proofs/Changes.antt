@@ -1,12 +1,12 @@
-use Rattle.std.proofs.Common.{◌≡◌, ℕ, Bool, true, false, not, List, [], ◌∷◌, IsTrue, refl, sym, ap, subst, ◌∙◌}
+use Rattle.std.proofs.Common.{◌≡◌, ℕ, List, [], ◌∷◌, refl, sym, ap, ◌∙◌}
 use Rattle.ap_symbol.specs.declared.symbol.Symbol.{Symbol}
 use Rattle.ap_symbol.specs.declared.symbol.Symbol.TheVariants.{Letter, Tag, Blank, Join, Queue, Alarm, Star, At}
 use Rattle.ap_symbol.specs.declared.recasing.Change.{Change}
 use Rattle.ap_symbol.specs.declared.recasing.Change.TheVariants.{Keep, Lower, Upper}
 use Rattle.ap_symbol.specs.Case.{lower_lem, upper_lem}
 use Rattle.ap_symbol.specs.Words.{is_white}
-use Rattle.ap_symbol.specs.Recasing.{change_letter, each_letter, first_letter}
-use Rattle.ap_symbol.specs.Changes.{change_lem, change_after, changed_lem}
+use Rattle.ap_symbol.specs.Recasing.{each_letter, first_letter}
+use Rattle.ap_symbol.specs.Changes.{change_lem, changed_lem}
 use Rattle.ap_symbol.proofs.Partners.{upper_lower, lower_white, upper_white}
 
 pub change_white : (change : Change) (c : ℕ) → is_white (change_lem change c) ≡ is_white c

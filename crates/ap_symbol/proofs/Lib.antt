@@ -7,3 +7,5 @@ pub mod CaseLaws
 pub mod RecasedWords
 pub mod Alphabets
 pub mod FittingSymbols
+pub mod Coded
+pub mod Parts

@@ -1,14 +1,13 @@
-use Rattle.std.proofs.Common.{◌≡◌, ℕ, ◌+◌, ◌<◌, ◌≤◌, Bool, true, false, cond, eqb, ◌==◌, ◌||◌, ◌&&◌, not, List, [], ◌∷◌, ◌++◌, length, get_or, refl, ap, sym, subst, append_assoc, length-append, arith, ◌∙◌, drop, inl, inr}
+use Rattle.std.proofs.Common.{◌≡◌, ℕ, ◌<◌, Bool, true, false, cond, eqb, ◌==◌, ◌||◌, not, List, [], ◌∷◌, ◌++◌, length, get_or, refl, ap, sym, subst, append_assoc, length-append, arith, ◌∙◌, drop, inl, inr}
 use Rattle.std.proofs.Math.Utf8.{encode}
 use Rattle.std.proofs.lemmas.Str.{encode_same, char_from_byte, length-encode, len_utf8_bounds}
 use Rattle.std.proofs.lemmas.Bool.{ne_eqb, and_parts, true≢false, cases_lt, not-true}
-use Rattle.std.proofs.lemmas.List.Concat.{flat_map-cons}
-use Rattle.std.specs.List.{list_any, list_all, flat_map}
+use Rattle.std.specs.List.{list_any, list_all}
 use Rattle.ap_symbol.specs.declared.symbol.Symbol.{Symbol}
 use Rattle.ap_symbol.specs.declared.symbol.Symbol.TheVariants.{Letter, Tag, Blank, Join, Queue, Alarm, Star, At}
 use Rattle.ap_symbol.specs.TagNames.{is_reserved_lem, is_tag_name}
-use Rattle.ap_symbol.specs.Rendering.{is_escaped_lem, letter_bytes, tag_bytes, symbol_bytes, rendering}
-use Rattle.ap_symbol.specs.Words.{is_white, is_proper, is_word_symbol, is_named, AreProper}
+use Rattle.ap_symbol.specs.Rendering.{is_escaped_lem, tag_bytes, symbol_bytes, rendering}
+use Rattle.ap_symbol.specs.Words.{is_white, is_proper, AreProper}
 
 or-false : (x y : Bool) → (x || y) ≡ false → (x ≡ false) × (y ≡ false)
 or-false true y e = absurd (true≢false e)

@@ -1,6 +1,5 @@
-use Rattle.std.proofs.Common.{◌≡◌, ℕ, zero, suc, ◌+◌, ◌-◌, ◌<◌, ◌≤◌, Bool, true, false, cond, eqb, ltb, leb, not, ◌&&◌, ◌||◌, length, ◌⊎◌, refl, sym, ap, inl, inr, ◌∙◌, arith, rules, IsTrue}
+use Rattle.std.proofs.Common.{◌≡◌, ℕ, zero, suc, ◌-◌, ◌<◌, ◌≤◌, Bool, true, false, eqb, not, ◌&&◌, ◌||◌, length, ◌⊎◌, refl, sym, ap, inl, inr, ◌∙◌, arith}
 use Rattle.std.proofs.lemmas.Bool.{cases_lt}
-use Rattle.std.proofs.lemmas.Grind.{common_steps}
 use Rattle.ap_symbol.specs.Case.{spans, is_upper_by_32, is_upper_even, is_upper_odd, lower_lem, upper_lem, is_upper_lem, partner_lem}
 use Rattle.ap_symbol.specs.Words.{is_white}
 use Rattle.std.specs.Char.{encode_utf8}
@@ -29,7 +28,7 @@ and_false false = refl
 far_spans : (first last c : ℕ) → last < c → spans first last c ≡ false
 far_spans first last c h = grind arith
 
-far_eqb : (n c : ℕ) → n < c → eqb c n ≡ false
+pub far_eqb : (n c : ℕ) → n < c → eqb c n ≡ false
 far_eqb n c h = grind arith
 
 -- no upper letter of the table lies at 1088 or above
@@ -42,10 +41,10 @@ far_even c h = simp (far_spans 0x100 0x12F c (omega arith), far_spans 0x132 0x13
 far_odd : (c : ℕ) → 1088 ≤ c → is_upper_odd c ≡ false
 far_odd c h = simp (far_spans 0x139 0x148 c (omega arith), far_spans 0x179 0x17E c (omega arith), and_false)
 
-far_lower : (c : ℕ) → 1120 ≤ c → lower_lem c ≡ c
+pub far_lower : (c : ℕ) → 1120 ≤ c → lower_lem c ≡ c
 far_lower c h = simp (far_by_32 c (omega arith), far_even c (omega arith), far_odd c (omega arith), far_eqb 0x178 c (omega arith), far_eqb 0x386 c (omega arith), far_spans 0x388 0x38A c (omega arith), far_eqb 0x38C c (omega arith), far_spans 0x38E 0x38F c (omega arith), far_spans 0x400 0x40F c (omega arith))
 
-far_upper : (c : ℕ) → 1120 ≤ c → upper_lem c ≡ c
+pub far_upper : (c : ℕ) → 1120 ≤ c → upper_lem c ≡ c
 far_upper c h = simp (far_by_32 (c - 32) (omega arith), far_even (c - 1) (omega arith), far_odd (c - 1) (omega arith), far_eqb 0xFF c (omega arith), far_eqb 0x3AC c (omega arith), far_spans 0x3AD 0x3AF c (omega arith), far_eqb 0x3CC c (omega arith), far_spans 0x3CD 0x3CE c (omega arith), far_spans 0x450 0x45F c (omega arith))
 
 far_is_upper : (c : ℕ) → 1120 ≤ c → is_upper_lem c ≡ false
@@ -56,7 +55,7 @@ below_at zero p c h e = absurd (omega arith)
 below_at (suc n) p c h e = elim (cases_lt c n) [ inl l ↦ below_at n p c l (and_right (p n) (below n p) e) | inr l ↦ (let same : c ≡ n = omega arith in ap p same ∙ and_left (p n) (below n p) e) ]
 
 -- a test of all characters: of those of the table by trying each, of the others by hand
-by_table : (p : ℕ → Bool) → below 1120 p ≡ true → ((c : ℕ) → 1120 ≤ c → p c ≡ true) → (c : ℕ) → p c ≡ true
+pub by_table : (p : ℕ → Bool) → below 1120 p ≡ true → ((c : ℕ) → 1120 ≤ c → p c ≡ true) → (c : ℕ) → p c ≡ true
 by_table p near far c = elim (cases_lt c 1120) [ inl l ↦ below_at 1120 p c l near | inr l ↦ far c l ]
 
 eqb_same : (n : ℕ) → eqb n n ≡ true

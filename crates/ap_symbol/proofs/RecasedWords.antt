@@ -1,13 +1,12 @@
-use Rattle.std.proofs.Common.{◌≡◌, ℕ, ◌+◌, Bool, true, false, not, ◌&&◌, List, [], ◌∷◌, ◌++◌, refl, sym, ap, ◌∙◌, length, length-append, arith}
+use Rattle.std.proofs.Common.{◌≡◌, ℕ, ◌+◌, true, not, ◌&&◌, List, [], ◌∷◌, ◌++◌, refl, sym, ap, ◌∙◌, length, length-append}
 use Rattle.std.specs.List.{list_all}
 use Rattle.ap_symbol.specs.declared.symbol.Symbol.{Symbol}
 use Rattle.ap_symbol.specs.declared.symbol.Symbol.TheVariants.{Letter, Tag, Blank, Join, Queue, Alarm, Star, At}
-use Rattle.ap_symbol.specs.declared.recasing.Case.{Case}
 use Rattle.ap_symbol.specs.declared.recasing.Case.TheVariants.{Low, First, All}
 use Rattle.ap_symbol.specs.Case.{lower_lem, upper_lem}
 use Rattle.ap_symbol.specs.Words.{is_white, is_proper}
 use Rattle.ap_symbol.specs.Rendering.{letter_bytes, symbol_bytes, rendering}
-use Rattle.ap_symbol.specs.Recasing.{change_letter, each_letter, first_letter, carry_lem, recase_lem}
+use Rattle.ap_symbol.specs.Recasing.{each_letter, first_letter}
 use Rattle.ap_symbol.specs.CaseLaws.{StaysProper, KeepsBytes}
 use Rattle.ap_symbol.proofs.Partners.{lower_white, upper_white, lower_bytes, upper_bytes}
 

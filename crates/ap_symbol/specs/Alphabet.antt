@@ -1,4 +1,4 @@
-use Rattle.std.specs.Prelude.{◌≡◌, ℕ, Bool, true, false, ◌||◌, ◌==◌, List, IsTrue}
+use Rattle.std.specs.Prelude.{◌≡◌, ℕ, Bool, ◌||◌, ◌==◌, List, IsTrue}
 use Rattle.std.specs.List.{list_any, list_all}
 use Rattle.ap_symbol.specs.Case.{partner_lem}
 

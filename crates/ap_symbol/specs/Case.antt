@@ -1,4 +1,4 @@
-use Rattle.std.specs.Prelude.{◌≡◌, ℕ, ◌+◌, ◌-◌, ◌%◌, Bool, true, false, ◌||◌, ◌&&◌, not, nat_le, ◌==◌, if◌then◌else◌}
+use Rattle.std.specs.Prelude.{ℕ, ◌+◌, ◌-◌, ◌%◌, Bool, ◌||◌, ◌&&◌, not, nat_le, ◌==◌, if◌then◌else◌}
 
 -- the code points from `first` to `last`
 abbrev pub spans : ℕ → ℕ → ℕ → Bool

@@ -1,7 +1,8 @@
-use Rattle.std.specs.Prelude.{◌≡◌, ◌↔◌, ℕ, Bool, true, false, List, IsTrue, length}
+use Rattle.std.specs.Prelude.{◌≡◌, ◌↔◌, ℕ, false, List, IsTrue, length}
 use Rattle.ap_symbol.specs.declared.symbol.Symbol.{Symbol}
 use Rattle.ap_symbol.specs.declared.recasing.Case.{Case}
 use Rattle.ap_symbol.specs.Case.{lower_lem, upper_lem, is_upper_lem, partner_lem}
+use Rattle.ap_symbol.specs.Coded.{AreCoded}
 use Rattle.ap_symbol.specs.Words.{is_white, AreProper}
 use Rattle.ap_symbol.specs.Rendering.{rendering}
 use Rattle.ap_symbol.specs.Recasing.{carry_lem, recase_lem}
@@ -49,6 +50,10 @@ PartnerOfPartner = (c : ℕ) → partner_lem (partner_lem c) ≡ c
 -- a change of case keeps words proper
 abbrev pub StaysProper : Type 0
 StaysProper = (case : Case) (word : List Symbol) → AreProper word → AreProper (carry_lem case word) × AreProper (recase_lem case word)
+
+-- and coded
+abbrev pub StaysCoded : Type 0
+StaysCoded = (case : Case) (word : List Symbol) → AreCoded word → AreCoded (carry_lem case word) × AreCoded (recase_lem case word)
 
 -- and it keeps the number of bytes
 abbrev pub KeepsBytes : Type 0

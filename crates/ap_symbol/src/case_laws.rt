@@ -1,4 +1,4 @@
-ghost use Rattle.ap_symbol.specs.CaseLaws.{PartnersAreInverse, NoLetterIsBoth, UpperLettersMove, LowerLettersMove, CaseSettles, LowerIsNeverUpper, ComesBackUnlessUpper, WhiteSpaceStays, PartnerOfPartner, StaysProper, KeepsBytes};
+ghost use Rattle.ap_symbol.specs.CaseLaws.{PartnersAreInverse, NoLetterIsBoth, UpperLettersMove, LowerLettersMove, CaseSettles, LowerIsNeverUpper, ComesBackUnlessUpper, WhiteSpaceStays, PartnerOfPartner, StaysProper, StaysCoded, KeepsBytes};
 ghost use Rattle.ap_symbol.specs.Alphabet.{ClosureIsClosed};
 
 /// The laws of the case table: partners are inverse to one another, no character is both an
@@ -20,10 +20,11 @@ pub fn the_last_change_counts()
 {}
 
 /// No change of case makes or takes away white space, or changes the number of a word's bytes,
-/// and words stay proper under it.
+/// and words stay proper under it, their letters characters.
 pub fn case_keeps_words()
     ensures white { WhiteSpaceStays }
     ensures proper { StaysProper }
+    ensures coded { StaysCoded }
     ensures bytes { KeepsBytes }
 {}
 

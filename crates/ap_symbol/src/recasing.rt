@@ -35,10 +35,17 @@ fn case_by(count: usize, first: bool, last: bool) -> Case
 pub fn case_of(word: &Word) -> Case
     ensures { result ≡ case_of_lem word.now }
 {
+    case_of_symbols(word.symbols())
+}
+
+/// The case of some symbols of a word, as `case_of` gives that of a word with these symbols.
+pub fn case_of_symbols(symbols: &[Symbol]) -> Case
+    ensures { result ≡ case_of_lem symbols.now }
+{
     let mut count: usize = 0;
     let mut first_upper = false;
     let mut last_upper = false;
-    for symbol in word.symbols() {
+    for symbol in symbols {
         if let Symbol::Letter(c) = symbol {
             last_upper = is_upper(*c);
             if count == 0 {

@@ -95,3 +95,14 @@ fn lists_hold_what_is_pushed(rt: HostRuntime) -> Result<(), Fail> {
     assert_eq!(rt; words.len(), 1);
     Ok(())
 }
+
+#[test]
+fn a_part_of_a_word_is_a_word(rt: HostRuntime) -> Result<(), Fail> {
+    let alloc = rt.alloc();
+    let word = word_of(alloc, "a+b", "n")?;
+    if word.len() >= 4 {
+        let part = word.part(alloc, 1, 4)?;
+        assert_eq!(rt; part.rendered(), "\\+b<n>".as_bytes());
+    }
+    Ok(())
+}

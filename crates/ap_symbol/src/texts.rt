@@ -2,33 +2,24 @@ ghost use Rattle.std.specs.Prelude.{◌≡◌, ◌<◌, ◌≤◌, IfOk, IsTrue,
 ghost use Rattle.std.specs.Str.{chars, encode_utf8_all};
 ghost use Rattle.std.specs.Option.{SomeIff};
 ghost use Rattle.std.specs.String.{string_bytes};
-ghost use Rattle.ap_symbol.specs.TagNames.{is_reserved_lem};
 ghost use Rattle.ap_symbol.specs.Words.{is_white, is_word_symbol};
 ghost use Rattle.ap_symbol.specs.TextWord.{escaped_symbol, bare_symbol, name_len, name_at, first_symbol, first_len, begins_with_name, begins_with_tag, symbols_after, text_word_lem};
 
 use crate::memory::Memory;
 use crate::symbol::Symbol;
-use crate::tag_name::TagName;
+use crate::tag_name::{TagName, is_reserved_in_tag};
 use crate::word::Word;
 use std::alloc::{AllocError, Global};
 
-fn is_white(c: char) -> bool
+/// Whether the character is white space: U+0009, U+000A, U+000D or U+0020.
+pub fn is_white(c: char) -> bool
     ensures { result ≡ is_white c }
 {
     matches!(c, '\t' | '\n' | '\r' | ' ')
 }
 
-/// Whether no tag name holds the character.
-fn is_reserved(c: char) -> bool
-    ensures { result ≡ is_reserved_lem c }
-{
-    matches!(
-        c,
-        '\t' | '\n' | '\r' | ' ' | '^' | '$' | '/' | '<' | '>' | '{' | '}' | '\\' | '[' | ']'
-    )
-}
-
-fn escaped_symbol(c: char) -> Symbol
+/// The symbol of a character behind `\`: Blank if it is white space, else that letter.
+pub fn escaped_symbol(c: char) -> Symbol
     ensures value { result ≡ escaped_symbol c }
     ensures word_symbol { IsTrue (is_word_symbol result) }
 {
@@ -39,7 +30,9 @@ fn escaped_symbol(c: char) -> Symbol
     }
 }
 
-fn bare_symbol(c: char) -> Symbol
+/// The symbol of a bare character: white space is Blank, `+ # ~ * @` are Join, Queue, Alarm, Star
+/// and At, and every other character is that letter.
+pub fn bare_symbol(c: char) -> Symbol
     ensures value { result ≡ bare_symbol c }
     ensures word_symbol { IsTrue (is_word_symbol result) }
 {
@@ -62,7 +55,7 @@ fn name_len(text: &[char]) -> usize
     ensures within { result ≤ length text.now }
 {
     let mut len = 0;
-    while len < text.len() && !is_reserved(text[len]) {
+    while len < text.len() && !is_reserved_in_tag(text[len]) {
         len += 1;
     }
     len

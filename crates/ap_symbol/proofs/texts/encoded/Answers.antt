@@ -1,6 +1,3 @@
-use Rattle.std.proofs.Common.{ap, sym, ◌∙◌, ◌++◌}
-use Rattle.std.specs.Prelude.{encode_utf8}
-use Rattle.std.specs.Str.{encode_utf8_all}
 use Rattle.ap_symbol.proofs.Reading.{encoded_more}
 use Rattle.ap_symbol.proofs.texts.encoded.Goals as goal
 

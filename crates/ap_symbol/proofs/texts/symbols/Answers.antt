@@ -1,4 +1,4 @@
-use Rattle.std.proofs.Common.{◌≡◌, ◌≤◌, ◌+◌, length, arith, ap, sym, ◌∙◌, ◌++◌, drop}
+use Rattle.std.proofs.Common.{◌≡◌, ◌≤◌, ◌+◌, length, arith, ap, ◌∙◌, ◌++◌, drop}
 use Rattle.std.proofs.lemmas.Grind.{common_steps}
 use Rattle.ap_symbol.specs.TextWord.{symbols_after, first_len, first_symbol}
 use Rattle.ap_symbol.proofs.Reading.{walk, walk_within, walk_goes}

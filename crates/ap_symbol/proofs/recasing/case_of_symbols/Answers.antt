@@ -1,8 +1,8 @@
-use Rattle.std.proofs.Common.{arith, refl}
+use Rattle.std.proofs.Common.{arith}
 use Rattle.ap_symbol.specs.Case.{is_upper_lem}
-use Rattle.ap_symbol.proofs.Letters.{HasSeen, seen_letter, seen_other, pick_zero, pick_more}
-use Rattle.ap_symbol.proofs.recasing.case_of.Goals.{in-Letter, then-count-eq0, else-count-eq0, in_default}
-use Rattle.ap_symbol.proofs.recasing.case_of.Goals as goal
+use Rattle.ap_symbol.proofs.Letters.{seen_letter, seen_other, pick_zero, pick_more}
+use Rattle.ap_symbol.proofs.recasing.case_of_symbols.Goals.{in-Letter, then-count-eq0, else-count-eq0, in_default}
+use Rattle.ap_symbol.proofs.recasing.case_of_symbols.Goals as goal
 
 pub loop-symbol-preserved : goal.loop-symbol-preserved
 loop-symbol-preserved c = elim c.match-symbol.branch [
