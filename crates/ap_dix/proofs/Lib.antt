@@ -1,4 +1,3 @@
-pub mod Keys
 pub mod Walks
 pub mod Runs
 pub mod CutLaws
@@ -9,3 +8,5 @@ pub mod ExprLaws
 pub mod FormsSound
 pub mod Sound
 pub mod Read
+pub mod NamesAbove
+pub mod OwnFaults

@@ -3,11 +3,11 @@ use Rattle.std.proofs.Common.{◌≡◌, ℕ, List, ap, ◌∙◌, Result, Ok, E
 use Rattle.ap_markup.specs.Elements.{elements, Spelled}
 use Rattle.ap_markup.specs.declared.elements.MarkupFault.{MarkupFault}
 use Rattle.ap_markup.specs.declared.tables.Table.TheVariants.{Dix}
+use Rattle.ap_dix.specs.Faults.{DixMark}
 use Rattle.ap_dix.specs.Refusals.{IfFault}
 use Rattle.ap_dix.specs.Soundness.{IsSound}
 use Rattle.ap_dix.specs.Spelling.{spelled, judged, mark_of, fault_of, Spells, IsFirstFault}
 use Rattle.ap_dix.specs.declared.dictionary.Dictionary.{Dictionary}
-use Rattle.ap_dix.specs.declared.faults.Mark.{Mark}
 use Rattle.ap_dix.specs.declared.refusal.DixRefusal.{DixRefusal}
 use Rattle.ap_dix.specs.declared.refusal.DixRefusal.TheVariants.{Fault, Memory}
 use Rattle.ap_dix.proofs.Sound.{spelled_sound}
@@ -29,5 +29,5 @@ fault_read text read (Ok d) e h = tt
 fault_read text read (Err (Fault f)) e h = spelled_is text read e ∙ h
 fault_read text read (Err Memory) e h = tt
 
-pub refused : (text : List ℕ) (f : MarkupFault) (m : Mark) (r : DixRefusal) → elements text Dix ≡ Err f → m ≡ mark_of f → r ≡ Fault (fault_of m) → IfFault r (IsFirstFault text)
+pub refused : (text : List ℕ) (f : MarkupFault) (m : DixMark) (r : DixRefusal) → elements text Dix ≡ Err f → m ≡ mark_of f → r ≡ Fault (fault_of m) → IfFault r (IsFirstFault text)
 refused text f m r e m_is r_is = rw (r_is, m_is) (spelled_is text (Err f) e)

@@ -12,21 +12,23 @@ use Rattle.ap_symbol.specs.declared.symbol.Symbol.TheVariants.{Letter, Tag as ta
 use Rattle.ap_markup.specs.Elements.{elements, Spelled}
 use Rattle.ap_markup.specs.Tree.{Tag, Parts, Done, Run, Element}
 use Rattle.ap_markup.specs.declared.tables.Table.TheVariants.{Dix}
-use Rattle.ap_dix.specs.Faults.{first_mark, sooner}
+use Rattle.ap_markup.specs.Marks.{mark_order}
+use Rattle.ap_markup.specs.Sooner.{sooner}
+use Rattle.ap_dix.specs.Faults.{DixMark, first_mark}
+use Rattle.ap_dix.specs.Refusals.{kind_number}
 use Rattle.ap_dix.specs.Forms.{Form}
 use Rattle.ap_dix.specs.Machines.{expression}
 use Rattle.ap_dix.proofs.FormsSound.{expression_sound}
-use Rattle.ap_dix.specs.Names.{has_name, with_name, number_of}
-use Rattle.ap_dix.specs.Said.{name_of, is_named, child, texts}
+use Rattle.ap_markup.specs.NameLists.{has_name, with_name, number_of}
+use Rattle.ap_markup.specs.Said.{name_of, is_named, child}
 use Rattle.ap_dix.specs.Soundness.{IsSound, is_entry_symbol, is_sound_part, is_sound_entry, are_sound_pardefs}
 use Rattle.ap_dix.specs.Spelling.{spelled, judged, decided, mark_of, root_parts}
 use Rattle.ap_dix.specs.Value.{expression_part, entry_part, entry_parts, entry, entries, pardef, pardefs, names_with, section, sections, alphabet, dictionary}
-use Rattle.ap_dix.specs.WordText.{letter, letters, mark, tag_named, element_symbols, symbols}
+use Rattle.ap_dix.specs.WordText.{letter, letters, mark, tag_named, element_symbols, symbols, texts}
 use Rattle.ap_dix.specs.declared.dictionary.Dictionary.{Dictionary}
 use Rattle.ap_dix.specs.declared.dictionary.EntryPart.{EntryPart}
 use Rattle.ap_dix.specs.declared.dictionary.EntryPart.TheVariants.{Identity, Pair, Paradigm, Expression}
 use Rattle.ap_dix.specs.declared.dictionary.Section.{Section}
-use Rattle.ap_dix.specs.declared.faults.Mark.{Mark}
 
 both : (a b : Bool) → a ≡ true → b ≡ true → (a && b) ≡ true
 both a b ea eb = rw (ea, eb) refl
@@ -174,12 +176,12 @@ dictionary_sound kids =
       alphabet = alphabet_sound (child (codes "alphabet") kids);
     }
 
-decided_sound : (tree : Parts) (first : Option Mark) (d : Dictionary) → decided tree first ≡ Ok d → IsSound d
+decided_sound : (tree : Parts) (first : Option DixMark) (d : Dictionary) → decided tree first ≡ Ok d → IsSound d
 decided_sound tree None d e = let same : dictionary (root_parts tree) ≡ d = cc in subst IsSound same (dictionary_sound (root_parts tree))
 decided_sound tree (Some m) d e = absurd (let no : ⊥ = cc in no)
 
 judged_sound : (read : Spelled) (d : Dictionary) → judged read ≡ Ok d → IsSound d
-judged_sound (Ok tree) d e = decided_sound tree.0 (sooner (option_map mark_of tree.1) (first_mark tree.0)) d e
+judged_sound (Ok tree) d e = decided_sound tree.0 (sooner (mark_order kind_number) (option_map mark_of tree.1) (first_mark tree.0)) d e
 judged_sound (Err f) d e = absurd (let no : ⊥ = cc in no)
 
 -- a dictionary that a text spells is sound

@@ -8,50 +8,13 @@ use Rattle.ap_markup.specs.Tree.{Done, Run as text_then, Element as element_then
 use Rattle.ap_markup.specs.View.{part_then, parts_of, node_then, tag_of}
 use Rattle.ap_markup.specs.declared.node.Node.{Node}
 use Rattle.ap_markup.specs.declared.node.Part.{Part, Run, Element}
-use Rattle.ap_markup.proofs.ViewLemmas.{part_then-Element}
-use Rattle.ap_markup.proofs.Steps.{from_here}
-use Rattle.ap_dix.specs.Faults.{tag_kind, marked, or_else, defined_after, defined_in, first_in, first_mark, declared_by, declared_in}
-use Rattle.ap_dix.specs.Names.{with_name}
-use Rattle.ap_dix.specs.Said.{is_named, child, name_of, texts}
+use Rattle.ap_markup.proofs.PartSteps.{at_run, at_node, at_end}
+use Rattle.ap_markup.specs.NameLists.{with_name}
+use Rattle.ap_markup.specs.Said.{is_named, name_of}
+use Rattle.ap_dix.specs.Faults.{DixMark, tag_kind, marked, or_else, defined_after, defined_in, first_in, first_mark, declared_by, declared_in}
 use Rattle.ap_dix.specs.Value.{entry_part, entry_parts, entry, entries, pardef, pardefs, names_with, section, sections, alphabet}
-use Rattle.ap_dix.specs.WordText.{letters, mark, symbols}
+use Rattle.ap_dix.specs.WordText.{letters, mark, symbols, texts}
 use Rattle.ap_dix.specs.declared.dictionary.EntryPart.{EntryPart}
-use Rattle.ap_dix.specs.declared.faults.Mark.{Mark}
-
-pub at_run : (parts : List Part) (i : ℕ) (p : Part) (text : List ℕ) (at : ℕ) → i < length parts → p ≡ get_or parts i p → p ≡ Run text at → parts_of (drop i parts) ≡ text_then text at (parts_of (drop (i + 1) parts))
-at_run parts i p text at lt is shape = from_here parts i p lt is ∙ ap (λ (q : Part). part_then q (parts_of (drop (i + 1) parts))) shape
-
-pub at_node : (parts : List Part) (i : ℕ) (p : Part) (n : Node) → i < length parts → p ≡ get_or parts i p → p ≡ Element n → parts_of (drop i parts) ≡ element_then (tag_of n) (parts_of n.parts.items) (parts_of (drop (i + 1) parts))
-at_node parts i p n lt is shape = from_here parts i p lt is ∙ ap (λ (q : Part). part_then q (parts_of (drop (i + 1) parts))) shape ∙ part_then-Element n (parts_of (drop (i + 1) parts))
-
-pub at_end : (parts : List Part) (i : ℕ) → length parts ≤ i → parts_of (drop i parts) ≡ Done
-at_end parts i over = ap parts_of (drop_all i parts over)
-
--- what has been made grows by what the next part gives
-pub grows : {X : Type 0} (made made' one rest whole all : List X) → whole ≡ one ++ rest → made' ≡ made ++ one → made ++ whole ≡ all → made' ++ rest ≡ all
-grows made made' one rest whole all whole_is made_is h = ap (λ m. m ++ rest) made_is ∙ append_assoc made one rest ∙ ap (λ w. made ++ w) (sym whole_is) ∙ h
-
-pub stays : {X : Type 0} (made made' rest whole all : List X) → whole ≡ rest → made' ≡ made → made ++ whole ≡ all → made' ++ rest ≡ all
-stays made made' rest whole all whole_is made_is h = ap (λ m. m ++ rest) made_is ∙ ap (λ w. made ++ w) (sym whole_is) ∙ h
-
-pub ends : {X : Type 0} (made whole all : List X) → whole ≡ [] → made ++ whole ≡ all → made ≡ all
-ends made whole all whole_is h = sym (append-nil made) ∙ ap (λ w. made ++ w) (sym whole_is) ∙ h
-
-pub two_pushes : {X : Type 0} (made one both : List X) (x : X) (rest : List X) → one ≡ made ++ x ∷ [] → both ≡ one ++ rest → both ≡ made ++ (x ∷ rest)
-two_pushes made one both x rest one_is both_is = both_is ∙ ap (λ m. m ++ rest) one_is ∙ append_assoc made (x ∷ []) rest
-
--- the child of a name
-pub child_run : (name : List ℕ) (parts : List Part) (i : ℕ) (p : Part) (text : List ℕ) (at : ℕ) → i < length parts → p ≡ get_or parts i p → p ≡ Run text at → child name (parts_of (drop i parts)) ≡ child name (parts_of (drop (i + 1) parts))
-unfolding child
-child_run name parts i p text at lt is shape = ap (child name) (at_run parts i p text at lt is shape)
-
-pub child_node : (name : List ℕ) (parts : List Part) (i : ℕ) (p : Part) (n : Node) → i < length parts → p ≡ get_or parts i p → p ≡ Element n → child name (parts_of (drop i parts)) ≡ cond (is_named name (tag_of n)) (parts_of n.parts.items) (child name (parts_of (drop (i + 1) parts)))
-unfolding child
-child_node name parts i p n lt is shape = ap (child name) (at_node parts i p n lt is shape)
-
-pub child_end : (name : List ℕ) (parts : List Part) (i : ℕ) → length parts ≤ i → child name (parts_of (drop i parts)) ≡ Done
-unfolding child
-child_end name parts i over = ap (child name) (at_end parts i over)
 
 -- the symbols of a word
 pub symbols_run : (parts : List Part) (i : ℕ) (p : Part) (text : List ℕ) (at : ℕ) → i < length parts → p ≡ get_or parts i p → p ≡ Run text at → symbols (parts_of (drop i parts)) ≡ letters text ++ symbols (parts_of (drop (i + 1) parts))
@@ -194,12 +157,6 @@ pub declared_end : (names : List (List ℕ)) (parts : List Part) (i : ℕ) → l
 unfolding declared_in
 declared_end names parts i over = ap (declared_in names) (at_end parts i over)
 
-pub child_yes : (name : List ℕ) (parts : List Part) (i : ℕ) (p : Part) (n : Node) → i < length parts → p ≡ get_or parts i p → p ≡ Element n → is_named name (tag_of n) ≡ true → child name (parts_of (drop i parts)) ≡ parts_of n.parts.items
-child_yes name parts i p n lt is shape named = child_node name parts i p n lt is shape ∙ ap (λ b. cond b (parts_of n.parts.items) (child name (parts_of (drop (i + 1) parts)))) named
-
-pub child_no : (name : List ℕ) (parts : List Part) (i : ℕ) (p : Part) (n : Node) → i < length parts → p ≡ get_or parts i p → p ≡ Element n → is_named name (tag_of n) ≡ false → child name (parts_of (drop i parts)) ≡ child name (parts_of (drop (i + 1) parts))
-child_no name parts i p n lt is shape named = child_node name parts i p n lt is shape ∙ ap (λ b. cond b (parts_of n.parts.items) (child name (parts_of (drop (i + 1) parts)))) named
-
 pub symbols_yes : (parts : List Part) (i : ℕ) (p : Part) (n : Node) → i < length parts → p ≡ get_or parts i p → p ≡ Element n → is_named (codes "g") (tag_of n) ≡ true → symbols (parts_of (drop i parts)) ≡ (Queue ∷ symbols (parts_of n.parts.items)) ++ symbols (parts_of (drop (i + 1) parts))
 symbols_yes parts i p n lt is shape named = symbols_node parts i p n lt is shape ∙ ap (λ b. cond b (Queue ∷ symbols (parts_of n.parts.items)) (mark (tag_of n)) ++ symbols (parts_of (drop (i + 1) parts))) named
 
@@ -243,22 +200,22 @@ pub by_no : (n : Node) (names : List (List ℕ)) → is_named (codes "sdef") (ta
 by_no n names named = ap (λ b. cond b (with_name names (name_of (tag_of n).attributes)) names) named
 
 -- the first fault, where the start tag has it, where its parts have it, and where neither has one
-pub first_here : (declared defined : List (List ℕ)) (parts : List Part) (i : ℕ) (p : Part) (n : Node) (m : Mark) → i < length parts → p ≡ get_or parts i p → p ≡ Element n → marked (tag_of n) (tag_kind declared defined (tag_of n) (parts_of n.parts.items)) ≡ Some m → first_in declared defined (parts_of (drop i parts)) ≡ Some m
+pub first_here : (declared defined : List (List ℕ)) (parts : List Part) (i : ℕ) (p : Part) (n : Node) (m : DixMark) → i < length parts → p ≡ get_or parts i p → p ≡ Element n → marked (tag_of n) (tag_kind declared defined (tag_of n) (parts_of n.parts.items)) ≡ Some m → first_in declared defined (parts_of (drop i parts)) ≡ Some m
 first_here declared defined parts i p n m lt is shape own =
     first_node declared defined parts i p n lt is shape
-    ∙ ap (λ (o : Option Mark). or_else o (or_else (first_in declared defined (parts_of n.parts.items)) (first_in declared (defined_after (tag_of n) (defined_in defined (parts_of n.parts.items))) (parts_of (drop (i + 1) parts))))) own
+    ∙ ap (λ (o : Option DixMark). or_else o (or_else (first_in declared defined (parts_of n.parts.items)) (first_in declared (defined_after (tag_of n) (defined_in defined (parts_of n.parts.items))) (parts_of (drop (i + 1) parts))))) own
 
-pub first_within : (declared defined : List (List ℕ)) (parts : List Part) (i : ℕ) (p : Part) (n : Node) (m : Mark) → i < length parts → p ≡ get_or parts i p → p ≡ Element n → marked (tag_of n) (tag_kind declared defined (tag_of n) (parts_of n.parts.items)) ≡ None → first_in declared defined (parts_of n.parts.items) ≡ Some m → first_in declared defined (parts_of (drop i parts)) ≡ Some m
+pub first_within : (declared defined : List (List ℕ)) (parts : List Part) (i : ℕ) (p : Part) (n : Node) (m : DixMark) → i < length parts → p ≡ get_or parts i p → p ≡ Element n → marked (tag_of n) (tag_kind declared defined (tag_of n) (parts_of n.parts.items)) ≡ None → first_in declared defined (parts_of n.parts.items) ≡ Some m → first_in declared defined (parts_of (drop i parts)) ≡ Some m
 first_within declared defined parts i p n m lt is shape own inner =
     first_node declared defined parts i p n lt is shape
-    ∙ ap (λ (o : Option Mark). or_else o (or_else (first_in declared defined (parts_of n.parts.items)) (first_in declared (defined_after (tag_of n) (defined_in defined (parts_of n.parts.items))) (parts_of (drop (i + 1) parts))))) own
-    ∙ ap (λ (o : Option Mark). or_else o (first_in declared (defined_after (tag_of n) (defined_in defined (parts_of n.parts.items))) (parts_of (drop (i + 1) parts)))) inner
+    ∙ ap (λ (o : Option DixMark). or_else o (or_else (first_in declared defined (parts_of n.parts.items)) (first_in declared (defined_after (tag_of n) (defined_in defined (parts_of n.parts.items))) (parts_of (drop (i + 1) parts))))) own
+    ∙ ap (λ (o : Option DixMark). or_else o (first_in declared (defined_after (tag_of n) (defined_in defined (parts_of n.parts.items))) (parts_of (drop (i + 1) parts)))) inner
 
 pub first_later : (declared defined after : List (List ℕ)) (parts : List Part) (i : ℕ) (p : Part) (n : Node) → i < length parts → p ≡ get_or parts i p → p ≡ Element n → marked (tag_of n) (tag_kind declared defined (tag_of n) (parts_of n.parts.items)) ≡ None → first_in declared defined (parts_of n.parts.items) ≡ None → after ≡ defined_after (tag_of n) (defined_in defined (parts_of n.parts.items)) → first_in declared defined (parts_of (drop i parts)) ≡ first_in declared after (parts_of (drop (i + 1) parts))
 first_later declared defined after parts i p n lt is shape own inner after_is =
     first_node declared defined parts i p n lt is shape
-    ∙ ap (λ (o : Option Mark). or_else o (or_else (first_in declared defined (parts_of n.parts.items)) (first_in declared (defined_after (tag_of n) (defined_in defined (parts_of n.parts.items))) (parts_of (drop (i + 1) parts))))) own
-    ∙ ap (λ (o : Option Mark). or_else o (first_in declared (defined_after (tag_of n) (defined_in defined (parts_of n.parts.items))) (parts_of (drop (i + 1) parts)))) inner
+    ∙ ap (λ (o : Option DixMark). or_else o (or_else (first_in declared defined (parts_of n.parts.items)) (first_in declared (defined_after (tag_of n) (defined_in defined (parts_of n.parts.items))) (parts_of (drop (i + 1) parts))))) own
+    ∙ ap (λ (o : Option DixMark). or_else o (first_in declared (defined_after (tag_of n) (defined_in defined (parts_of n.parts.items))) (parts_of (drop (i + 1) parts)))) inner
     ∙ ap (λ names. first_in declared names (parts_of (drop (i + 1) parts))) (sym after_is)
 
 pub defined_later : (defined after : List (List ℕ)) (parts : List Part) (i : ℕ) (p : Part) (n : Node) → i < length parts → p ≡ get_or parts i p → p ≡ Element n → after ≡ defined_after (tag_of n) (defined_in defined (parts_of n.parts.items)) → defined_in defined (parts_of (drop i parts)) ≡ defined_in after (parts_of (drop (i + 1) parts))
@@ -271,18 +228,18 @@ declared_later names own after parts i p n lt is shape own_is after_is =
     ∙ ap (λ ns. declared_in ns (parts_of (drop (i + 1) parts))) (sym after_is)
 
 -- the first fault of the tree of a root
-pub mark_own : (n : Node) (declared defined : List (List ℕ)) (m : Mark) → declared ≡ declared_in [] (parts_of n.parts.items) → defined ≡ [] → marked (tag_of n) (tag_kind declared defined (tag_of n) (parts_of n.parts.items)) ≡ Some m → Some m ≡ first_mark (node_then n Done)
+pub mark_own : (n : Node) (declared defined : List (List ℕ)) (m : DixMark) → declared ≡ declared_in [] (parts_of n.parts.items) → defined ≡ [] → marked (tag_of n) (tag_kind declared defined (tag_of n) (parts_of n.parts.items)) ≡ Some m → Some m ≡ first_mark (node_then n Done)
 mark_own n declared defined m declared_is defined_is own =
     let kids = parts_of n.parts.items in
     sym (ap (λ ds. or_else (marked (tag_of n) (tag_kind (declared_in [] kids) ds (tag_of n) kids)) (first_in (declared_in [] kids) [] kids)) (sym defined_is)
     ∙ ap (λ ds. or_else (marked (tag_of n) (tag_kind ds defined (tag_of n) kids)) (first_in (declared_in [] kids) [] kids)) (sym declared_is)
-    ∙ ap (λ (o : Option Mark). or_else o (first_in (declared_in [] kids) [] kids)) own)
+    ∙ ap (λ (o : Option DixMark). or_else o (first_in (declared_in [] kids) [] kids)) own)
 
 pub mark_within : (n : Node) (declared defined : List (List ℕ)) → declared ≡ declared_in [] (parts_of n.parts.items) → defined ≡ [] → marked (tag_of n) (tag_kind declared defined (tag_of n) (parts_of n.parts.items)) ≡ None → first_in declared defined (parts_of n.parts.items) ≡ first_mark (node_then n Done)
 mark_within n declared defined declared_is defined_is own =
     let kids = parts_of n.parts.items in
     sym (ap (λ ds. or_else (marked (tag_of n) (tag_kind (declared_in [] kids) ds (tag_of n) kids)) (first_in (declared_in [] kids) [] kids)) (sym defined_is)
     ∙ ap (λ ds. or_else (marked (tag_of n) (tag_kind ds defined (tag_of n) kids)) (first_in (declared_in [] kids) [] kids)) (sym declared_is)
-    ∙ ap (λ (o : Option Mark). or_else o (first_in (declared_in [] kids) [] kids)) own
+    ∙ ap (λ (o : Option DixMark). or_else o (first_in (declared_in [] kids) [] kids)) own
     ∙ ap (λ ds. first_in ds [] kids) (sym declared_is)
     ∙ ap (λ ds. first_in declared ds kids) (sym defined_is))

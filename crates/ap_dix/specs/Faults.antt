@@ -3,15 +3,15 @@ use Rattle.std.specs.Prelude.{ℕ, Bool, not, ◌&&◌, ◌||◌, ◌==◌, nat_
 use Rattle.ap_markup.specs.Pieces.{Pair}
 use Rattle.ap_markup.specs.Tree.{Tag, Parts, Done, Run, Element}
 use Rattle.ap_dix.specs.Machines.{expression}
-use Rattle.ap_dix.specs.Names.{has_name, with_name}
-use Rattle.ap_dix.specs.Refusals.{kind_number}
-use Rattle.ap_dix.specs.Said.{attribute, name_of, is_named, texts}
-use Rattle.ap_dix.specs.declared.faults.Mark.{Mark}
+use Rattle.ap_markup.specs.NameLists.{has_name, with_name}
+use Rattle.ap_markup.specs.Said.{value_of, name_of, is_named}
+use Rattle.ap_dix.specs.WordText.{texts}
+use Rattle.ap_markup.specs.declared.marks.Mark.{Mark}
 use Rattle.ap_dix.specs.declared.refusal.DixKind.{DixKind}
 use Rattle.ap_dix.specs.declared.refusal.DixKind.TheVariants.{DuplicateName, UndeclaredSymbol, UndefinedParadigm, BadRegex, Weighted, Unsupported}
 
 abbrev pub has_attribute : List ℕ → List Pair → Bool
-has_attribute name given = is_some (attribute name given)
+has_attribute name given = is_some (value_of name given)
 
 -- an attribute of an entry that isn't read
 abbrev pub has_unsupported : List Pair → Bool
@@ -39,12 +39,15 @@ tag_kind declared defined tag kids =
     else if is_unsupported tag then Some Unsupported
     else None
 
+abbrev pub DixMark : Type 0
+DixMark = Mark DixKind
+
 -- the fault with its place and line
-abbrev pub marked : Tag → Option DixKind → Option Mark
+abbrev pub marked : Tag → Option DixKind → Option DixMark
 marked tag None = None
 marked tag (Some kind) = Some (record { place = tag.place; line = tag.line; kind = kind })
 
-abbrev pub or_else : Option Mark → Option Mark → Option Mark
+abbrev pub or_else : Option DixMark → Option DixMark → Option DixMark
 or_else None next = next
 or_else (Some mark) next = Some mark
 
@@ -59,7 +62,7 @@ defined_in defined (Run text at more) = defined_in defined more
 defined_in defined (Element tag kids more) = defined_in (defined_after tag (defined_in defined kids)) more
 
 -- the fault of the first start tag that has one, in the order of the document
-unfoldable pub first_in : List (List ℕ) → List (List ℕ) → Parts → Option Mark
+unfoldable pub first_in : List (List ℕ) → List (List ℕ) → Parts → Option DixMark
 first_in declared defined Done = None
 first_in declared defined (Run text at more) = first_in declared defined more
 first_in declared defined (Element tag kids more) =
@@ -76,17 +79,7 @@ declared_in names (Run text at more) = declared_in names more
 declared_in names (Element tag kids more) = declared_in (declared_in (declared_by tag names) kids) more
 
 -- the fault of the first start tag that has one, in the tree of a root
-abbrev pub first_mark : Parts → Option Mark
+abbrev pub first_mark : Parts → Option DixMark
 first_mark Done = None
 first_mark (Run text at more) = None
 first_mark (Element tag kids more) = or_else (marked tag (tag_kind (declared_in [] kids) [] tag kids)) (first_in (declared_in [] kids) [] kids)
-
--- of two faults, by their places and then by their numbers
-abbrev pub is_before : Mark → Mark → Bool
-is_before f g = nat_lt f.place g.place || (f.place == g.place && nat_lt (kind_number f.kind) (kind_number g.kind))
-
--- the first of two
-abbrev pub sooner : Option Mark → Option Mark → Option Mark
-sooner None g = g
-sooner (Some f) None = Some f
-sooner (Some f) (Some g) = if is_before g f then Some g else Some f

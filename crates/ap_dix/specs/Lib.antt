@@ -8,9 +8,9 @@ pub mod Views
 pub mod Derivation
 pub mod Refusals
 pub mod Soundness
-pub mod Names
-pub mod Said
 pub mod WordText
 pub mod Value
 pub mod Faults
+pub mod Mistakes
 pub mod Spelling
+pub mod Sentences

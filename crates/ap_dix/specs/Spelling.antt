@@ -7,10 +7,12 @@ use Rattle.ap_markup.specs.declared.elements.MarkupFault.{MarkupFault}
 use Rattle.ap_markup.specs.declared.kind.MarkupKind.{MarkupKind}
 use Rattle.ap_markup.specs.declared.kind.MarkupKind.TheVariants as notation
 use Rattle.ap_markup.specs.declared.tables.Table.TheVariants.{Dix}
-use Rattle.ap_dix.specs.Faults.{first_mark, sooner}
+use Rattle.ap_markup.specs.Marks.{mark_order}
+use Rattle.ap_markup.specs.Sooner.{sooner}
+use Rattle.ap_dix.specs.Faults.{DixMark, first_mark}
+use Rattle.ap_dix.specs.Refusals.{kind_number}
 use Rattle.ap_dix.specs.Value.{dictionary}
 use Rattle.ap_dix.specs.declared.dictionary.Dictionary.{Dictionary}
-use Rattle.ap_dix.specs.declared.faults.Mark.{Mark}
 use Rattle.ap_dix.specs.declared.refusal.DixFault.{DixFault}
 use Rattle.ap_dix.specs.declared.refusal.DixKind.{DixKind}
 use Rattle.ap_dix.specs.declared.refusal.DixKind.TheVariants.{NotUtf8, Syntax, UnknownElement, UnknownAttribute, MissingAttribute, Misplaced}
@@ -24,10 +26,10 @@ kind_of notation.UnknownAttribute = UnknownAttribute
 kind_of notation.MissingAttribute = MissingAttribute
 kind_of notation.Misplaced = Misplaced
 
-abbrev pub mark_of : MarkupFault → Mark
+abbrev pub mark_of : MarkupFault → DixMark
 mark_of f = record { place = f.place; line = f.line; kind = kind_of f.kind }
 
-abbrev pub fault_of : Mark → DixFault
+abbrev pub fault_of : DixMark → DixFault
 fault_of m = record { kind = m.kind; line = m.line }
 
 -- the parts of the root
@@ -36,7 +38,7 @@ root_parts Done = Done
 root_parts (Run text at more) = Done
 root_parts (Element tag kids more) = kids
 
-abbrev pub decided : Parts → Option Mark → Result Dictionary DixFault
+abbrev pub decided : Parts → Option DixMark → Result Dictionary DixFault
 decided tree None = Ok (dictionary (root_parts tree))
 decided tree (Some m) = Err (fault_of m)
 
@@ -44,7 +46,7 @@ decided tree (Some m) = Err (fault_of m)
 -- without a tree has the fault of the notation.
 abbrev pub judged : Spelled → Result Dictionary DixFault
 judged (Err f) = Err (fault_of (mark_of f))
-judged (Ok tree) = decided tree.0 (sooner (option_map mark_of tree.1) (first_mark tree.0))
+judged (Ok tree) = decided tree.0 (sooner (mark_order kind_number) (option_map mark_of tree.1) (first_mark tree.0))
 
 unfoldable pub spelled : List ℕ → Result Dictionary DixFault
 spelled text = judged (elements text Dix)

@@ -5,9 +5,9 @@ use Rattle.std.specs.Str.{bytes_eq}
 use Rattle.ap_symbol.specs.Words.{is_white}
 use Rattle.ap_markup.specs.Tree.{Tag, Parts, Done, Run, Element}
 use Rattle.ap_dix.specs.Machines.{expression}
-use Rattle.ap_dix.specs.Names.{with_name, number_of}
-use Rattle.ap_dix.specs.Said.{attribute, name_of, is_named, child, texts}
-use Rattle.ap_dix.specs.WordText.{symbols}
+use Rattle.ap_markup.specs.NameLists.{with_name, number_of}
+use Rattle.ap_markup.specs.Said.{value_of, name_of, is_named, child}
+use Rattle.ap_dix.specs.WordText.{symbols, texts}
 use Rattle.ap_dix.specs.declared.dictionary.Dictionary.{Dictionary}
 use Rattle.ap_dix.specs.declared.dictionary.Entry.{Entry}
 use Rattle.ap_dix.specs.declared.dictionary.EntryPart.{EntryPart}
@@ -51,8 +51,8 @@ is_yes (Some value) = bytes_eq (codes "yes") value
 abbrev pub entry : List (List ℕ) → Tag → Parts → Entry
 entry names tag kids = record {
   line = tag.line;
-  side = side_of (attribute (codes "r") tag.attributes);
-  ignored = is_yes (attribute (codes "i") tag.attributes);
+  side = side_of (value_of (codes "r") tag.attributes);
+  ignored = is_yes (value_of (codes "i") tag.attributes);
   parts = entry_parts names kids;
 }
 
@@ -86,7 +86,7 @@ kind_of (Some value) =
     else Standard
 
 abbrev pub section : List (List ℕ) → Tag → Parts → Section
-section names tag kids = record { kind = kind_of (attribute (codes "type") tag.attributes); entries = entries names kids }
+section names tag kids = record { kind = kind_of (value_of (codes "type") tag.attributes); entries = entries names kids }
 
 unfoldable pub sections : List (List ℕ) → Parts → List Section
 sections names Done = []

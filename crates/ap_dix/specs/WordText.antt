@@ -7,7 +7,7 @@ use Rattle.ap_symbol.specs.Words.{is_white}
 use Rattle.ap_symbol.specs.declared.symbol.Symbol.{Symbol}
 use Rattle.ap_symbol.specs.declared.symbol.Symbol.TheVariants.{Letter, Tag as tag_symbol, Blank, Join, Queue, Alarm}
 use Rattle.ap_markup.specs.Tree.{Tag, Parts, Done, Run, Element}
-use Rattle.ap_dix.specs.Said.{name_of, is_named}
+use Rattle.ap_markup.specs.Said.{name_of, is_named}
 
 -- a space is Blank, other white space is skipped, and every other character is a letter
 abbrev pub letter : ℕ → List Symbol
@@ -37,3 +37,9 @@ unfoldable pub symbols : Parts → List Symbol
 symbols Done = []
 symbols (Run text at more) = letters text ++ symbols more
 symbols (Element tag kids more) = element_symbols tag (symbols kids) ++ symbols more
+
+-- the characters of the texts among the parts, one after another
+unfoldable pub texts : Parts → List ℕ
+texts Done = []
+texts (Run text at more) = text ++ texts more
+texts (Element tag kids more) = texts more

@@ -1,15 +1,13 @@
 ghost use Rattle.std.specs.Prelude.{◌≡◌, IfOk};
 ghost use Rattle.std.specs.Option.{option_copied};
 ghost use Rattle.ap_markup.specs.View.{parts_of, tag_of};
-ghost use Rattle.ap_dix.specs.Said.{texts};
+ghost use Rattle.ap_dix.specs.WordText.{texts};
 ghost use Rattle.ap_dix.specs.Value.{expression_part, entry_part, entry_parts, entry, entries, side_of, is_yes};
 
 use crate::dictionary::{Entries, Entry, EntryPart, EntryParts, Side};
 use crate::expressions::read_expression;
-use crate::names::Names;
-use crate::said::{attribute, child, is_named, is_text, name_of};
 use crate::words::{texts, word_of};
-use ap_markup::{Node, Part};
+use ap_markup::{Names, Node, Part, child, is_named, is_text, name_of, value_of};
 use ap_symbol::{Memory, Sequence};
 use std::alloc::Global;
 
@@ -98,8 +96,8 @@ fn entry(alloc: Global, names: &Names, node: &Node) -> Result<Entry, Memory>
     let given = node.attributes.as_slice();
     Ok(Entry {
         line: node.line,
-        side: side_of(attribute("r", given)),
-        ignored: is_yes(attribute("i", given)),
+        side: side_of(value_of("r", given)),
+        ignored: is_yes(value_of("i", given)),
         parts: entry_parts(alloc, names, &node.parts)?,
     })
 }

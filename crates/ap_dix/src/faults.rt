@@ -3,29 +3,19 @@ ghost use Rattle.std.specs.Option.{IfNone};
 ghost use Rattle.ap_markup.specs.Tree.{Done};
 ghost use Rattle.ap_markup.specs.View.{parts_of, tag_of, node_then};
 ghost use Rattle.ap_markup.specs.Views.{pairs};
-ghost use Rattle.ap_dix.specs.Faults.{has_attribute, has_unsupported, is_unsupported, is_bad_regex, tag_kind, marked, first_in, defined_in, declared_in, first_mark, is_before, sooner};
+ghost use Rattle.ap_dix.specs.Faults.{has_attribute, has_unsupported, is_unsupported, is_bad_regex, tag_kind, marked, first_in, defined_in, declared_in, first_mark};
 
 use crate::expressions::read_expression;
-use crate::names::Names;
 use crate::refusal::DixKind;
-use crate::said::{attribute, is_named, name_of};
 use crate::words::texts;
-use ap_markup::{Attribute, Node, Part};
+use ap_markup::{Attribute, Mark, Names, Node, Part, is_named, name_of, value_of};
 use ap_symbol::Memory;
 use std::alloc::Global;
-
-/// A fault with the place and the line of its start tag.
-#[derive(Clone, Copy)]
-pub struct Mark {
-    pub place: u64,
-    pub line: u64,
-    pub kind: DixKind,
-}
 
 fn has_attribute(name: &str, given: &[Attribute]) -> bool
     ensures { result ≡ has_attribute name.now (pairs given.now) }
 {
-    attribute(name, given).is_some()
+    value_of(name, given).is_some()
 }
 
 fn has_unsupported(given: &[Attribute]) -> bool
@@ -93,7 +83,7 @@ fn tag_mark(
     declared: &Names,
     defined: &Names,
     node: &Node,
-) -> Result<Option<Mark>, Memory>
+) -> Result<Option<Mark<DixKind>>, Memory>
     ensures { IfOk result (λ mark. mark ≡ marked (tag_of node.now) (tag_kind declared.now defined.now (tag_of node.now) (parts_of node.now.parts.items))) }
 {
     match tag_kind(alloc, declared, defined, node)? {
@@ -113,7 +103,7 @@ fn first_in<'a>(
     declared: &Names,
     defined: &mut Names<'a>,
     parts: &'a [Part],
-) -> Result<Option<Mark>, Memory>
+) -> Result<Option<Mark<DixKind>>, Memory>
     ensures first { IfOk result (λ first. first ≡ first_in declared.now defined.old (parts_of parts.now)) }
     ensures after { IfOk result (λ first. IfNone first (defined.new ≡ defined_in defined.old (parts_of parts.now))) }
 {
@@ -155,7 +145,7 @@ fn declare<'a>(names: &mut Names<'a>, parts: &'a [Part]) -> Result<(), Memory>
 }
 
 /// The first fault of the tree of this root.
-pub fn first_mark(alloc: Global, root: &Node) -> Result<Option<Mark>, Memory>
+pub fn first_mark(alloc: Global, root: &Node) -> Result<Option<Mark<DixKind>>, Memory>
     ensures { IfOk result (λ first. first ≡ first_mark (node_then root.now Done)) }
 {
     let mut declared = Names::new(alloc);
@@ -165,21 +155,4 @@ pub fn first_mark(alloc: Global, root: &Node) -> Result<Option<Mark>, Memory>
         return Ok(Some(mark));
     }
     first_in(alloc, &declared, &mut defined, &root.parts)
-}
-
-fn is_before(f: Mark, g: Mark) -> bool
-    ensures { result ≡ is_before f g }
-{
-    f.place < g.place || (f.place == g.place && f.kind.number() < g.kind.number())
-}
-
-/// The first of two faults, by their places and then by their numbers.
-pub fn sooner(first: Option<Mark>, second: Option<Mark>) -> Option<Mark>
-    ensures { result ≡ sooner first second }
-{
-    match (first, second) {
-        (None, other) => other,
-        (Some(f), None) => Some(f),
-        (Some(f), Some(g)) => { if is_before(g, f) { Some(g) } else { Some(f) } }
-    }
 }

@@ -8,12 +8,10 @@ mod expression;
 mod expressions;
 mod faults;
 mod laws;
-mod names;
 mod pardefs;
 mod pieces;
 mod reading;
 mod refusal;
-mod said;
 mod sections;
 mod stages;
 #[cfg(test)]

@@ -4,9 +4,7 @@ ghost use Rattle.ap_dix.specs.Value.{pardef, pardefs, names_with};
 
 use crate::dictionary::{Pardef, Pardefs};
 use crate::entries::entries;
-use crate::names::Names;
-use crate::said::{is_named, name_of};
-use ap_markup::{Node, Part};
+use ap_markup::{Names, Node, Part, is_named, name_of};
 use ap_symbol::{Memory, Sequence};
 use std::alloc::Global;
 

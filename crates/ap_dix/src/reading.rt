@@ -6,10 +6,12 @@ ghost use Rattle.ap_dix.specs.Soundness.{IsSound};
 ghost use Rattle.ap_dix.specs.Spelling.{Spells, IsFirstFault, kind_of, mark_of, fault_of, judged};
 
 use crate::dictionary::Dictionary;
-use crate::faults::{Mark, first_mark, sooner};
+use crate::faults::first_mark;
 use crate::refusal::{DixFault, DixKind, DixRefusal};
 use crate::sections::dictionary;
-use ap_markup::{Elements, MarkupFault, MarkupKind, MarkupRefusal, Table, read_elements};
+use ap_markup::{
+    Elements, Mark, MarkupFault, MarkupKind, MarkupRefusal, Table, read_elements, sooner,
+};
 use std::alloc::Global;
 
 fn kind_of(kind: MarkupKind) -> DixKind
@@ -25,7 +27,7 @@ fn kind_of(kind: MarkupKind) -> DixKind
     }
 }
 
-fn mark_of(fault: MarkupFault) -> Mark
+fn mark_of(fault: MarkupFault) -> Mark<DixKind>
     ensures { result ≡ mark_of fault }
 {
     Mark {
@@ -35,7 +37,7 @@ fn mark_of(fault: MarkupFault) -> Mark
     }
 }
 
-fn refusal(mark: Mark) -> DixRefusal
+fn refusal(mark: Mark<DixKind>) -> DixRefusal
     ensures { result ≡ DixRefusal.Fault (fault_of mark) }
 {
     DixRefusal::Fault(DixFault {

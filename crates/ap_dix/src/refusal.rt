@@ -1,6 +1,7 @@
 ghost use Rattle.std.specs.Prelude.{◌≡◌};
 ghost use Rattle.ap_dix.specs.Refusals.{kind_number, kind_name};
 
+use ap_markup::Numbered;
 use ap_symbol::Memory;
 use thiserror::Error;
 
@@ -19,6 +20,14 @@ pub enum DixKind {
     BadRegex,
     Weighted,
     Unsupported,
+}
+
+impl Numbered for DixKind {
+    ghost number_of = { kind_number };
+
+    fn number(self) -> u64 {
+        DixKind::number(self) as u64
+    }
 }
 
 impl DixKind {

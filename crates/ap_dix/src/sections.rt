@@ -6,11 +6,9 @@ ghost use Rattle.ap_dix.specs.Value.{alphabet, dictionary, kind_of, section, sec
 
 use crate::dictionary::{Dictionary, Kind, Section, Sections};
 use crate::entries::entries;
-use crate::names::Names;
 use crate::pardefs::pardefs;
-use crate::said::{attribute, child, is_named, is_text};
 use crate::words::is_white;
-use ap_markup::{Node, Part};
+use ap_markup::{Names, Node, Part, child, is_named, is_text, value_of};
 use ap_symbol::{Letters, Memory, Sequence};
 use std::alloc::Global;
 
@@ -37,7 +35,7 @@ fn section(alloc: Global, names: &Names, node: &Node) -> Result<Section, Memory>
     ensures { IfOk result (λ made. made ≡ section names.now (tag_of node.now) (parts_of node.now.parts.items)) }
 {
     Ok(Section {
-        kind: kind_of(attribute("type", node.attributes.as_slice())),
+        kind: kind_of(value_of("type", node.attributes.as_slice())),
         entries: entries(alloc, names, &node.parts)?,
     })
 }

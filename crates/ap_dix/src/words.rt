@@ -3,11 +3,9 @@ ghost use Rattle.std.specs.Str.{encode_utf8_all};
 ghost use Rattle.std.specs.String.{string_bytes};
 ghost use Rattle.ap_symbol.specs.Words.{is_white};
 ghost use Rattle.ap_markup.specs.View.{parts_of, tag_of};
-ghost use Rattle.ap_dix.specs.Said.{texts};
-ghost use Rattle.ap_dix.specs.WordText.{letter, letters, mark, tag_named, symbols};
+ghost use Rattle.ap_dix.specs.WordText.{letter, letters, mark, tag_named, symbols, texts};
 
-use crate::said::{is_named, name_of};
-use ap_markup::{Node, Part};
+use ap_markup::{Node, Part, is_named, name_of};
 use ap_symbol::{Memory, Sequence, Symbol, TagName, Text, Word};
 use std::alloc::Global;
 

@@ -1,7 +1,8 @@
 use Rattle.std.proofs.Common.{◌++◌, ◌∷◌, [], ap, sym, ◌∙◌}
 use Rattle.ap_markup.specs.View.{parts_of, tag_of}
 use Rattle.ap_dix.specs.Value.{entry}
-use Rattle.ap_dix.proofs.Walks.{grows, stays, ends, entries_run, entries_yes, entries_no, entries_end}
+use Rattle.ap_markup.proofs.PartSteps.{grows, stays, ends}
+use Rattle.ap_dix.proofs.Walks.{entries_run, entries_yes, entries_no, entries_end}
 use Rattle.ap_dix.proofs.entries.entries.Goals as goal
 use Rattle.ap_dix.proofs.entries.entries.Goals.{in-Run, in-Element+then-is_named+in_ok-entry-in-Element+in_ok-push-in-Element, in-Element+else-is_named}
 

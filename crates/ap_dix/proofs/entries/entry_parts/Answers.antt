@@ -1,5 +1,6 @@
 use Rattle.std.proofs.Common.{◌∷◌, [], sym, ◌∙◌, Some, None}
-use Rattle.ap_dix.proofs.Walks.{grows, stays, ends, entry_parts_run, entry_parts_node, entry_parts_end}
+use Rattle.ap_markup.proofs.PartSteps.{grows, stays, ends}
+use Rattle.ap_dix.proofs.Walks.{entry_parts_run, entry_parts_node, entry_parts_end}
 use Rattle.ap_dix.proofs.entries.entry_parts.Goals as goal
 use Rattle.ap_dix.proofs.entries.entry_parts.Goals.{in-Run, in-Element+in_ok-one-in-Element+in-Some+in_ok-push-in-Element, in-Element+in_ok-one-in-Element+in_default}
 

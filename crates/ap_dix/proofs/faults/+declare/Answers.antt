@@ -1,7 +1,7 @@
 use Rattle.std.proofs.Common.{◌≡◌, ◌+◌, drop, ap, sym, ◌∙◌}
 use Rattle.ap_markup.specs.View.{parts_of, tag_of}
 use Rattle.ap_dix.specs.Faults.{declared_by, declared_in}
-use Rattle.ap_dix.specs.Names.{with_name}
+use Rattle.ap_markup.specs.NameLists.{with_name}
 use Rattle.ap_dix.proofs.Walks.{declared_run, declared_later, declared_end, by_yes, by_no}
 use Rattle.ap_dix.proofs.faults.+declare.Goals as goal
 use Rattle.ap_dix.proofs.faults.+declare.Goals.{in-Run, in-Element+in_ok-declare-in-Element, then-is_named+in_ok-add-in-Element, else-is_named}

@@ -1,8 +1,8 @@
 use Rattle.std.proofs.Common.{◌≡◌, ◌+◌, drop, ap, sym, ◌∙◌, None}
 use Rattle.ap_markup.specs.View.{parts_of, tag_of}
 use Rattle.ap_dix.specs.Faults.{marked, tag_kind, first_in, defined_in, defined_after}
-use Rattle.ap_dix.specs.Names.{with_name}
-use Rattle.ap_dix.specs.Said.{name_of}
+use Rattle.ap_markup.specs.NameLists.{with_name}
+use Rattle.ap_markup.specs.Said.{name_of}
 use Rattle.ap_dix.proofs.Walks.{first_here, first_within, first_later, first_run, first_end, defined_later, defined_run, defined_end, after_yes, after_no}
 use Rattle.ap_dix.proofs.faults.+first_in.Goals as goal
 use Rattle.ap_dix.proofs.faults.+first_in.Goals.{in-Run, in-Element+in_ok-mark-in-Element+in_default+in_ok-mark-in-Element-2+in_default-2+then-is_named+in_ok-add-in-Element, in-Element+in_ok-mark-in-Element+in_default+in_ok-mark-in-Element-2+in_default-2+else-is_named}

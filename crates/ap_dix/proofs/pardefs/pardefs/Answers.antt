@@ -1,9 +1,10 @@
 use Rattle.std.proofs.Common.{◌≡◌, ◌+◌, ◌++◌, ◌∷◌, [], drop, ap, sym, ◌∙◌}
 use Rattle.ap_markup.specs.View.{parts_of, tag_of}
-use Rattle.ap_dix.specs.Names.{with_name}
-use Rattle.ap_dix.specs.Said.{name_of}
+use Rattle.ap_markup.specs.NameLists.{with_name}
+use Rattle.ap_markup.specs.Said.{name_of}
 use Rattle.ap_dix.specs.Value.{pardef, pardefs, names_with}
-use Rattle.ap_dix.proofs.Walks.{grows, stays, ends, pardefs_run, pardefs_yes, pardefs_no, pardefs_end, names_with_run, names_with_yes, names_with_no, names_with_end}
+use Rattle.ap_markup.proofs.PartSteps.{grows, stays, ends}
+use Rattle.ap_dix.proofs.Walks.{pardefs_run, pardefs_yes, pardefs_no, pardefs_end, names_with_run, names_with_yes, names_with_no, names_with_end}
 use Rattle.ap_dix.proofs.pardefs.pardefs.Goals as goal
 use Rattle.ap_dix.proofs.pardefs.pardefs.Goals.{in-Run, in-Element+then-is_named+in_ok-pardef-in-Element+in_ok-push-in-Element+in_ok-add-in-Element, in-Element+else-is_named}
 

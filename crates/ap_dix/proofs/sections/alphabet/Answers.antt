@@ -1,6 +1,7 @@
 use Rattle.std.proofs.Common.{◌++◌, filter, not, ap, ◌∙◌}
 use Rattle.ap_symbol.specs.Words.{is_white}
-use Rattle.ap_dix.proofs.Walks.{grows, stays, ends, alphabet_run, alphabet_node, alphabet_end}
+use Rattle.ap_markup.proofs.PartSteps.{grows, stays, ends}
+use Rattle.ap_dix.proofs.Walks.{alphabet_run, alphabet_node, alphabet_end}
 use Rattle.ap_dix.proofs.sections.alphabet.Goals as goal
 use Rattle.ap_dix.proofs.sections.alphabet.Goals.{in-Run+in_ok-add_letters-in-Run, in-Element}
 

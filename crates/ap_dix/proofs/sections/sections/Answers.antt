@@ -1,7 +1,8 @@
 use Rattle.std.proofs.Common.{◌++◌, ◌∷◌, [], ap, sym, ◌∙◌}
 use Rattle.ap_markup.specs.View.{parts_of, tag_of}
 use Rattle.ap_dix.specs.Value.{section}
-use Rattle.ap_dix.proofs.Walks.{grows, stays, ends, sections_run, sections_yes, sections_no, sections_end}
+use Rattle.ap_markup.proofs.PartSteps.{grows, stays, ends}
+use Rattle.ap_dix.proofs.Walks.{sections_run, sections_yes, sections_no, sections_end}
 use Rattle.ap_dix.proofs.sections.sections.Goals as goal
 use Rattle.ap_dix.proofs.sections.sections.Goals.{in-Run, in-Element+then-is_named+in_ok-section-in-Element+in_ok-push-in-Element, in-Element+else-is_named}
 

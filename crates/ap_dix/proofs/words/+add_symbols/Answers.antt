@@ -2,7 +2,8 @@ use Rattle.std.proofs.Common.{◌++◌, ◌∷◌, ap, sym, ◌∙◌}
 use Rattle.ap_symbol.specs.declared.symbol.Symbol.TheVariants.{Queue}
 use Rattle.ap_markup.specs.View.{parts_of, tag_of}
 use Rattle.ap_dix.specs.WordText.{letters, mark, symbols}
-use Rattle.ap_dix.proofs.Walks.{grows, ends, two_pushes, symbols_run, symbols_yes, symbols_no, symbols_end}
+use Rattle.ap_markup.proofs.PartSteps.{grows, ends, two_pushes}
+use Rattle.ap_dix.proofs.Walks.{symbols_run, symbols_yes, symbols_no, symbols_end}
 use Rattle.ap_dix.proofs.words.+add_symbols.Goals as goal
 use Rattle.ap_dix.proofs.words.+add_symbols.Goals.{in-Run+in_ok-add_text-in-Run, in-Element+then-is_named+in_ok-push-in-Element+in_ok-add_symbols-in-Element, in-Element+else-is_named+in_ok-add_mark-in-Element}
 

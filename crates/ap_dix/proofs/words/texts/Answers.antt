@@ -1,5 +1,6 @@
 use Rattle.std.proofs.Common.{◌++◌, ap, ◌∙◌}
-use Rattle.ap_dix.proofs.Walks.{grows, stays, ends, texts_run, texts_node, texts_end}
+use Rattle.ap_markup.proofs.PartSteps.{grows, stays, ends}
+use Rattle.ap_dix.proofs.Walks.{texts_run, texts_node, texts_end}
 use Rattle.ap_dix.proofs.words.texts.Goals as goal
 use Rattle.ap_dix.proofs.words.texts.Goals.{in-Run+in_ok-add_characters-in-Run, in-Element}
 

@@ -1,6 +1,6 @@
 use Rattle.std.proofs.Common.{◌≡◌, ◌++◌, drop}
 use Rattle.ap_markup.specs.View.{parts_of}
-use Rattle.ap_dix.specs.Said.{texts}
+use Rattle.ap_dix.specs.WordText.{texts}
 use Rattle.ap_dix.proofs.words.texts.Given as goal
 
 abbrev pub invariant-parts : goal.invariant-parts

@@ -1,9 +1,9 @@
 use Rattle.std.proofs.Common.{◌++◌, ◌∷◌, [], cond, map, ap, sym, ◌∙◌}
 use Rattle.std.specs.List.{list_any}
 use Rattle.std.specs.Str.{bytes_eq}
-use Rattle.ap_dix.specs.Names.{with_name}
-use Rattle.ap_dix.proofs.Keys.{any_key, with_key}
-use Rattle.ap_dix.proofs.names.Names.add.Goals as goal
+use Rattle.ap_markup.specs.NameLists.{with_name}
+use Rattle.ap_markup.proofs.Keys.{any_key, with_key}
+use Rattle.ap_markup.proofs.name_list.Names.add.Goals as goal
 
 pub returns : goal.returns
 returns c =

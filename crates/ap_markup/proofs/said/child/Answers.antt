@@ -1,8 +1,8 @@
 use Rattle.std.proofs.Common.{ap, sym, ◌∙◌}
 use Rattle.ap_markup.specs.View.{parts_of}
-use Rattle.ap_dix.proofs.Walks.{child_run, child_yes, child_no, child_end}
-use Rattle.ap_dix.proofs.said.child.Goals as goal
-use Rattle.ap_dix.proofs.said.child.Goals.{in-Run, in-Element+else-is_named}
+use Rattle.ap_markup.proofs.PartSteps.{child_run, child_yes, child_no, child_end}
+use Rattle.ap_markup.proofs.said.child.Goals as goal
+use Rattle.ap_markup.proofs.said.child.Goals.{in-Run, in-Element+else-is_named}
 
 pub returns-then-is_named : goal.returns-then-is_named
 returns-then-is_named c =

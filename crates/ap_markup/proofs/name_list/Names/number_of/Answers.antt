@@ -1,8 +1,8 @@
 use Rattle.std.proofs.Common.{ap, sym, ◌∙◌}
 use Rattle.std.specs.Str.{bytes_eq}
-use Rattle.ap_dix.specs.Names.{number_of}
-use Rattle.ap_dix.proofs.Keys.{key_at}
-use Rattle.ap_dix.proofs.names.Names.number_of.Goals as goal
+use Rattle.ap_markup.specs.NameLists.{number_of}
+use Rattle.ap_markup.proofs.Keys.{key_at}
+use Rattle.ap_markup.proofs.name_list.Names.number_of.Goals as goal
 
 pub returns : goal.returns
 returns c =

@@ -1,8 +1,8 @@
 use Rattle.std.proofs.Common.{ap, sym, ◌∙◌}
 use Rattle.std.specs.Str.{bytes_eq}
-use Rattle.ap_dix.specs.Names.{has_name}
-use Rattle.ap_dix.proofs.Keys.{any_key}
-use Rattle.ap_dix.proofs.names.Names.has.Goals as goal
+use Rattle.ap_markup.specs.NameLists.{has_name}
+use Rattle.ap_markup.proofs.Keys.{any_key}
+use Rattle.ap_markup.proofs.name_list.Names.has.Goals as goal
 
 pub returns : goal.returns
 returns c =

@@ -1,5 +1,5 @@
 ghost use Rattle.std.specs.Prelude.{◌≡◌, [], OnOk};
-ghost use Rattle.ap_dix.specs.Names.{has_name, with_name, number_of};
+ghost use Rattle.ap_markup.specs.NameLists.{has_name, with_name, number_of};
 
 use ap_symbol::Memory;
 use indexmap::IndexSet;

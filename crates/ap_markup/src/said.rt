@@ -1,39 +1,16 @@
 ghost use Rattle.std.specs.Prelude.{◌≡◌};
 ghost use Rattle.std.specs.Option.{option_copied};
-ghost use Rattle.std.specs.Str.{bytes_eq};
 ghost use Rattle.ap_markup.specs.View.{parts_of, tag_of};
 ghost use Rattle.ap_markup.specs.Views.{pairs};
-ghost use Rattle.ap_dix.specs.Said.{attribute, name_of, is_named, child};
+ghost use Rattle.ap_markup.specs.Said.{value_of, name_of, is_named, child};
 
-use ap_markup::{Attribute, Node, Part};
-
-/// Whether the characters are these ASCII bytes.
-fn has_bytes(bytes: &[u8], text: &[char]) -> bool
-    ensures { result ≡ bytes_eq bytes.now text.now }
-{
-    let mut rest = bytes;
-    for c in text {
-        let Some((b, more)) = rest.split_first() else {
-            return false;
-        };
-        if *c as u32 != *b as u32 {
-            return false;
-        }
-        rest = more;
-    }
-    rest.is_empty()
-}
-
-/// Whether the characters are this ASCII text.
-pub fn is_text(text: &str, characters: &[char]) -> bool
-    ensures { result ≡ bytes_eq text.now characters.now }
-{
-    has_bytes(text.as_bytes(), characters)
-}
+use crate::attribute::Attribute;
+use crate::node::{Node, Part};
+use crate::texts::is_text;
 
 /// The value of the first attribute of this name.
-pub fn attribute<'a>(name: &str, given: &'a [Attribute]) -> Option<&'a [char]>
-    ensures { option_copied result ≡ attribute name.now (pairs given.now) }
+pub fn value_of<'a>(name: &str, given: &'a [Attribute]) -> Option<&'a [char]>
+    ensures { option_copied result ≡ value_of name.now (pairs given.now) }
 {
     for a in given {
         if is_text(name, a.name.as_slice()) {
@@ -47,7 +24,7 @@ pub fn attribute<'a>(name: &str, given: &'a [Attribute]) -> Option<&'a [char]>
 pub fn name_of(node: &Node) -> &[char]
     ensures { result.now ≡ name_of (pairs node.now.attributes) }
 {
-    match attribute("n", node.attributes.as_slice()) {
+    match value_of("n", node.attributes.as_slice()) {
         Some(name) => name,
         None => &[],
     }
