@@ -10,3 +10,4 @@ pub mod Sound
 pub mod Read
 pub mod NamesAbove
 pub mod OwnFaults
+pub mod DictionaryLaws

@@ -214,7 +214,7 @@ mistake_read root above declared defined tag kids s d f kind e (weighted h k) = 
 mistake_read root above declared defined tag kids s d f kind e (ignored is k) = inr (inr (inr (inr (inr (inl (or_left (is_named (codes "ig") tag) (is_named (codes "e") tag && has_unsupported tag.attributes) is, of_kind tag kind Unsupported f e k))))))
 mistake_read root above declared defined tag kids s d f kind e (extended is h k) = inr (inr (inr (inr (inr (inl (or_right (is_named (codes "ig") tag) (is_named (codes "e") tag && has_unsupported tag.attributes) (and_true (is_named (codes "e") tag) (has_unsupported tag.attributes) is (unsupported_is tag.attributes ∙ some_read unsupported_names tag.attributes h)), of_kind tag kind Unsupported f e k))))))
 
-tag_least : (root above : Parts) (declared defined : List (List ℕ)) (tag : Tag) (kids : Parts) → SameNames declared (codes "sdef") root → SameNames defined (codes "pardef") above → IsLeast order_of (IsAtTag root above tag kids) (option_map placed (marked tag (tag_kind declared defined tag kids)))
+pub tag_least : (root above : Parts) (declared defined : List (List ℕ)) (tag : Tag) (kids : Parts) → SameNames declared (codes "sdef") root → SameNames defined (codes "pardef") above → IsLeast order_of (IsAtTag root above tag kids) (option_map placed (marked tag (tag_kind declared defined tag kids)))
 tag_least root above declared defined tag kids s d =
     let ts = tests declared defined tag kids in
     let rises : Rises 7 ts = (omega arith, (omega arith, (omega arith, (omega arith, (omega arith, (omega arith, tt)))))) in
@@ -227,7 +227,7 @@ tag_least root above declared defined tag kids s d =
     (tests_least tag.place ts 7 rises))
 
 -- where the faults of parts stand
-fault_within : (text : List ℕ) (root : Parts) (parts above : Parts) (lo hi : ℕ) (f : Fault) → InOrder text lo parts hi → HasFault root above parts f → (lo ≤ f.0) × (f.0 < hi)
+pub fault_within : (text : List ℕ) (root : Parts) (parts above : Parts) (lo hi : ℕ) (f : Fault) → InOrder text lo parts hi → HasFault root above parts f → (lo ≤ f.0) × (f.0 < hi)
 fault_within text root Done above lo hi f o h = absurd h
 fault_within text root (Run run at more) above lo hi f o h = let r = fault_within text root more above at hi f o.1 h in (omega (arith, o.0, r.0), r.1)
 fault_within text root (Element tag kids more) above lo hi f o (inl x) =
@@ -244,7 +244,7 @@ fault_within text root (Element tag kids more) above lo hi f o (inr (inr x)) =
     let a = order_within text kids (tag.place + 1) o.0 o.3 in
     (omega (arith, r.0, a, o.1), r.1)
 
-or_placed : (a b : Option DixMark) → option_map placed (or_else a b) ≡ or_next (option_map placed a) (option_map placed b)
+pub or_placed : (a b : Option DixMark) → option_map placed (or_else a b) ≡ or_next (option_map placed a) (option_map placed b)
 or_placed None b = refl
 or_placed (Some m) b = refl
 

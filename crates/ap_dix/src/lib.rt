@@ -26,7 +26,8 @@ pub use dictionary::{
 pub use expr::{Expr, Exprs, Range, Ranges};
 pub use expression::Expression;
 pub use laws::{
-    expression_is_spelled, has_one_fault, spells_is_sound, spells_one, spells_one_expression,
+    expression_is_spelled, has_one_fault, reads_what_the_grammar_spells,
+    refuses_by_the_first_fault, spells_is_sound, spells_one, spells_one_expression,
     spells_without_fault,
 };
 pub use reading::read_dictionary;

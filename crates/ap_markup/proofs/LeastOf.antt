@@ -153,6 +153,6 @@ least_mapped order other to A None same h = λ g k. h k.0 k.1
 least_mapped order other to A (Some f) same h = (
   (f, h.0, refl),
   λ g k. subst (λ z. IsNoLater (other (to f)) (other z)) (sym k.2)
-  (subst (λ z. IsNoLater z (other (to k.0))) (sym (same f))
-  (subst (λ z. IsNoLater (order f) z) (sym (same k.0)) (h.1 k.0 k.1))),
+      (subst (λ z. IsNoLater z (other (to k.0))) (sym (same f))
+      (subst (λ z. IsNoLater (order f) z) (sym (same k.0)) (h.1 k.0 k.1))),
 )
