@@ -112,11 +112,11 @@ eqb_is x y h = grind (arith, nat_tests)
 is_eqb : (x y : ℕ) → x ≡ y → eqb x y ≡ true
 is_eqb x y h = grind (arith, nat_tests)
 
-has_in : (xs : List ℕ) (c : ℕ) → has_letter xs c ≡ true → IsIn c xs
+pub has_in : (xs : List ℕ) (c : ℕ) → has_letter xs c ≡ true → IsIn c xs
 has_in [] c h = cc
 has_in (x ∷ xs) c h = elim (or_cases (eqb x c) (has_letter xs c) h) [ inl e ↦ inl (sym (eqb_is x c e)) | inr k ↦ inr (has_in xs c k) ]
 
-in_has : (xs : List ℕ) (c : ℕ) → IsIn c xs → has_letter xs c ≡ true
+pub in_has : (xs : List ℕ) (c : ℕ) → IsIn c xs → has_letter xs c ≡ true
 in_has [] c h = elim h [ ]
 in_has (x ∷ xs) c (inl e) = or_left (eqb x c) (has_letter xs c) (is_eqb x c (sym e))
 in_has (x ∷ xs) c (inr h) = or_right (eqb x c) (has_letter xs c) (in_has xs c h)

@@ -10,3 +10,4 @@ pub mod Lettering
 pub mod Silences
 pub mod Bounding
 pub mod Sectioning
+pub mod Canons

@@ -27,7 +27,8 @@ section_strings d direction kind sections draft old new e h made same w =
       (λ s. (same w).1 ((made w).1 ((k.exact w).1 (any_string d direction kind (derived_labels w) s)))),
     )
 
--- the label strings stay the same through trimming and determinisation
-pub same_on : (old useful made new : Machine) → new ≡ made → ((w : List Label) → AcceptsLabels useful w ↔ AcceptsLabels old w) → ((w : List Label) → AcceptsLabels made w ↔ AcceptsLabels useful w) → (w : List Label) → AcceptsLabels new w ↔ AcceptsLabels old w
-same_on old useful made new e first second w =
-    subst (λ (z : Machine). AcceptsLabels z w ↔ AcceptsLabels old w) (sym e) (λ a. (first w).0 ((second w).0 a), λ a. (second w).1 ((first w).1 a))
+-- the label strings stay the same through trimming, determinisation and minimisation
+pub same_on : (old useful made small new : Machine) → new ≡ small → ((w : List Label) → AcceptsLabels useful w ↔ AcceptsLabels old w) → ((w : List Label) → AcceptsLabels made w ↔ AcceptsLabels useful w) → ((w : List Label) → AcceptsLabels small w ↔ AcceptsLabels made w)
+    → (w : List Label) → AcceptsLabels new w ↔ AcceptsLabels old w
+same_on old useful made small new e first second third w =
+    subst (λ (z : Machine). AcceptsLabels z w ↔ AcceptsLabels old w) (sym e) (λ a. (first w).0 ((second w).0 ((third w).0 a)), λ a. (third w).1 ((second w).1 ((first w).1 a)))

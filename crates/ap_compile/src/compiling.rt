@@ -1,6 +1,6 @@
 ghost use Rattle.std.specs.Prelude.{◌≡◌, ℕ, length, IfOk, Err};
 ghost use Rattle.ap_compile.specs.declared.compiling.CompileRefusal.TheVariants.{EmptySide};
-ghost use Rattle.ap_det.specs.Determinism.{IsDeterministic};
+ghost use Rattle.ap_min.specs.Canonical.{IsCanonical};
 ghost use Rattle.ap_dix.specs.Soundness.{IsSound};
 ghost use Rattle.ap_fst.specs.Sections.{IsSection};
 ghost use Rattle.ap_compile.specs.Compiling.{AcceptsStrings, IsCompiledFrom};
@@ -53,7 +53,7 @@ fn compiled_section(
     requires none { HasEmptyEntry dictionary.now direction (section_entries dictionary.now.sections) → ⊥ }
     ensures strings { IfOk result (λ fst. AcceptsStrings dictionary.now direction kind fst) }
     ensures section { IfOk result (λ fst. IsSection fst) }
-    ensures one { IfOk result (λ fst. IsDeterministic fst) }
+    ensures canonical { IfOk result (λ fst. IsCanonical fst) }
 {
     empty_cycle_law();
     let fst = section(alloc, direction, dictionary, drafts, kind)?;
@@ -86,12 +86,12 @@ fn compiled(
     Ok(Compiled::new(alphabet, standard, inconditional, postblank, preblank))
 }
 
-/// The dictionary as four transducers, one for each kind of section, in a direction. Each accepts
-/// exactly the label strings that the kept entries of its sections derive (the Apertium dictionary
-/// format), with at most one edge per state and label; from right to left the sides of each label
-/// change places. The alphabet is the
-/// dictionary's, closed under case partners, in ascending order. It is refused exactly where a kept
-/// entry of a section derives labels with an empty input side, but for want of memory.
+/// The dictionary as four transducers, one for each kind of section, in a direction. Each is the
+/// canonical one of exactly the label strings that the kept entries of its sections derive (the
+/// Apertium dictionary format), so that none with at most one edge per state and label has fewer
+/// states; from right to left the sides of each label change places. The alphabet is the dictionary's,
+/// closed under case partners, in ascending order. It is refused exactly where a kept entry of a
+/// section derives labels with an empty input side, but for want of memory.
 pub fn compile(
     alloc: Global,
     dictionary: &Dictionary,

@@ -7,8 +7,10 @@ mod drafts;
 mod empties;
 mod expressions;
 mod gathering;
+mod laws;
 mod sections;
 #[cfg(test)]
 mod tests;
 
 pub use compiling::{CompileRefusal, compile};
+pub use laws::{compiled_is_least, same_strings_same_compiled};

@@ -1,12 +1,11 @@
 ghost use Rattle.std.specs.Prelude.{◌≡◌, ◌↔◌, List, length, IsTrue, IfOk};
 ghost use Rattle.std.specs.List.{list_all};
-ghost use Rattle.ap_det.specs.Determinism.{IsDeterministic};
 ghost use Rattle.ap_dix.specs.Derivation.{Strings};
 ghost use Rattle.ap_dix.specs.Soundness.{is_sound_entry, IsSound};
 ghost use Rattle.ap_dix.specs.declared.dictionary.Dictionary.{Dictionary as Lexicon};
-ghost use Rattle.ap_fst.specs.Trimming.{IsTrimmed};
 ghost use Rattle.ap_fst.specs.Walks.{AcceptsLabels};
 ghost use Rattle.ap_fst.specs.declared.label.Label.{Label};
+ghost use Rattle.ap_min.specs.Canonical.{IsCanonical};
 ghost use Rattle.ap_compile.specs.Labels.{derived_labels, ArePlain};
 ghost use Rattle.ap_compile.specs.Drafts.{IsDraftOf, IsMoreBy, Any, SpellsIn, AreDrafts};
 
@@ -14,6 +13,7 @@ use crate::gathering::entries_draft;
 use ap_det::determinise;
 use ap_dix::{Dictionary, Direction, Kind, Section};
 use ap_fst::{Draft, Fst, trim, without_empty};
+use ap_min::minimise;
 use ap_symbol::Memory;
 use std::alloc::Global;
 
@@ -53,9 +53,8 @@ fn kind_draft(
     Ok(made)
 }
 
-/// The transducer of the sections of a kind: trimmed, with at most one edge per state and label, it
-/// accepts exactly the label strings that a kept entry of such a section derives in the direction. The
-/// drafts are those of the paradigms.
+/// The transducer of the sections of a kind: the canonical one of exactly the label strings that a kept
+/// entry of such a section derives in the direction. The drafts are those of the paradigms.
 pub fn section(
     alloc: Global,
     direction: Direction,
@@ -68,8 +67,7 @@ pub fn section(
     requires count { length drafts.now ≡ length dictionary.now.pardefs }
     ensures strings { IfOk result (λ fst. (w : List Label) → AcceptsLabels fst w ↔ Strings dictionary.now direction kind (derived_labels w)) }
     ensures plain { IfOk result (λ fst. (w : List Label) → AcceptsLabels fst w → ArePlain w) }
-    ensures trimmed { IfOk result (λ fst. IsTrimmed fst) }
-    ensures one { IfOk result (λ fst. IsDeterministic fst) }
+    ensures canonical { IfOk result (λ fst. IsCanonical fst) }
 {
     let draft = kind_draft(
         alloc,
@@ -81,5 +79,6 @@ pub fn section(
     let fst = without_empty(alloc, &draft)?;
     let useful = trim(alloc, &fst)?;
     let made = determinise(alloc, &useful)?;
-    Ok(made.into_fst())
+    let small = minimise(alloc, &made)?;
+    Ok(small.into_fst())
 }

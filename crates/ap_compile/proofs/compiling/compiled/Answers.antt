@@ -18,9 +18,15 @@ returns c = subst (λ (p : Parts). IsCompiledFrom c.args.dictionary.now c.args.d
     preblank_is = c.in_ok-preblank.ensures.section;
   };
   one = record {
-    standard_one = c.in_ok-standard.ensures.one;
-    inconditional_one = c.in_ok-inconditional.ensures.one;
-    postblank_one = c.in_ok-postblank.ensures.one;
-    preblank_one = c.in_ok-preblank.ensures.one;
+    standard_one = c.in_ok-standard.ensures.canonical.deterministic;
+    inconditional_one = c.in_ok-inconditional.ensures.canonical.deterministic;
+    postblank_one = c.in_ok-postblank.ensures.canonical.deterministic;
+    preblank_one = c.in_ok-preblank.ensures.canonical.deterministic;
+  };
+  canonical = record {
+    standard_canonical = c.in_ok-standard.ensures.canonical;
+    inconditional_canonical = c.in_ok-inconditional.ensures.canonical;
+    postblank_canonical = c.in_ok-postblank.ensures.canonical;
+    preblank_canonical = c.in_ok-preblank.ensures.canonical;
   };
 })
