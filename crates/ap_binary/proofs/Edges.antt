@@ -110,7 +110,7 @@ within_is states e w good =
     let p : (nat_lt e.from states ≡ true) × (nat_lt e.to states ≡ true) = and_parts (nat_lt e.from states) (nat_lt e.to states) w in
     record { from_in = grind (arith, nat_tests, p.0); to_in = grind (arith, nat_tests, p.1); sided = good.sided }
 
-more_edges : (n states : ℕ) (before : Option Edge) (e : Edge) (es : List Edge) → IsNextEdge states before e → AreEdges n states (Some e) es → AreEdges (suc n) states before (e ∷ es)
+pub more_edges : (n states : ℕ) (before : Option Edge) (e : Edge) (es : List Edge) → IsNextEdge states before e → AreEdges n states (Some e) es → AreEdges (suc n) states before (e ∷ es)
 more_edges n states before e es next are = record {
   counted = ap suc are.counted;
   ascend = (λ d i. lt_less (edge_cmp e d) (are.behind d i), are.ascend);
@@ -161,7 +161,7 @@ pub record AreFinals (count states least : ℕ) (fs : List ℕ) : Type 0 where
   pub behind : (s : ℕ) → IsIn s fs → least ≤ s
   pub within : (s : ℕ) → IsIn s fs → s < states
 
-more_finals : (n states least s : ℕ) (fs : List ℕ) → IsNextFinal states least s → AreFinals n states (s + 1) fs → AreFinals (suc n) states least (s ∷ fs)
+pub more_finals : (n states least s : ℕ) (fs : List ℕ) → IsNextFinal states least s → AreFinals n states (s + 1) fs → AreFinals (suc n) states least (s ∷ fs)
 more_finals n states least s fs next are = record {
   counted = ap suc are.counted;
   ascend = (λ d i. let lt : s + 1 ≤ d = are.behind d i in cmp_less s d (omega arith), are.ascend);

@@ -1,14 +1,15 @@
 -- What the lines of a file say makes transducers and an alphabet.
 use Rattle.std.proofs.Common.{◌≡◌, ℕ, ◌+◌, ◌<◌, Bool, true, false, List, refl, arith, Option, Some, None, Result, Ok, Err, IfOk}
-use Rattle.std.specs.Prelude.{◌==◌, if◌then◌else◌, codes}
+use Rattle.std.specs.Prelude.{◌==◌, if◌then◌else◌}
 use Rattle.std.proofs.lemmas.Bool.Decides.{nat_tests}
 use Rattle.ap_fst.specs.Sections.{IsAlphabet}
 use Rattle.ap_fst.specs.declared.compiled.Kind2.{Kind2}
+use Rattle.ap_fst.specs.declared.compiled.Way.{Way}
 use Rattle.ap_fst.specs.declared.compiled.Kind2.TheVariants.{Standard, Inconditional, Postblank, Preblank}
 use Rattle.ap_fst.specs.declared.label.Edge.{Edge}
 use Rattle.ap_binary.specs.Grammar.{IsRaw}
-use Rattle.ap_binary.specs.Pieces.{word_at, head_at, alphabet_at}
-use Rattle.ap_binary.specs.Lines.{◌>>=◌, fault, on_line, on_header, counts_of, head_line, edges_in, finals_in, section_in, line_after, sections_in, end_in, file_in}
+use Rattle.ap_binary.specs.Pieces.{head_at, alphabet_at}
+use Rattle.ap_binary.specs.Lines.{◌>>=◌, fault, on_line, header_in, alphabet_place, counts_of, head_line, edges_in, finals_in, section_in, line_after, sections_in, end_in, file_in}
 use Rattle.ap_binary.specs.declared.file.File.{File}
 use Rattle.ap_binary.specs.declared.heads.Counts.{Counts}
 use Rattle.ap_binary.specs.declared.heads.Head.{Head}
@@ -30,7 +31,7 @@ counts_some line (Some states) (Some edges) None = tt
 counts_some line (Some states) None c = tt
 counts_some line None b c = tt
 
-head_some : (kind : Kind2) (line : ℕ) (bytes : List ℕ) → IfOk (head_line kind line bytes) (λ x. 0 < x.0.states)
+pub head_some : (kind : Kind2) (line : ℕ) (bytes : List ℕ) → IfOk (head_line kind line bytes) (λ x. 0 < x.0.states)
 unfolding head_line
 head_some kind line bytes =
     let H : Type 0 = Head × List ℕ in
@@ -62,7 +63,7 @@ pub record AreRaw (s : Sections) : Type 0 where
   pub postblank : IsRaw s.postblank.fst
   pub preblank : IsRaw s.preblank.fst
 
-raw_at : (kind : Kind2) (line : ℕ) (bytes : List ℕ) (x : Written × List ℕ) → section_in kind line bytes ≡ Ok x → IsRaw x.0.fst
+pub raw_at : (kind : Kind2) (line : ℕ) (bytes : List ℕ) (x : Written × List ℕ) → section_in kind line bytes ≡ Ok x → IsRaw x.0.fst
 raw_at kind line bytes x is = ok_holds (section_in kind line bytes) x (λ y. IsRaw y.0.fst) (section_raw kind line bytes) is
 
 sections_raw : (line : ℕ) (bytes : List ℕ) → IfOk (sections_in line bytes) (λ x. AreRaw x.0)
@@ -84,13 +85,14 @@ pub record IsRawFile (f : File) : Type 0 where
 pub file_raw : (text : List ℕ) → IfOk (file_in text) IsRawFile
 unfolding file_in
 file_raw text =
+    let H : Type 0 = Way × List ℕ in
     let A2 : Type 0 = List ℕ × List ℕ in
     let S : Type 0 = Sections × List ℕ in
-    bind_ok {A = List ℕ} {B = File} (on_header (word_at (codes "LTC1\n") text)) (λ rest. ◌>>=◌ {A = A2} {B = File} (on_line 2 (alphabet_at rest)) (λ alphabet. ◌>>=◌ {A = S} {B = File} (sections_in 3 alphabet.1) (λ sections. ◌>>=◌ {A = List ℕ} {B = File} (end_in (line_after sections.0.preblank) sections.1) (λ none. Ok (record { alphabet = alphabet.0; sections = sections.0 }))))) IsRawFile
-    (λ rest is. bind_ok {A = A2} {B = File} (on_line 2 (alphabet_at rest)) (λ alphabet. ◌>>=◌ {A = S} {B = File} (sections_in 3 alphabet.1) (λ sections. ◌>>=◌ {A = List ℕ} {B = File} (end_in (line_after sections.0.preblank) sections.1) (λ none. Ok (record { alphabet = alphabet.0; sections = sections.0 })))) IsRawFile
-    (λ alphabet is2. bind_ok {A = S} {B = File} (sections_in 3 alphabet.1) (λ sections. ◌>>=◌ {A = List ℕ} {B = File} (end_in (line_after sections.0.preblank) sections.1) (λ none. Ok (record { alphabet = alphabet.0; sections = sections.0 }))) IsRawFile
-    (λ sections is3. bind_ok {A = List ℕ} {B = File} (end_in (line_after sections.0.preblank) sections.1) (λ none. Ok (record { alphabet = alphabet.0; sections = sections.0 })) IsRawFile
+    bind_ok {A = H} {B = File} (header_in text) (λ header. ◌>>=◌ {A = A2} {B = File} (on_line (alphabet_place header.0) (alphabet_at header.1)) (λ alphabet. ◌>>=◌ {A = S} {B = File} (sections_in (alphabet_place header.0 + 1) alphabet.1) (λ sections. ◌>>=◌ {A = List ℕ} {B = File} (end_in (line_after sections.0.preblank) sections.1) (λ none. Ok (record { way = header.0; alphabet = alphabet.0; sections = sections.0 }))))) IsRawFile
+    (λ header is. bind_ok {A = A2} {B = File} (on_line (alphabet_place header.0) (alphabet_at header.1)) (λ alphabet. ◌>>=◌ {A = S} {B = File} (sections_in (alphabet_place header.0 + 1) alphabet.1) (λ sections. ◌>>=◌ {A = List ℕ} {B = File} (end_in (line_after sections.0.preblank) sections.1) (λ none. Ok (record { way = header.0; alphabet = alphabet.0; sections = sections.0 })))) IsRawFile
+    (λ alphabet is2. bind_ok {A = S} {B = File} (sections_in (alphabet_place header.0 + 1) alphabet.1) (λ sections. ◌>>=◌ {A = List ℕ} {B = File} (end_in (line_after sections.0.preblank) sections.1) (λ none. Ok (record { way = header.0; alphabet = alphabet.0; sections = sections.0 }))) IsRawFile
+    (λ sections is3. bind_ok {A = List ℕ} {B = File} (end_in (line_after sections.0.preblank) sections.1) (λ none. Ok (record { way = header.0; alphabet = alphabet.0; sections = sections.0 })) IsRawFile
     (λ none is4. record {
-      alphabet = some_holds (alphabet_at rest) alphabet (λ x. IsAlphabet x.0) (alphabet_good rest) (on_line_some 2 (alphabet_at rest) alphabet is2);
-      sections = ok_holds (sections_in 3 alphabet.1) sections (λ x. AreRaw x.0) (sections_raw 3 alphabet.1) is3;
+      alphabet = some_holds (alphabet_at header.1) alphabet (λ x. IsAlphabet x.0) (alphabet_good header.1) (on_line_some (alphabet_place header.0) (alphabet_at header.1) alphabet is2);
+      sections = ok_holds (sections_in (alphabet_place header.0 + 1) alphabet.1) sections (λ x. AreRaw x.0) (sections_raw (alphabet_place header.0 + 1) alphabet.1) is3;
     }))))

@@ -20,7 +20,7 @@ use Rattle.ap_fst.specs.declared.label.Label.{Label}
 use Rattle.ap_binary.specs.Held.{is_held_side, is_held_label, is_held_edge}
 use Rattle.ap_binary.specs.Reading.{◌>>=◌}
 use Rattle.ap_binary.specs.Pieces.{byte_at, word_at, is_digit, value_after, is_numeral, limited, number_at, state_of, is_character, scalar_of, unless_white, character_of, character_at, letter_at, is_utf8, is_name_byte, tag_of, tag_at, side_at, label_of, label_at, number_then, edge_at, final_at, kind_at, head_at, begins_with, next_letter_at, with_letters, letters_in, alphabet_at}
-use Rattle.ap_binary.specs.Text.{side_text, then_space, then_end, edge_text, final_text, section_name, letter_text, alphabet_text}
+use Rattle.ap_binary.specs.Text.{side_text, then_space, then_end, edge_text, final_text, section_name, head_of, letter_text, alphabet_text}
 use Rattle.ap_binary.specs.declared.heads.Head.{Head}
 use Rattle.ap_binary.proofs.Bools.{or_cases, both_true, not_true, eqb_is}
 use Rattle.ap_binary.proofs.Numbers.{some_limited}
@@ -68,7 +68,7 @@ unfolding byte_at
 byte_inv b [] = tt
 byte_inv b (c ∷ rest) = chosen_if (c == b) rest (λ z. c ∷ rest ≡ b ∷ z) (λ e. ap (λ z. z ∷ rest) (eqb_is c b e))
 
-byte_is : (b : ℕ) (bytes rest : List ℕ) → byte_at b bytes ≡ Some rest → bytes ≡ b ∷ rest
+pub byte_is : (b : ℕ) (bytes rest : List ℕ) → byte_at b bytes ≡ Some rest → bytes ≡ b ∷ rest
 byte_is b bytes rest is = some_holds (byte_at b bytes) rest (λ z. bytes ≡ b ∷ z) (byte_inv b bytes) is
 
 word_inv : (w bytes : List ℕ) → IfSome (word_at w bytes) (λ rest. bytes ≡ w ++ rest)
@@ -153,7 +153,7 @@ side_is bytes v is = some_holds (side_at bytes) v (IsSideOf bytes) (side_inv byt
 
 -- ---- edges and final states
 
-abbrev IsLabelOf : List ℕ → Label × List ℕ → Type 0
+abbrev pub IsLabelOf : List ℕ → Label × List ℕ → Type 0
 IsLabelOf bytes v = (bytes ≡ then_space (side_text v.0.left) ++ (side_text v.0.right ++ v.1)) × (is_held_label v.0 ≡ true)
 
 label_whole : (bytes after : List ℕ) (left right : Option Symbol × List ℕ) (label : Label) → side_at bytes ≡ Some left → byte_at 32 left.1 ≡ Some after → side_at after ≡ Some right → label_of left.0 right.0 ≡ Some label → IsLabelOf bytes (label, right.1)
@@ -165,7 +165,7 @@ label_whole bytes after left right label is is2 is3 is4 =
     let whole : bytes ≡ then_space (side_text left.0) ++ (side_text right.0 ++ right.1) = l.0 ∙ ap (λ z. side_text left.0 ++ z) (byte_is 32 left.1 after is2 ∙ ap (λ z. 32 ∷ z) r.0) ∙ sym (spaced (side_text left.0) (side_text right.0 ++ right.1)) in
     subst (λ (z : Label). IsLabelOf bytes (z, right.1)) s.1 (whole, both_true (is_held_side left.0) (is_held_side right.0) l.1 r.1)
 
-label_inv : (bytes : List ℕ) → IfSome (label_at bytes) (IsLabelOf bytes)
+pub label_inv : (bytes : List ℕ) → IfSome (label_at bytes) (IsLabelOf bytes)
 unfolding label_at
 label_inv bytes =
     let S : Type 0 = Option Symbol × List ℕ in
@@ -219,7 +219,7 @@ final_inv bytes = bind_some {A = Option ℕ × List ℕ} {B = ℕ × List ℕ} (
 
 -- ---- the first line of a section
 
-kind_inv : (kind : Kind2) (bytes : List ℕ) → IfSome (kind_at kind bytes) (λ rest. bytes ≡ (codes "section " ++ then_space (section_name kind)) ++ rest)
+pub kind_inv : (kind : Kind2) (bytes : List ℕ) → IfSome (kind_at kind bytes) (λ rest. bytes ≡ (codes "section " ++ then_space (section_name kind)) ++ rest)
 unfolding kind_at
 kind_inv kind bytes =
     let P : List ℕ → Type 0 = λ rest. bytes ≡ (codes "section " ++ then_space (section_name kind)) ++ rest in
@@ -228,10 +228,6 @@ kind_inv kind bytes =
     (λ name is2. map_some (byte_at 32 name) (λ rest. name ≡ 32 ∷ rest) P
     (λ rest q. word_is (codes "section ") bytes word is ∙ ap (λ z. codes "section " ++ z) (word_is (section_name kind) word name is2 ∙ ap (λ z. section_name kind ++ z) q ∙ sym (spaced (section_name kind) rest)) ∙ sym (append_assoc (codes "section ") (then_space (section_name kind)) rest))
     (byte_inv 32 name)))
-
--- the first line of a section of so many states, edges and final states
-abbrev pub head_of : Kind2 → ℕ → ℕ → ℕ → List ℕ
-head_of kind s e f = (codes "section " ++ then_space (section_name kind)) ++ (then_space (decimal s) ++ (then_space (decimal e) ++ then_end (decimal f)))
 
 pub record IsHeadOf (kind : Kind2) (bytes : List ℕ) (v : Head × List ℕ) (s e f : ℕ) : Type 0 where
   pub whole : bytes ≡ head_of kind s e f ++ v.1

@@ -1,7 +1,8 @@
 -- What labels are read: plain ones, with a symbol on one side at least.
-use Rattle.std.proofs.Common.{◌≡◌, ℕ, true, not, ◌&&◌, List, [], ◌∷◌, take, drop, refl, sym, ap, subst, IfSome, Option, Some, None}
+use Rattle.std.proofs.Common.{◌≡◌, ℕ, true, not, ◌&&◌, List, [], ◌∷◌, take, drop, refl, sym, ◌∙◌, ap, subst, IfSome, Option, Some, None}
 use Rattle.std.specs.Prelude.{IsTrue, ◌==◌, if◌then◌else◌}
 use Rattle.std.specs.List.{prefix_len}
+use Rattle.std.proofs.lemmas.Bool.{and_parts}
 use Rattle.ap_symbol.specs.TagNames.{is_tag_name}
 use Rattle.ap_symbol.specs.declared.symbol.Symbol.{Symbol}
 use Rattle.ap_symbol.specs.declared.symbol.Symbol.TheVariants.{Letter, Tag, Blank, Join, Queue, Alarm}
@@ -26,7 +27,7 @@ letter_plain bytes = bind_some {A = ℕ × List ℕ} {B = Option Symbol × List 
 tag_plain : (name : List ℕ) (tag : Symbol) → tag_of name ≡ Some tag → is_plain_side (Some tag) ≡ true
 tag_plain name tag h =
     let s : ((is_utf8 name && is_tag_name name) ≡ true) × (Tag name ≡ tag) = some_if (is_utf8 name && is_tag_name name) (Tag name) tag h in
-    ap (λ (t : Symbol). is_plain_side (Some t)) (sym s.1)
+    ap (λ (t : Symbol). is_plain_side (Some t)) (sym s.1) ∙ (and_parts (is_utf8 name) (is_tag_name name) s.0).1
 
 tag_at_plain : (bytes : List ℕ) → IfSome (tag_at bytes) IsPlainRead
 unfolding tag_at
@@ -56,7 +57,7 @@ good_label left right label p q h =
     let s : (has_side made ≡ true) × (made ≡ label) = some_if (has_side made) made label h in
     subst IsGoodLabel s.1 (record { sided = s.0; plain = both_true (is_plain_side left) (is_plain_side right) p q })
 
-label_good : (bytes : List ℕ) → IfSome (label_at bytes) (λ x. IsGoodLabel x.0)
+pub label_good : (bytes : List ℕ) → IfSome (label_at bytes) (λ x. IsGoodLabel x.0)
 unfolding label_at
 label_good bytes =
     let P : Label × List ℕ → Type 0 = λ x. IsGoodLabel x.0 in

@@ -18,3 +18,11 @@ pub mod Itself
 pub mod RoundTrip
 pub mod Inverse
 pub mod Inverses
+pub mod AnyNumbers
+pub mod AnyLines
+pub mod Erring
+pub mod EdgeFaults
+pub mod FinalFaults
+pub mod SectionFaults
+pub mod FileFaults
+pub mod FaultKinds

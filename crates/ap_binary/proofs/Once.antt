@@ -59,11 +59,12 @@ pub one_spelled : (text : List ℕ) (c d : Parts) → Spells text c → Spells t
 one_spelled text c d s t =
     let f : s.file ≡ t.file = one_file text s.file t.file s.lines t.lines in
     let l : c.alphabet ≡ d.alphabet = s.alphabet ∙ ap (λ (z : File). z.alphabet) f ∙ sym t.alphabet in
+    let w : c.way ≡ d.way = s.way ∙ ap (λ (z : File). z.way) f ∙ sym t.way in
     let p : c.standard ≡ d.standard = one_section s.file.sections.standard t.file.sections.standard c.standard d.standard (ap (λ (z : File). z.sections.standard) f) s.sections.standard t.sections.standard in
     let q : c.inconditional ≡ d.inconditional = one_section s.file.sections.inconditional t.file.sections.inconditional c.inconditional d.inconditional (ap (λ (z : File). z.sections.inconditional) f) s.sections.inconditional t.sections.inconditional in
     let r : c.postblank ≡ d.postblank = one_section s.file.sections.postblank t.file.sections.postblank c.postblank d.postblank (ap (λ (z : File). z.sections.postblank) f) s.sections.postblank t.sections.postblank in
     let u : c.preblank ≡ d.preblank = one_section s.file.sections.preblank t.file.sections.preblank c.preblank d.preblank (ap (λ (z : File). z.sections.preblank) f) s.sections.preblank t.sections.preblank in
-    λ i. record { alphabet = l i; standard = p i; inconditional = q i; postblank = r i; preblank = u i }
+    λ i. record { alphabet = l i; way = w i; standard = p i; inconditional = q i; postblank = r i; preblank = u i }
 
 same_place : (w : Written) (j k : ℕ) → IsFirstOnEmptyCycle w.fst.edges j → IsFirstOnEmptyCycle w.fst.edges k → j ≡ k
 same_place w j k a b = elim (cases_lt j k) [

@@ -8,7 +8,6 @@ use Rattle.ap_symbol.specs.TagNames.{is_tag_name, is_reserved_lem}
 use Rattle.ap_symbol.specs.Words.{is_white}
 use Rattle.ap_symbol.specs.declared.symbol.Symbol.{Symbol}
 use Rattle.ap_symbol.specs.declared.symbol.Symbol.TheVariants.{Letter, Tag, Blank, Join, Queue, Alarm, Star, At}
-use Rattle.ap_fst.specs.Machines.{Machine}
 use Rattle.ap_fst.specs.Sections.{is_plain_side, is_plain_label}
 use Rattle.ap_fst.specs.Sides.{has_side}
 use Rattle.ap_fst.specs.declared.compiled.Kind2.{Kind2}
@@ -16,7 +15,7 @@ use Rattle.ap_fst.specs.declared.label.Edge.{Edge}
 use Rattle.ap_fst.specs.declared.label.Label.{Label}
 use Rattle.ap_binary.specs.Held.{is_held_side, is_held_label, is_held_edge}
 use Rattle.ap_binary.specs.Pieces.{word_at, letter_at, is_character, is_utf8, is_name_byte, tag_of, tag_at, side_at, label_of, label_at, number_then, edge_at, final_at, kind_at, head_at}
-use Rattle.ap_binary.specs.Text.{side_text, then_space, then_end, edge_text, final_text, section_name, head_text}
+use Rattle.ap_binary.specs.Text.{side_text, then_space, then_end, edge_text, final_text, section_name, head_of}
 use Rattle.ap_binary.proofs.Bools.{not_true}
 use Rattle.ap_binary.proofs.Numerals.{then_back, byte_back, word_back, character_back, prefix_all}
 
@@ -79,7 +78,7 @@ label_parts : (bytes after rest : List ℕ) (l : Label) → side_at bytes ≡ So
 unfolding label_at
 label_parts bytes after rest l p q h = let made : label_of l.left l.right ≡ Some l = rw h refl in rw (p, byte_back 32 after, q, made) refl
 
-label_back : (l : Label) (rest : List ℕ) → is_held_label l ≡ true → is_plain_label l ≡ true → has_side l ≡ true → label_at (then_space (side_text l.left) ++ (then_space (side_text l.right) ++ rest)) ≡ Some (l, 32 ∷ rest)
+pub label_back : (l : Label) (rest : List ℕ) → is_held_label l ≡ true → is_plain_label l ≡ true → has_side l ≡ true → label_at (then_space (side_text l.left) ++ (then_space (side_text l.right) ++ rest)) ≡ Some (l, 32 ∷ rest)
 label_back l rest held plain sided =
     let h : (is_held_side l.left ≡ true) × (is_held_side l.right ≡ true) = and_parts (is_held_side l.left) (is_held_side l.right) held in
     let p : (is_plain_side l.left ≡ true) × (is_plain_side l.right ≡ true) = and_parts (is_plain_side l.left) (is_plain_side l.right) plain in
@@ -117,26 +116,25 @@ final_back s rest small = rw (last_back s rest small) refl
 
 -- ---- the first line of a section
 
-kind_back : (kind : Kind2) (rest : List ℕ) → kind_at kind ((codes "section " ++ then_space (section_name kind)) ++ rest) ≡ Some rest
+pub kind_back : (kind : Kind2) (rest : List ℕ) → kind_at kind ((codes "section " ++ then_space (section_name kind)) ++ rest) ≡ Some rest
 unfolding kind_at
 kind_back kind rest =
     let e : (codes "section " ++ then_space (section_name kind)) ++ rest ≡ codes "section " ++ (section_name kind ++ 32 ∷ rest) = append_assoc (codes "section ") (then_space (section_name kind)) rest ∙ ap (λ z. codes "section " ++ z) (spaced (section_name kind) rest) in
     let first : word_at (codes "section ") ((codes "section " ++ then_space (section_name kind)) ++ rest) ≡ Some (section_name kind ++ 32 ∷ rest) = ap (word_at (codes "section ")) e ∙ word_back (codes "section ") (section_name kind ++ 32 ∷ rest) in
     rw (first, word_back (section_name kind) (32 ∷ rest)) (byte_back 32 rest)
 
-head_parts : (kind : Kind2) (bytes a b c rest : List ℕ) (states edges finals : ℕ) → kind_at kind bytes ≡ Some a → number_then 32 a ≡ Some (Some states, b) → number_then 32 b ≡ Some (Some edges, c) → number_then 10 c ≡ Some (Some finals, rest)
+pub head_parts : (kind : Kind2) (bytes a b c rest : List ℕ) (states edges finals : ℕ) → kind_at kind bytes ≡ Some a → number_then 32 a ≡ Some (Some states, b) → number_then 32 b ≡ Some (Some edges, c) → number_then 10 c ≡ Some (Some finals, rest)
     → head_at kind bytes ≡ Some (record { states = Some states; edges = Some edges; finals = Some finals }, rest)
 unfolding head_at
 head_parts kind bytes a b c rest states edges finals p q r s = rw (p, q, r, s) refl
 
-pub head_back : (kind : Kind2) (m : Machine) (rest : List ℕ) → m.states < 2 ^ 64 → length m.edges < 2 ^ 64 → length m.finals < 2 ^ 64
-    → head_at kind (head_text kind m ++ rest) ≡ Some (record { states = Some m.states; edges = Some (length m.edges); finals = Some (length m.finals) }, rest)
-head_back kind m rest states edges finals =
+pub head_back : (kind : Kind2) (states edges finals : ℕ) (rest : List ℕ) → states < 2 ^ 64 → edges < 2 ^ 64 → finals < 2 ^ 64 → head_at kind (head_of kind states edges finals ++ rest) ≡ Some (record { states = Some states; edges = Some edges; finals = Some finals }, rest)
+head_back kind states edges finals rest few fewer fewest =
     let k : List ℕ = codes "section " ++ then_space (section_name kind) in
-    let a : List ℕ = then_space (decimal m.states) in
-    let b : List ℕ = then_space (decimal (length m.edges)) in
-    let c : List ℕ = then_end (decimal (length m.finals)) in
+    let a : List ℕ = then_space (decimal states) in
+    let b : List ℕ = then_space (decimal edges) in
+    let c : List ℕ = then_end (decimal finals) in
     let e : (k ++ (a ++ (b ++ c))) ++ rest ≡ k ++ (a ++ (b ++ (c ++ rest))) = append_assoc k (a ++ (b ++ c)) rest ∙ ap (λ z. k ++ z) (append_assoc a (b ++ c) rest ∙ ap (λ z. a ++ z) (append_assoc b c rest)) in
     ap (head_at kind) e
-    ∙ head_parts kind (k ++ (a ++ (b ++ (c ++ rest)))) (a ++ (b ++ (c ++ rest))) (b ++ (c ++ rest)) (c ++ rest) rest m.states (length m.edges) (length m.finals)
-    (kind_back kind (a ++ (b ++ (c ++ rest)))) (field_back m.states (b ++ (c ++ rest)) states) (field_back (length m.edges) (c ++ rest) edges) (last_back (length m.finals) rest finals)
+    ∙ head_parts kind (k ++ (a ++ (b ++ (c ++ rest)))) (a ++ (b ++ (c ++ rest))) (b ++ (c ++ rest)) (c ++ rest) rest states edges finals
+    (kind_back kind (a ++ (b ++ (c ++ rest)))) (field_back states (b ++ (c ++ rest)) few) (field_back edges (c ++ rest) fewer) (last_back finals rest fewest)

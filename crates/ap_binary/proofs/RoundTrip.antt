@@ -7,7 +7,8 @@ use Rattle.ap_binary.specs.Held.{IsHeld}
 use Rattle.ap_binary.specs.Spelling.{IsSpelled, Spells}
 use Rattle.ap_binary.specs.Text.{compiled_text}
 use Rattle.ap_binary.proofs.Itself.{trim_of_itself}
-use Rattle.ap_binary.proofs.Reread.{written_at, placed_file, file_back}
+use Rattle.ap_binary.specs.Faults.{written_at}
+use Rattle.ap_binary.proofs.Reread.{placed_file, file_back}
 
 section_raw : (m : Machine) → IsSection m → IsRaw m
 section_raw m s = record { sound = s.sound; plain = s.plain }
@@ -21,6 +22,7 @@ reads_back c is held =
     record {
       file = placed_file c;
       lines = file_back c raw held;
+      way = refl;
       alphabet = refl;
       sections = record { standard = section_spelled _ c.standard is.standard_is; inconditional = section_spelled _ c.inconditional is.inconditional_is; postblank = section_spelled _ c.postblank is.postblank_is; preblank = section_spelled _ c.preblank is.preblank_is };
     }

@@ -56,8 +56,8 @@ spelled_is_compiled text c s =
       preblank_is = spelled_section s.file.sections.preblank c.preblank raw.sections.preblank s.sections.preblank;
     }
 
-pub spells_by : (text : List ℕ) (f : File) (t : Trimmed) → file_in text ≡ Ok f → AreSpelled f.sections t → Spells text (record { alphabet = f.alphabet; standard = t.standard; inconditional = t.inconditional; postblank = t.postblank; preblank = t.preblank })
-spells_by text f t is spelled = record { file = f; lines = is; alphabet = refl; sections = spelled }
+pub spells_by : (text : List ℕ) (f : File) (t : Trimmed) → file_in text ≡ Ok f → AreSpelled f.sections t → Spells text (record { alphabet = f.alphabet; way = f.way; standard = t.standard; inconditional = t.inconditional; postblank = t.postblank; preblank = t.preblank })
+spells_by text f t is spelled = record { file = f; lines = is; way = refl; alphabet = refl; sections = spelled }
 
 pub section_refused : (text : List ℕ) (file : File) (e : BinaryRefusal) → file_in text ≡ Ok file → IfFault e (λ f. IsFirstIn (in_order file.sections) f) → IfFault e (λ f. IsFirstFault text f)
 section_refused text file (Fault f) is h = in_sections file is h

@@ -28,12 +28,13 @@ pub record IsLeftOf (raw m : Machine) : Type 0 where
   pub sides : HasEmptySide raw → ⊥
   pub trimmed : IsTrimOf raw m
 
--- The text is that of an alphabet and of four sections, of which trimming leaves this compiled dictionary.
+-- The text is that of a direction or none, an alphabet and four sections, of which trimming leaves this compiled dictionary.
 pub record IsTextOf (text : List ℕ) (c : Parts) : Type 0 where
   pub raw : Parts
   pub text_is : text ≡ compiled_text raw
   pub are : AreRawParts raw
   pub held : IsHeld raw
+  pub way : c.way ≡ raw.way
   pub alphabet : c.alphabet ≡ raw.alphabet
   pub standard : IsLeftOf raw.standard c.standard
   pub inconditional : IsLeftOf raw.inconditional c.inconditional

@@ -6,3 +6,4 @@ pub mod Lines
 pub mod Spelling
 pub mod Held
 pub mod Grammar
+pub mod Faults

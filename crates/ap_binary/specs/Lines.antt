@@ -1,12 +1,14 @@
 -- What the lines of a compiled file say, or the first fault among them. Faults of the lines come in the order of the
 -- lines, and on one line BadLine comes before OutOfRange.
-use Rattle.std.specs.Prelude.{◌≡◌, ℕ, zero, suc, ◌+◌, Bool, true, not, ◌&&◌, nat_lt, nat_le, ◌==◌, List, [], ◌∷◌, ◌++◌, length, Option, Some, None, Result, Ok, Err, if◌then◌else◌, codes}
+use Rattle.std.specs.Prelude.{◌≡◌, ℕ, zero, suc, ◌+◌, Bool, true, false, not, ◌&&◌, nat_lt, nat_le, ◌==◌, List, [], ◌∷◌, ◌++◌, length, Option, Some, None, Result, Ok, Err, if◌then◌else◌, codes}
 use Rattle.std.specs.Ordering.{is_lt}
 use Rattle.ap_fst.specs.Order.{edge_cmp}
 use Rattle.ap_fst.specs.declared.compiled.Kind2.{Kind2}
 use Rattle.ap_fst.specs.declared.compiled.Kind2.TheVariants.{Standard, Inconditional, Postblank, Preblank}
+use Rattle.ap_fst.specs.declared.compiled.Way.{Way}
+use Rattle.ap_fst.specs.declared.compiled.Way.TheVariants.{Lr, Rl, Untold}
 use Rattle.ap_fst.specs.declared.label.Edge.{Edge}
-use Rattle.ap_binary.specs.Pieces.{word_at, edge_at, final_at, head_at, alphabet_at}
+use Rattle.ap_binary.specs.Pieces.{word_at, version_at, way_at, edge_at, final_at, head_at, alphabet_at}
 use Rattle.ap_binary.specs.declared.file.File.{File}
 use Rattle.ap_binary.specs.declared.heads.Counts.{Counts}
 use Rattle.ap_binary.specs.declared.refusal.BinaryFault.{BinaryFault}
@@ -125,9 +127,24 @@ sections_in line bytes = do
 
 -- ---- the file
 
-abbrev pub on_header : Option (List ℕ) → Result (List ℕ) BinaryFault
+abbrev pub on_header : {A : Type 0} → Option A → Result A BinaryFault
 on_header None = Err (fault BadHeader 1)
-on_header (Some rest) = Ok rest
+on_header (Some x) = Ok x
+
+-- the line of the direction, where the first line is `LTC2`
+abbrev pub way_in : Bool → List ℕ → Result (Way × List ℕ) BinaryFault
+way_in false rest = Ok (Untold, rest)
+way_in true rest = on_line 2 (way_at rest)
+
+-- the lines before the alphabet
+unfoldable pub header_in : List ℕ → Result (Way × List ℕ) BinaryFault
+header_in text = on_header (version_at text) >>= λ first. way_in first.0 first.1
+
+-- the line on which the alphabet stands
+abbrev pub alphabet_place : Way → ℕ
+alphabet_place Untold = 2
+alphabet_place Lr = 3
+alphabet_place Rl = 3
 
 -- nothing stands on this line
 abbrev pub over : ℕ → List ℕ → Result (List ℕ) BinaryFault
@@ -138,11 +155,11 @@ over line (b ∷ bytes) = Err (fault BadLine line)
 unfoldable pub end_in : ℕ → List ℕ → Result (List ℕ) BinaryFault
 end_in line bytes = on_line line (word_at (codes "end\n") bytes) >>= over (line + 1)
 
--- The lines of a file: `LTC1`, the alphabet, the sections, and `end`.
+-- The lines of a file: `LTC1`, or `LTC2` and the direction; the alphabet, the sections, and `end`.
 unfoldable pub file_in : List ℕ → Result File BinaryFault
 file_in text = do
-  rest ← on_header (word_at (codes "LTC1\n") text)
-  alphabet ← on_line 2 (alphabet_at rest)
-  sections ← sections_in 3 alphabet.1
+  header ← header_in text
+  alphabet ← on_line (alphabet_place header.0) (alphabet_at header.1)
+  sections ← sections_in (alphabet_place header.0 + 1) alphabet.1
   none ← end_in (line_after sections.0.preblank) sections.1
-  Ok (record { alphabet = alphabet.0; sections = sections.0 })
+  Ok (record { way = header.0; alphabet = alphabet.0; sections = sections.0 })

@@ -1,5 +1,5 @@
 -- What stands on the lines of a compiled file, each read from the front: its value, and the bytes behind it.
-use Rattle.std.specs.Prelude.{ℕ, zero, suc, ◌+◌, ◌-◌, ◌*◌, ◌^◌, Bool, false, not, ◌&&◌, ◌||◌, nat_lt, nat_le, ◌==◌, List, [], ◌∷◌, ◌++◌, length, take, drop, slice_index, Option, Some, None, if◌then◌else◌, codes}
+use Rattle.std.specs.Prelude.{ℕ, zero, suc, ◌+◌, ◌-◌, ◌*◌, ◌^◌, Bool, true, false, not, ◌&&◌, ◌||◌, nat_lt, nat_le, ◌==◌, List, [], ◌∷◌, ◌++◌, length, take, drop, slice_index, Option, Some, None, if◌then◌else◌, codes}
 use Rattle.std.specs.List.{prefix_len}
 use Rattle.std.specs.Str.{bytes_eq}
 use Rattle.std.specs.Str.Lossy.{utf8_valid_len}
@@ -10,6 +10,8 @@ use Rattle.ap_symbol.specs.declared.symbol.Symbol.{Symbol}
 use Rattle.ap_symbol.specs.declared.symbol.Symbol.TheVariants.{Letter, Tag, Blank, Join, Queue, Alarm}
 use Rattle.ap_fst.specs.Sides.{has_side}
 use Rattle.ap_fst.specs.declared.compiled.Kind2.{Kind2}
+use Rattle.ap_fst.specs.declared.compiled.Way.{Way}
+use Rattle.ap_fst.specs.declared.compiled.Way.TheVariants.{Lr, Rl}
 use Rattle.ap_fst.specs.declared.label.Edge.{Edge}
 use Rattle.ap_fst.specs.declared.label.Label.{Label}
 use Rattle.ap_binary.specs.Reading.{◌>>=◌}
@@ -24,6 +26,20 @@ byte_at b (c ∷ rest) = if c == b then Some rest else None
 -- these bytes
 unfoldable pub word_at : List ℕ → List ℕ → Option (List ℕ)
 word_at word bytes = if bytes_eq (take (length word) bytes) word then Some (drop (length word) bytes) else None
+
+-- the first of two words that stands there, by what it says
+abbrev pub either_at : {A : Type 0} → A → A → Option (List ℕ) → Option (List ℕ) → Option (A × List ℕ)
+either_at a b (Some rest) second = Some (a, rest)
+either_at a b None (Some rest) = Some (b, rest)
+either_at a b None None = None
+
+-- the first line: whether it is `LTC2`, behind which the direction is told, or `LTC1`
+unfoldable pub version_at : List ℕ → Option (Bool × List ℕ)
+version_at text = either_at false true (word_at (codes "LTC1\n") text) (word_at (codes "LTC2\n") text)
+
+-- the line of the direction
+unfoldable pub way_at : List ℕ → Option (Way × List ℕ)
+way_at bytes = either_at Lr Rl (word_at (codes "way lr\n") bytes) (word_at (codes "way rl\n") bytes)
 
 abbrev pub is_digit : ℕ → Bool
 is_digit b = nat_le 48 b && nat_le b 57

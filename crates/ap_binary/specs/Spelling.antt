@@ -50,11 +50,12 @@ pub record AreSpelled (s : Sections) (t : Trimmed) : Type 0 where
   pub postblank : IsSpelled s.postblank t.postblank
   pub preblank : IsSpelled s.preblank t.preblank
 
--- The text spells this compiled dictionary: its lines say an alphabet and sections, each section is fine, and each is
+-- The text spells this compiled dictionary: its lines say a direction or none, an alphabet and sections, each section is fine, and each is
 -- held trimmed.
 pub record Spells (text : List ℕ) (c : Parts) : Type 0 where
   pub file : File
   pub lines : file_in text ≡ Ok file
+  pub way : c.way ≡ file.way
   pub alphabet : c.alphabet ≡ file.alphabet
   pub sections : AreSpelled file.sections (record { standard = c.standard; inconditional = c.inconditional; postblank = c.postblank; preblank = c.preblank })
 

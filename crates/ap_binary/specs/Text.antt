@@ -9,6 +9,8 @@ use Rattle.ap_fst.specs.Sections.{Parts}
 use Rattle.ap_fst.specs.declared.label.Edge.{Edge}
 use Rattle.ap_fst.specs.declared.compiled.Kind2.{Kind2}
 use Rattle.ap_fst.specs.declared.compiled.Kind2.TheVariants.{Standard, Inconditional, Postblank, Preblank}
+use Rattle.ap_fst.specs.declared.compiled.Way.{Way}
+use Rattle.ap_fst.specs.declared.compiled.Way.TheVariants.{Lr, Rl, Untold}
 
 -- A side: `-` for none, `L` and the code point of a letter, `T` and the name of a tag, and a letter for each mark. No
 -- side of a compiled dictionary holds Star or At.
@@ -45,8 +47,11 @@ section_name Postblank = codes "postblank"
 section_name Preblank = codes "preblank"
 
 -- the first line of a section: its kind, and how many states, edges and final states it has
+abbrev pub head_of : Kind2 → ℕ → ℕ → ℕ → List ℕ
+head_of kind states edges finals = (codes "section " ++ then_space (section_name kind)) ++ (then_space (decimal states) ++ (then_space (decimal edges) ++ then_end (decimal finals)))
+
 abbrev pub head_text : Kind2 → Machine → List ℕ
-head_text kind m = (codes "section " ++ then_space (section_name kind)) ++ (then_space (decimal m.states) ++ (then_space (decimal (length m.edges)) ++ then_end (decimal (length m.finals))))
+head_text kind m = head_of kind m.states (length m.edges) (length m.finals)
 
 -- a section: its first line, a line for each edge, and a line for each final state
 abbrev pub section_text : Kind2 → Machine → List ℕ
@@ -64,5 +69,11 @@ alphabet_text letters = codes "alphabet" ++ then_end (flat_map letter_text lette
 abbrev pub sections_text : Parts → List ℕ
 sections_text p = section_text Standard p.standard ++ (section_text Inconditional p.inconditional ++ (section_text Postblank p.postblank ++ section_text Preblank p.preblank))
 
+-- The first lines: `LTC1` where no direction is told; else `LTC2` and the line of the direction.
+abbrev pub header_text : Way → List ℕ
+header_text Untold = codes "LTC1\n"
+header_text Lr = codes "LTC2\n" ++ codes "way lr\n"
+header_text Rl = codes "LTC2\n" ++ codes "way rl\n"
+
 unfoldable pub compiled_text : Parts → List ℕ
-compiled_text p = (codes "LTC1\n" ++ alphabet_text p.alphabet) ++ (sections_text p ++ codes "end\n")
+compiled_text p = (header_text p.way ++ alphabet_text p.alphabet) ++ (sections_text p ++ codes "end\n")

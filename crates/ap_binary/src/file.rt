@@ -1,46 +1,90 @@
 ghost use Rattle.std.specs.Prelude.{◌≡◌, ◌+◌, ◌^◌, ◌<◌, ◌≤◌, length, IfOk, codes};
 ghost use Rattle.ap_binary.specs.declared.refusal.BinaryKind.TheVariants.{BadHeader};
-ghost use Rattle.ap_binary.specs.Lines.{Tells, fault, on_line, on_header, over, end_in, file_in, line_after};
-ghost use Rattle.ap_binary.specs.Pieces.{word_at, alphabet_at};
+ghost use Rattle.ap_binary.specs.Lines.{Tells, fault, on_line, on_header, way_in, header_in, alphabet_place, over, end_in, file_in, line_after};
+ghost use Rattle.ap_binary.specs.Pieces.{word_at, version_at, way_at, alphabet_at};
 ghost use Rattle.ap_binary.specs.Spelling.{AreWithin};
 
 use crate::alphabet::alphabet;
 use crate::lines::bad_line;
-use crate::pieces::after_word;
+use crate::pieces::{after_word, behind_word};
 use crate::refusal::{BinaryFault, BinaryKind, BinaryRefusal, CutError};
 use crate::sections::{Sections, line_after, read_sections};
+use ap_fst::Way;
 use ap_symbol::Letters;
 use std::alloc::Global;
 
 /// What the lines of a file say.
 #[derive(Debug, Drop)]
 pub(crate) struct File {
+    pub way: Way,
     pub alphabet: Letters,
     pub sections: Sections,
 }
 
-fn after_header(text: &[u8]) -> Result<&[u8], BinaryRefusal>
-    ensures gives { Tells (λ x. x.now) result (on_header (word_at (codes "LTC1\n") text.now)) }
-    ensures shorter { IfOk result (λ x. length x.now + 5 ≡ length text.now) }
+/// The first line: whether it is `LTC2`, behind which the direction is told, or `LTC1`.
+#[tactic(auto, unfolding(crate::specs::Pieces::version_at))]
+fn version(text: &[u8]) -> Result<(bool, &[u8]), BinaryRefusal>
+    ensures gives { Tells (λ x. (x.0, x.1.now)) result (on_header (version_at text.now)) }
+    ensures shorter { IfOk result (λ x. length x.1.now + 5 ≤ length text.now) }
 {
-    match after_word(b"LTC1\n", text) {
-        Ok(rest) => Ok(rest),
-        Err(CutError::Bad) => Err(BinaryRefusal::Fault(BinaryFault {
-            kind: BinaryKind::BadHeader,
-            line: 1,
-        })),
-        Err(CutError::Memory) => Err(BinaryRefusal::Memory),
+    if let Some(rest) = behind_word(b"LTC1\n", text) {
+        return Ok((false, rest));
+    }
+    if let Some(rest) = behind_word(b"LTC2\n", text) {
+        return Ok((true, rest));
+    }
+    Err(BinaryRefusal::Fault(BinaryFault {
+        kind: BinaryKind::BadHeader,
+        line: 1,
+    }))
+}
+
+/// The line of the direction, which is the second.
+#[tactic(auto, unfolding(crate::specs::Pieces::way_at))]
+fn way_line(bytes: &[u8]) -> Result<(Way, &[u8]), BinaryRefusal>
+    ensures gives { Tells (λ x. (x.0, x.1.now)) result (on_line 2 (way_at bytes.now)) }
+    ensures shorter { IfOk result (λ x. length x.1.now ≤ length bytes.now) }
+{
+    if let Some(rest) = behind_word(b"way lr\n", bytes) {
+        return Ok((Way::Lr, rest));
+    }
+    if let Some(rest) = behind_word(b"way rl\n", bytes) {
+        return Ok((Way::Rl, rest));
+    }
+    Err(bad_line(2))
+}
+
+/// The lines before the alphabet.
+#[tactic(auto, unfolding(crate::specs::Lines::header_in))]
+fn header(text: &[u8]) -> Result<(Way, &[u8]), BinaryRefusal>
+    ensures gives { Tells (λ x. (x.0, x.1.now)) result (header_in text.now) }
+    ensures shorter { IfOk result (λ x. length x.1.now + 5 ≤ length text.now) }
+{
+    let (tells, rest) = version(text)?;
+    if tells {
+        return way_line(rest);
+    }
+    Ok((Way::Untold, rest))
+}
+
+/// The number of the line of the alphabet.
+fn alphabet_place(way: Way) -> u64
+    ensures place { result ≡ alphabet_place way }
+    ensures near { result ≤ 3 }
+{
+    match way {
+        Way::Untold => 2,
+        Way::Lr | Way::Rl => 3,
     }
 }
 
-/// The line of the alphabet, which is the second.
-fn alphabet_line(alloc: Global, bytes: &[u8]) -> Result<(Letters, &[u8]), BinaryRefusal>
-    ensures gives { Tells (λ x. (x.0, x.1.now)) result (on_line 2 (alphabet_at bytes.now)) }
+fn alphabet_line(alloc: Global, line: u64, bytes: &[u8]) -> Result<(Letters, &[u8]), BinaryRefusal>
+    ensures gives { Tells (λ x. (x.0, x.1.now)) result (on_line line (alphabet_at bytes.now)) }
     ensures shorter { IfOk result (λ x. length x.1.now < length bytes.now) }
 {
     match alphabet(alloc, bytes) {
         Ok((letters, rest)) => Ok((letters, rest)),
-        Err(CutError::Bad) => Err(bad_line(2)),
+        Err(CutError::Bad) => Err(bad_line(line)),
         Err(CutError::Memory) => Err(BinaryRefusal::Memory),
     }
 }
@@ -74,9 +118,14 @@ pub(crate) fn read_file(alloc: Global, text: &[u8]) -> Result<File, BinaryRefusa
     ensures gives { Tells (λ x. x) result (file_in text.now) }
     ensures within { IfOk result (λ x. AreWithin x.sections) }
 {
-    let rest = after_header(text)?;
-    let (alphabet, rest) = alphabet_line(alloc, rest)?;
-    let (sections, rest) = read_sections(alloc, 3, rest)?;
+    let (way, rest) = header(text)?;
+    let line = alphabet_place(way);
+    let (alphabet, rest) = alphabet_line(alloc, line, rest)?;
+    let (sections, rest) = read_sections(alloc, line + 1, rest)?;
     let _rest = end(line_after(&sections.preblank), rest)?;
-    Ok(File { alphabet, sections })
+    Ok(File {
+        way,
+        alphabet,
+        sections,
+    })
 }

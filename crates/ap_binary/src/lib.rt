@@ -1,4 +1,4 @@
-//! Compiled dictionaries as text, the form `LTC1`: the writer and the reader.
+//! Compiled dictionaries as text, the forms `LTC1` and `LTC2`: the writer and the reader.
 #![tactic(auto)]
 
 mod alphabet;
@@ -15,8 +15,8 @@ mod tests;
 mod writing;
 
 pub use laws::{
-    has_one_fault, reads_what_is_written, spells_compiled, spells_one, spells_texts,
-    spells_without_fault,
+    first_fault_in_sentences, has_one_fault, never_wrong_way, reads_what_is_written,
+    spells_compiled, spells_one, spells_texts, spells_without_fault,
 };
 pub use reading::read_compiled;
 pub use refusal::{BinaryFault, BinaryKind, BinaryRefusal};

@@ -1,4 +1,4 @@
-ghost use Rattle.std.specs.Prelude.{◌≡◌, ◌+◌, ◌-◌, ◌*◌, ◌<◌, ◌≤◌, length, take, drop, IfOk, Some, true, false};
+ghost use Rattle.std.specs.Prelude.{◌≡◌, ◌+◌, ◌-◌, ◌*◌, ◌<◌, ◌≤◌, length, take, drop, IfOk, IfSome, Some, None, true, false};
 ghost use Rattle.std.specs.List.{prefix_len};
 ghost use Rattle.std.specs.Option.{MatchOption};
 ghost use Rattle.ap_binary.specs.Reading.{Gives};
@@ -30,12 +30,20 @@ pub(crate) fn after_byte(byte: u8, bytes: &[u8]) -> Result<&[u8], CutError>
     }
 }
 
+/// What stands behind a word, where it stands at the front.
 #[tactic(auto, unfolding(crate::specs::Pieces::word_at))]
+pub(crate) fn behind_word<'a>(word: &[u8], bytes: &'a [u8]) -> Option<&'a [u8]>
+    ensures gives { MatchOption result (word_at word.now bytes.now ≡ None) (λ x. word_at word.now bytes.now ≡ Some x.now) }
+    ensures shorter { IfSome result (λ x. length x.now + length word.now ≡ length bytes.now) }
+{
+    bytes.strip_prefix(word)
+}
+
 pub(crate) fn after_word<'a>(word: &[u8], bytes: &'a [u8]) -> Result<&'a [u8], CutError>
     ensures gives { Gives (λ x. x.now) result (word_at word.now bytes.now) }
     ensures shorter { IfOk result (λ x. length x.now + length word.now ≡ length bytes.now) }
 {
-    match bytes.strip_prefix(word) {
+    match behind_word(word, bytes) {
         Some(rest) => Ok(rest),
         None => Err(CutError::Bad),
     }

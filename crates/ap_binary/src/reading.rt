@@ -89,15 +89,16 @@ fn trimmed_sections(alloc: Global, sections: &Sections) -> Result<Trimmed, Binar
     })
 }
 
-/// Reads a compiled dictionary: the text that `write_compiled` writes. Its lines end with a line
-/// feed; its numbers are decimal without leading zeros; a side is `-` for none, `L` and a code
+/// Reads a compiled dictionary: the text that `write_compiled` writes. Its first line is `LTC1`,
+/// and then no direction is told, or `LTC2`, and then the second is `way lr` or `way rl`. Its lines
+/// end with a line feed; its numbers are decimal without leading zeros; a side is `-` for none, `L` and a code
 /// point, `T` and the name of a tag, or `B`, `J`, `Q` or `A` for a mark; the alphabet ascends, is
 /// closed under case partners and holds no white space; edges are in strictly ascending order by
 /// the state that they leave, the label and the state that they enter, and final states ascend.
 ///
 /// The refusal is `Fault` exactly where the text spells no compiled dictionary, and then it is its
 /// first fault. Faults of lines come first, in the order of the lines: BadHeader where the first
-/// line isn't `LTC1`; BadLine where a line isn't of its form or order or is missing, and where
+/// line is neither `LTC1` nor `LTC2`; BadLine where a line isn't of its form or order or is missing, and where
 /// something follows the last; OutOfRange where a state isn't below the number of states, this
 /// number is 0, or a number is over 2 ^ 64 - 1. On one line BadLine comes first. Then for each
 /// section in order come EmptyCycle, on the line of its first edge on a cycle of edges with an
@@ -110,7 +111,11 @@ pub fn read_compiled(alloc: Global, text: &[u8]) -> Result<Compiled, BinaryRefus
     ensures spells { IfOk result (λ c. Spells text.now c) }
     ensures fault { IfErr result (λ e. IfFault e (λ f. IsFirstFault text.now f)) }
 {
-    let File { alphabet, sections } = read_file(alloc, text)?;
+    let File {
+        way,
+        alphabet,
+        sections,
+    } = read_file(alloc, text)?;
     let made = trimmed_sections(alloc, &sections)?;
     let Trimmed {
         standard,
@@ -118,5 +123,5 @@ pub fn read_compiled(alloc: Global, text: &[u8]) -> Result<Compiled, BinaryRefus
         postblank,
         preblank,
     } = made;
-    Ok(Compiled::new(alphabet, standard, inconditional, postblank, preblank))
+    Ok(Compiled::new(alphabet, way, standard, inconditional, postblank, preblank))
 }

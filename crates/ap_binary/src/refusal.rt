@@ -31,10 +31,12 @@ pub enum BinaryKind {
     OutOfRange,
     EmptyCycle,
     EmptySide,
+    /// The file tells another direction than its place needs. `read_compiled` never answers it.
+    WrongWay,
 }
 
 impl BinaryKind {
-    /// The number of the kind, from 1 to 5.
+    /// The number of the kind, from 1 to 6.
     pub fn number(self) -> u8
         ensures { result ≡ kind_number self }
     {
@@ -44,6 +46,7 @@ impl BinaryKind {
             BinaryKind::OutOfRange => 3,
             BinaryKind::EmptyCycle => 4,
             BinaryKind::EmptySide => 5,
+            BinaryKind::WrongWay => 6,
         }
     }
 
@@ -57,6 +60,7 @@ impl BinaryKind {
             BinaryKind::OutOfRange => "OutOfRange",
             BinaryKind::EmptyCycle => "EmptyCycle",
             BinaryKind::EmptySide => "EmptySide",
+            BinaryKind::WrongWay => "WrongWay",
         }
     }
 }

@@ -1,7 +1,7 @@
 use crate::reading::read_compiled;
 use crate::refusal::{BinaryKind, BinaryRefusal};
 use crate::writing::write_compiled;
-use ap_fst::Kind2;
+use ap_fst::{Kind2, Way};
 use std::alloc::Global;
 use std::test::Fail;
 
@@ -26,8 +26,26 @@ fn one_entry_is_read_and_written(rt: HostRuntime) -> Result<(), Fail> {
     };
     assert_eq!(rt; compiled.section(Kind2::Standard).edges().len(), 2);
     assert!(rt; compiled.is_alphabetic('B'));
+    assert_eq!(rt; compiled.way(), Way::Untold);
     let written = write_compiled(alloc, &compiled)?;
     assert_eq!(rt; written.as_slice(), ONE_ENTRY.as_bytes());
+    Ok(())
+}
+
+/// A dictionary without entries that tells its direction.
+const TOLD: &str =
+    "LTC2\nway rl\nalphabet\nsection standard 1 0 0\nsection inconditional 1 0 0\nsection postblank 1 0 0\nsection preblank 1 0 0\nend\n";
+
+#[test]
+fn a_told_direction_is_read_and_written(rt: HostRuntime) -> Result<(), Fail> {
+    let alloc = rt.alloc();
+    let Ok(compiled) = read_compiled(alloc, TOLD.as_bytes()) else {
+        assert!(rt; false);
+        return Ok(());
+    };
+    assert_eq!(rt; compiled.way(), Way::Rl);
+    let written = write_compiled(alloc, &compiled)?;
+    assert_eq!(rt; written.as_slice(), TOLD.as_bytes());
     Ok(())
 }
 
@@ -54,9 +72,12 @@ fn fault_of(alloc: Global, text: &str) -> (u8, u64) {
 fn faults_have_their_lines(rt: HostRuntime) -> Result<(), Fail> {
     let alloc = rt.alloc();
     assert!(rt; fault_of(alloc, "LTC9\nalphabet\n") == (1, 1));
+    assert!(rt; fault_of(alloc, "LTC2") == (1, 1));
+    assert!(rt; fault_of(alloc, "LTC2\n") == (2, 2));
     assert!(rt; fault_of(alloc, "LTC1\nalphabet\n") == (2, 3));
     assert!(rt; fault_of(alloc, "LTC1\nalphabet\nsection standard 0 0 0\n") == (3, 3));
     assert!(rt; fault_of(alloc, EMPTY_CYCLE) == (4, 5));
     assert_eq!(rt; BinaryKind::EmptySide.name(), "EmptySide");
+    assert_eq!(rt; BinaryKind::WrongWay.name(), "WrongWay");
     Ok(())
 }

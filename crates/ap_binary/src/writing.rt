@@ -5,9 +5,9 @@ ghost use Rattle.ap_fst.specs.Sections.{IsCompiled, section_of};
 ghost use Rattle.ap_binary.specs.Held.{is_held_side, is_held_label, is_held_edge, IsHeldMachine, AreHeldSections};
 ghost use Rattle.ap_binary.specs.Pieces.{is_character, is_utf8};
 ghost use Rattle.ap_binary.specs.Spelling.{Spells};
-ghost use Rattle.ap_binary.specs.Text.{side_text, then_space, then_end, edge_text, final_text, section_name, head_text, section_text, sections_text, letter_text, alphabet_text, compiled_text};
+ghost use Rattle.ap_binary.specs.Text.{side_text, then_space, then_end, edge_text, final_text, section_name, head_text, section_text, sections_text, letter_text, alphabet_text, header_text, compiled_text};
 
-use ap_fst::{Compiled, Edge, Fst, Kind2, Label};
+use ap_fst::{Compiled, Edge, Fst, Kind2, Label, Way};
 use ap_symbol::{Bytes, Memory, Symbol, TagName};
 use itoa::Buffer;
 use std::alloc::Global;
@@ -226,12 +226,23 @@ fn put_sections(compiled: &Compiled, into: &mut Bytes) -> Result<(), Memory>
     put_section_of(compiled, Kind2::Preblank, into)
 }
 
+/// What stands before the alphabet.
+fn put_header(way: Way, into: &mut Bytes) -> Result<(), Memory>
+    ensures { OnOk result (into.new ≡ into.old ++ header_text way) }
+{
+    match way {
+        Way::Untold => into.extend(b"LTC1\n"),
+        Way::Lr => into.extend(b"LTC2\nway lr\n"),
+        Way::Rl => into.extend(b"LTC2\nway rl\n"),
+    }
+}
+
 fn put_front(compiled: &Compiled, into: &mut Bytes) -> Result<(), Memory>
-    ensures text { OnOk result (into.new ≡ into.old ++ (codes "LTC1\n" ++ alphabet_text compiled.now.alphabet)) }
+    ensures text { OnOk result (into.new ≡ into.old ++ (header_text compiled.now.way ++ alphabet_text compiled.now.alphabet)) }
     ensures held { OnOk result (list_all is_character compiled.now.alphabet ≡ true) }
     ensures sound { OnOk result (IsCompiled compiled.now) }
 {
-    into.extend(b"LTC1\n")?;
+    put_header(compiled.way(), into)?;
     put_alphabet(compiled.alphabet().as_slice(), into)
 }
 
@@ -243,7 +254,8 @@ fn put_rest(compiled: &Compiled, into: &mut Bytes) -> Result<(), Memory>
     into.extend(b"end\n")
 }
 
-/// The text of a compiled dictionary: `LTC1`; the alphabet by its code points; for each kind of
+/// The text of a compiled dictionary: `LTC1` where it tells no direction, else `LTC2` and a line
+/// `way lr` or `way rl`; the alphabet by its code points; for each kind of
 /// sections in the order standard, inconditional, postblank, preblank a line with the numbers of
 /// states, edges and final states, then the edges and then the final states, a line each; and
 /// `end`. Numbers are decimal, and fields are parted by spaces. `read_compiled` reads it again as the

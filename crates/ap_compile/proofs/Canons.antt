@@ -36,12 +36,13 @@ same_section law d e direction kind m n c k f g same =
 pub one_compiled : One → (d e : Dictionary) (direction : Direction) (a b : Parts) → IsCompiledFrom d direction a → IsCompiledFrom e direction b → HaveSameStrings d e direction → HaveOneClosure d.alphabet e.alphabet → a ≡ b
 one_compiled law d e direction a b f g same closure =
     let alphabet : a.alphabet ≡ b.alphabet = same_letters a.alphabet b.alphabet f.sound.letters.ascend g.sound.letters.ascend (λ c. f.alphabet c ∙ closure c ∙ sym (g.alphabet c)) in
+    let way : a.way ≡ b.way = f.way ∙ sym g.way in
     let standard : a.standard ≡ b.standard = same_section law d e direction Standard a.standard b.standard f.canonical.standard_canonical g.canonical.standard_canonical f.standard g.standard same in
     let inconditional : a.inconditional ≡ b.inconditional =
     same_section law d e direction Inconditional a.inconditional b.inconditional f.canonical.inconditional_canonical g.canonical.inconditional_canonical f.inconditional g.inconditional same in
     let postblank : a.postblank ≡ b.postblank = same_section law d e direction Postblank a.postblank b.postblank f.canonical.postblank_canonical g.canonical.postblank_canonical f.postblank g.postblank same in
     let preblank : a.preblank ≡ b.preblank = same_section law d e direction Preblank a.preblank b.preblank f.canonical.preblank_canonical g.canonical.preblank_canonical f.preblank g.preblank same in
-    λ i. record { alphabet = alphabet i; standard = standard i; inconditional = inconditional i; postblank = postblank i; preblank = preblank i }
+    λ i. record { alphabet = alphabet i; way = way i; standard = standard i; inconditional = inconditional i; postblank = postblank i; preblank = preblank i }
 
 least_section : Least → (d : Dictionary) (direction : Direction) (kind : Kind) (m : Machine) → IsCanonical m → AcceptsStrings d direction kind m → IsLeast d direction kind m
 least_section law d direction kind m c f other sound one g = law m other c sound one (λ w. ((λ a. (g w).1 ((f w).0 a)), (λ a. (f w).1 ((g w).0 a))))

@@ -4,6 +4,7 @@ use Rattle.std.specs.List.{list_all}
 use Rattle.std.proofs.lemmas.Bool.{and_parts, and_from}
 use Rattle.std.proofs.lemmas.List.{take_more}
 use Rattle.std.proofs.lemmas.Option.{slice_get_within, get_or_from_slice_get}
+use Rattle.ap_symbol.specs.TagNames.{is_tag_name}
 use Rattle.ap_symbol.specs.Words.{is_proper, is_word_symbol}
 use Rattle.ap_symbol.specs.declared.symbol.Symbol.{Symbol}
 use Rattle.ap_symbol.specs.declared.symbol.Symbol.TheVariants.{Letter, Tag, Blank, Join, Queue, Alarm, Star, At}
@@ -55,7 +56,7 @@ paired_swapped (a ∷ left) (b ∷ right) = ap (λ z. label (Some b) (Some a) �
 
 plain_symbol : (s : Symbol) → IsTrue (is_proper s) → IsTrue (is_entry_symbol s) → IsTrue (is_plain_side (Some s))
 plain_symbol (Letter c) h k = (and_parts (is_word_symbol (Letter c)) true h).0
-plain_symbol (Tag name) h k = refl
+plain_symbol (Tag name) h k = (and_parts (is_word_symbol (Tag name)) (is_tag_name name) h).1
 plain_symbol Blank h k = refl
 plain_symbol Join h k = refl
 plain_symbol Queue h k = refl

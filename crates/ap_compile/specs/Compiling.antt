@@ -4,11 +4,14 @@ use Rattle.ap_det.specs.Determinism.{IsDeterministic}
 use Rattle.ap_dix.specs.Derivation.{Label as EntryLabel, Strings}
 use Rattle.ap_dix.specs.declared.dictionary.Dictionary.{Dictionary}
 use Rattle.ap_dix.specs.declared.dictionary.Direction.{Direction}
+use Rattle.ap_dix.specs.declared.dictionary.Direction.TheVariants.{Lr, Rl}
 use Rattle.ap_dix.specs.declared.dictionary.Kind.{Kind}
 use Rattle.ap_dix.specs.declared.dictionary.Kind.TheVariants.{Standard, Inconditional, Postblank, Preblank}
 use Rattle.ap_fst.specs.Machines.{Machine, IsMachine}
 use Rattle.ap_fst.specs.Sections.{Parts, IsCompiled}
 use Rattle.ap_fst.specs.Walks.{AcceptsLabels}
+use Rattle.ap_fst.specs.declared.compiled.Way.{Way}
+use Rattle.ap_fst.specs.declared.compiled.Way.TheVariants as told
 use Rattle.ap_fst.specs.declared.label.Label.{Label}
 use Rattle.ap_min.specs.Canonical.{IsCanonical}
 use Rattle.ap_compile.specs.Labels.{derived_labels}
@@ -31,10 +34,16 @@ pub record AreCanonical (c : Parts) : Type 0 where
   pub postblank_canonical : IsCanonical c.postblank
   pub preblank_canonical : IsCanonical c.preblank
 
--- A compiled dictionary of these sections, with the alphabet closed under case partners. Its sections are trimmed,
--- have no empty cycle and no empty side, and at most one edge per state and label; and they are canonical.
+-- the direction, as a compiled dictionary tells it
+abbrev pub way_of : Direction → Way
+way_of Lr = told.Lr
+way_of Rl = told.Rl
+
+-- A compiled dictionary of these sections, with the alphabet closed under case partners and the direction told. Its sections
+-- are trimmed, have no empty cycle and no empty side, and at most one edge per state and label; and they are canonical.
 pub record IsCompiledFrom (d : Dictionary) (direction : Direction) (c : Parts) : Type 0 where
   pub alphabet : IsClosure d.alphabet c.alphabet
+  pub way : c.way ≡ way_of direction
   pub standard : AcceptsStrings d direction Standard c.standard
   pub inconditional : AcceptsStrings d direction Inconditional c.inconditional
   pub postblank : AcceptsStrings d direction Postblank c.postblank

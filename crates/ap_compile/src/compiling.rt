@@ -3,7 +3,7 @@ ghost use Rattle.ap_compile.specs.declared.compiling.CompileRefusal.TheVariants.
 ghost use Rattle.ap_min.specs.Canonical.{IsCanonical};
 ghost use Rattle.ap_dix.specs.Soundness.{IsSound};
 ghost use Rattle.ap_fst.specs.Sections.{IsSection};
-ghost use Rattle.ap_compile.specs.Compiling.{AcceptsStrings, IsCompiledFrom};
+ghost use Rattle.ap_compile.specs.Compiling.{AcceptsStrings, IsCompiledFrom, way_of};
 ghost use Rattle.ap_compile.specs.Drafts.{AreDrafts};
 ghost use Rattle.ap_compile.specs.Empties.{HasEmptyEntry, IsFirstEmpty, section_entries};
 
@@ -12,7 +12,7 @@ use crate::empties::first_empty;
 use crate::gathering::paradigm_drafts;
 use crate::sections::section;
 use ap_dix::{Dictionary, Direction, Kind};
-use ap_fst::{Compiled, Draft, Fst, empty_cycle_law};
+use ap_fst::{Compiled, Draft, Fst, Way, empty_cycle_law};
 use ap_symbol::Memory;
 use std::alloc::Global;
 use thiserror::Error;
@@ -61,6 +61,15 @@ fn compiled_section(
     Ok(fst)
 }
 
+fn way_of(direction: Direction) -> Way
+    ensures { result ≡ way_of direction }
+{
+    match direction {
+        Direction::Lr => Way::Lr,
+        Direction::Rl => Way::Rl,
+    }
+}
+
 fn compiled(
     alloc: Global,
     dictionary: &Dictionary,
@@ -83,15 +92,17 @@ fn compiled(
     )?;
     let postblank = compiled_section(alloc, direction, dictionary, drafts, Kind::Postblank)?;
     let preblank = compiled_section(alloc, direction, dictionary, drafts, Kind::Preblank)?;
-    Ok(Compiled::new(alphabet, standard, inconditional, postblank, preblank))
+    let way = way_of(direction);
+    Ok(Compiled::new(alphabet, way, standard, inconditional, postblank, preblank))
 }
 
 /// The dictionary as four transducers, one for each kind of section, in a direction. Each is the
 /// canonical one of exactly the label strings that the kept entries of its sections derive (the
 /// Apertium dictionary format), so that none with at most one edge per state and label has fewer
 /// states; from right to left the sides of each label change places. The alphabet is the dictionary's,
-/// closed under case partners, in ascending order. It is refused exactly where a kept entry of a
-/// section derives labels with an empty input side, but for want of memory.
+/// closed under case partners, in ascending order, and the compiled dictionary tells the direction. It
+/// is refused exactly where a kept entry of a section derives labels with an empty input side, but for
+/// want of memory.
 pub fn compile(
     alloc: Global,
     dictionary: &Dictionary,

@@ -2,6 +2,7 @@ use Rattle.std.specs.Prelude.{ℕ, Bool, true, false, not, ◌&&◌, List, IsTru
 use Rattle.std.specs.List.{list_all}
 use Rattle.std.specs.Ordering.{nat_cmp}
 use Rattle.ap_symbol.specs.Alphabet.{is_closed}
+use Rattle.ap_symbol.specs.TagNames.{is_tag_name}
 use Rattle.ap_symbol.specs.Words.{is_white}
 use Rattle.ap_symbol.specs.declared.symbol.Symbol.{Symbol}
 use Rattle.ap_symbol.specs.declared.symbol.Symbol.TheVariants.{Letter, Tag, Blank, Join, Queue, Alarm, Star, At}
@@ -13,12 +14,13 @@ use Rattle.ap_fst.specs.declared.label.Label.{Label}
 use Rattle.ap_fst.specs.declared.label.Edge.{Edge}
 use Rattle.ap_fst.specs.declared.compiled.Kind2.{Kind2}
 use Rattle.ap_fst.specs.declared.compiled.Kind2.TheVariants.{Standard, Inconditional, Postblank, Preblank}
+use Rattle.ap_fst.specs.declared.compiled.Way.{Way}
 
--- a side of a dictionary's label: no Star, no At, no white-space letter
+-- a side of a dictionary's label: no Star, no At, no white-space letter, and a tag with the name of a tag
 abbrev pub is_plain_side : Option Symbol → Bool
 is_plain_side None = true
 is_plain_side (Some (Letter c)) = not (is_white c)
-is_plain_side (Some (Tag name)) = true
+is_plain_side (Some (Tag name)) = is_tag_name name
 is_plain_side (Some Blank) = true
 is_plain_side (Some Join) = true
 is_plain_side (Some Queue) = true
@@ -46,6 +48,7 @@ pub record IsAlphabet (letters : List ℕ) : Type 0 where
 -- what is seen of a compiled dictionary
 pub record Parts : Type 0 where
   pub alphabet : List ℕ
+  pub way : Way
   pub standard : Machine
   pub inconditional : Machine
   pub postblank : Machine

@@ -15,11 +15,21 @@ pub enum Kind2 {
     Preblank,
 }
 
-/// A compiled dictionary: its alphabet, closed under case partners, and a transducer for each kind
-/// of section.
+/// The direction that a compiled dictionary was compiled in: from left to right, as for analysis,
+/// from right to left, as for generation, or not told.
+#[derive(Clone, Copy, Debug, PartialEq, Eq)]
+pub enum Way {
+    Lr,
+    Rl,
+    Untold,
+}
+
+/// A compiled dictionary: its alphabet, closed under case partners, its direction, and a transducer
+/// for each kind of section.
 #[derive(Debug, Drop)]
 pub struct Compiled {
     alphabet: Letters,
+    way: Way,
     standard: Fst,
     inconditional: Fst,
     postblank: Fst,
@@ -31,9 +41,9 @@ impl Model for Compiled {
 
     ghost Value = { Parts };
 
-    ghost view = { λ c. record { alphabet = c.alphabet; standard = c.standard; inconditional = c.inconditional; postblank = c.postblank; preblank = c.preblank } };
+    ghost view = { λ c. record { alphabet = c.alphabet; way = c.way; standard = c.standard; inconditional = c.inconditional; postblank = c.postblank; preblank = c.preblank } };
 
-    ghost invariant = { λ c. IsCompiled (record { alphabet = c.alphabet; standard = c.standard; inconditional = c.inconditional; postblank = c.postblank; preblank = c.preblank }) };
+    ghost invariant = { λ c. IsCompiled (record { alphabet = c.alphabet; way = c.way; standard = c.standard; inconditional = c.inconditional; postblank = c.postblank; preblank = c.preblank }) };
 }
 
 fn is_listed(letters: &[char], c: char) -> bool
@@ -47,20 +57,22 @@ impl Compiled {
     ghost use Rattle.ap_fst.specs.Sections.{Parts, IsCompiled, section_of};
 
     /// The compiled dictionary of these parts. It takes no memory. Each section is trimmed and has
-    /// no empty cycle, no empty side and no label with Star, At or white space; the alphabet ascends,
-    /// is closed under case partners and holds no white space.
+    /// no empty cycle, no empty side and no label with Star, At, white space or a tag without the name
+    /// of a tag; the alphabet ascends, is closed under case partners and holds no white space.
     pub fn new(
         alphabet: Letters,
+        way: Way,
         standard: Fst,
         inconditional: Fst,
         postblank: Fst,
         preblank: Fst,
     ) -> Compiled
-        requires { IsCompiled (record { alphabet = alphabet; standard = standard; inconditional = inconditional; postblank = postblank; preblank = preblank }) }
-        ensures { result ≡ record { alphabet = alphabet; standard = standard; inconditional = inconditional; postblank = postblank; preblank = preblank } }
+        requires { IsCompiled (record { alphabet = alphabet; way = way; standard = standard; inconditional = inconditional; postblank = postblank; preblank = preblank }) }
+        ensures { result ≡ record { alphabet = alphabet; way = way; standard = standard; inconditional = inconditional; postblank = postblank; preblank = preblank } }
     {
         Compiled {
             alphabet,
+            way,
             standard,
             inconditional,
             postblank,
@@ -74,6 +86,14 @@ impl Compiled {
         ensures sound { IsCompiled self.now }
     {
         &self.alphabet
+    }
+
+    /// The direction that it was compiled in, as far as it is told. It takes no memory.
+    pub fn way(&self) -> Way
+        ensures value { result ≡ self.now.way }
+        ensures sound { IsCompiled self.now }
+    {
+        self.way
     }
 
     /// The section of a kind.

@@ -18,7 +18,7 @@ mod silence;
 mod tests;
 mod trimming;
 
-pub use compiled::{Compiled, Kind2};
+pub use compiled::{Compiled, Kind2, Way};
 pub use cycles::{empty_cycle, empty_cycle_law};
 pub use draft::Draft;
 pub use fst::Fst;

@@ -6,6 +6,7 @@ use Rattle.ap_compile.proofs.compiling.compiled.Goals as goal
 pub returns : goal.returns
 returns c = subst (λ (p : Parts). IsCompiledFrom c.args.dictionary.now c.args.direction p) (sym c.new.ensures) (record {
   alphabet = c.in_ok-alphabet.ensures.closure;
+  way = c.way_of-way.ensures;
   standard = c.in_ok-standard.ensures.strings;
   inconditional = c.in_ok-inconditional.ensures.strings;
   postblank = c.in_ok-postblank.ensures.strings;
