@@ -12,3 +12,10 @@ pub mod WordLaws
 pub mod LiveLaws
 pub mod WordOrder
 pub mod Finding
+pub mod Greatest
+pub mod NoFinals
+pub mod Coherence
+pub mod Lexicons
+pub mod SectionLives
+pub mod AnyWords
+pub mod Ordered

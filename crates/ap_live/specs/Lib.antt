@@ -5,3 +5,8 @@ pub mod Rows
 pub mod Tails
 pub mod Outputs
 pub mod Found
+pub mod Greatest
+pub mod Lexicon
+pub mod Relations
+pub mod Readings
+pub mod SectionLives

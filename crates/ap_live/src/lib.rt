@@ -1,5 +1,6 @@
 //! Live sets: the states of a transducer that the inputs so far lead to, and the outputs of the
-//! paths that lead on to a final state.
+//! paths that lead on to a final state; those of the four sections of a compiled dictionary, and the
+//! lexicon that they are of.
 #![tactic(auto)]
 
 mod arrivals;
@@ -8,14 +9,25 @@ mod held;
 mod hints;
 mod known;
 mod laws;
+mod lexicon_laws;
 mod live;
+mod live_sections;
 mod picking;
+mod readings;
 mod rows;
+mod section_live;
 mod stack;
 #[cfg(test)]
 mod tests;
 mod wording;
 
 pub use laws::{outputs_law, viable_law};
+pub use lexicon_laws::{
+    compiled_has_a_lexicon, compiled_have_lexicons, one_lexicon, same_relation_same_lexicon,
+    sides_are_proper,
+};
 pub use live::Live;
-pub use wording::writes_words;
+pub use live_sections::LiveSections;
+pub use readings::{any_readings, case_carried, push_kind};
+pub use section_live::SectionLive;
+pub use wording::{sort_words, writes_words};

@@ -5,6 +5,7 @@ ghost use Rattle.ap_symbol.specs.Rendering.{word_cmp};
 ghost use Rattle.ap_symbol.specs.Words.{AreProper, is_proper, is_word_symbol};
 ghost use Rattle.ap_symbol.specs.declared.symbol.Symbol.{Symbol};
 ghost use Rattle.ap_fst.specs.Lists.{IsIn};
+ghost use Rattle.ap_live.specs.Found.{in_order};
 ghost use Rattle.ap_live.specs.Outputs.{WritesProper, WritesWords, is_proper_side, is_word_side};
 
 use crate::backward::Symbols;
@@ -44,9 +45,18 @@ fn words_of(alloc: Global, backs: Vec<Symbols>) -> Result<Vec<Word>, Memory>
     Ok(words)
 }
 
-/// Puts words into the order of their rendered bytes, each once.
-fn sort_words(words: &mut Vec<Word>)
-    requires { (w : List Symbol) → IsIn w words.old.items → AreProper w }
+/// Sees that the words are proper, as each is. It only reads.
+fn see_proper(words: &[Word])
+    ensures { (w : List Symbol) → IsIn w words.now → AreProper w }
+{
+    for word in words {
+        let _ = word.symbols();
+    }
+}
+
+/// Puts words into the order of their rendered bytes, each once. It takes no memory.
+pub fn sort_words(words: &mut Vec<Word>)
+    ensures is { words.new.items ≡ in_order words.old.items }
     ensures members { (w : List Symbol) → IsIn w words.new.items ↔ IsIn w words.old.items }
     ensures order { IsStrictlySortedBy word_cmp words.new.items }
 {
@@ -54,6 +64,7 @@ fn sort_words(words: &mut Vec<Word>)
         return;
     }
     one_rendering();
+    see_proper(words.as_slice());
     words.sort_unstable_by(|a, b| compare(a, b));
     words.dedup_by(|a, b| compare(a, b).is_eq());
 }

@@ -1,0 +1,20 @@
+use Rattle.std.proofs.Common.{ap, ◌∙◌, List}
+use Rattle.ap_symbol.specs.declared.symbol.Symbol.{Symbol}
+use Rattle.ap_fst.specs.declared.compiled.Kind2.TheVariants.{Inconditional, Postblank, Preblank}
+use Rattle.ap_symbol.specs.Recasing.{carry_lem}
+use Rattle.ap_live.specs.Found.{in_order}
+use Rattle.ap_live.specs.Lexicon.{lexicon_of}
+use Rattle.ap_live.specs.Readings.{carried}
+use Rattle.ap_live.proofs.Ordered.{mapped_four}
+use Rattle.ap_analysis.specs.Licence.{standard_words, surface}
+use Rattle.ap_analysis.proofs.licensed.readings.Goals as goal
+
+pub returns : goal.returns
+returns c =
+    let lexicon = lexicon_of c.args.compiled.now c.args.sensitive in
+    let seen = surface c.args.reads.now c.args.count in
+    c.sort_words.ensures.is ∙ ap in_order (mapped_four (carry_lem c.case_carried-case.result) (carried c.args.sensitive seen)
+    (λ word. c.case_carried-case.ensures word ∙ ap (λ (z : List Symbol). carried c.args.sensitive z word) (c.symbols.ensures.symbols ∙ c.requires.seen))
+    (standard_words lexicon c.args.reads.now c.args.count) (lexicon.readings Inconditional seen) (lexicon.readings Postblank seen) (lexicon.readings Preblank seen) _ _ _ _ _ c.new-words.ensures.items
+    (c.in_ok-push_standard.ensures c.args.sensitive c.requires.lives) (c.in_ok-push_kind.ensures c.args.sensitive seen c.requires.lives)
+    (c.in_ok-push_kind-2.ensures c.args.sensitive seen c.requires.lives) (c.in_ok-push_kind-3.ensures c.args.sensitive seen c.requires.lives))

@@ -1,0 +1,135 @@
+ghost use Rattle.std.specs.Prelude.{◌≡◌, Bool, not, ◌&&◌, ◌++◌, ◌∷◌, [], List, take, OnOk, OnErr, IfOk};
+ghost use Rattle.ap_symbol.specs.declared.symbol.Symbol.{Symbol};
+ghost use Rattle.ap_fst.specs.Sections.{Parts};
+
+use crate::section_live::SectionLive;
+use ap_fst::{Compiled, Kind2};
+use ap_symbol::{Memory, Symbol, Words};
+use std::alloc::Global;
+
+/// What the symbols so far reach in each of the four sections of a compiled dictionary, which is the same throughout. Only
+/// sections that accept something are stepped.
+#[derive(Drop)]
+pub struct LiveSections {
+    standard: SectionLive,
+    inconditional: SectionLive,
+    postblank: SectionLive,
+    preblank: SectionLive,
+}
+
+fn are_all(standard: bool, inconditional: bool, postblank: bool, preblank: bool) -> bool
+    ensures { result ≡ (standard && inconditional && postblank && preblank) }
+{
+    standard && inconditional && postblank && preblank
+}
+
+impl LiveSections {
+    ghost use Rattle.ap_live.specs.Found.{has_words};
+    ghost use Rattle.ap_fst.specs.Sections.{section_of};
+    ghost use Rattle.ap_live.specs.Lexicon.{lexicon_of, viable_in, inputs_of};
+    ghost use Rattle.ap_live.specs.Readings.{any_words};
+    ghost use Rattle.ap_live.specs.SectionLives.{AreLive, IsSectionLive};
+
+    /// What no symbol reaches. The error means want of memory.
+    pub fn start(alloc: Global, compiled: &Compiled) -> Result<LiveSections, Memory>
+        ensures { IfOk result (λ lives. (sensitive : Bool) → AreLive compiled.now sensitive [] lives) }
+    {
+        Ok(LiveSections {
+            standard: SectionLive::start(alloc, compiled.section(Kind2::Standard))?,
+            inconditional: SectionLive::start(alloc, compiled.section(Kind2::Inconditional))?,
+            postblank: SectionLive::start(alloc, compiled.section(Kind2::Postblank))?,
+            preblank: SectionLive::start(alloc, compiled.section(Kind2::Preblank))?,
+        })
+    }
+
+    /// Goes on by a symbol. After a refusal, which means want of memory, the symbols so far are the same.
+    pub fn step(
+        &mut self,
+        compiled: &Compiled,
+        input: &Symbol,
+        sensitive: bool,
+    ) -> Result<(), Memory>
+        ensures ok { OnOk result ((symbols : List Symbol) → AreLive compiled.now sensitive symbols self.old → AreLive compiled.now sensitive (symbols ++ input.now ∷ []) self.new) }
+        ensures err { OnErr result ((symbols : List Symbol) → AreLive compiled.now sensitive symbols self.old → AreLive compiled.now sensitive symbols self.new) }
+    {
+        let standard = self
+            .standard
+            .step(compiled.section(Kind2::Standard), input, sensitive);
+        let inconditional = self
+            .inconditional
+            .step(compiled.section(Kind2::Inconditional), input, sensitive);
+        let postblank = self
+            .postblank
+            .step(compiled.section(Kind2::Postblank), input, sensitive);
+        let preblank = self
+            .preblank
+            .step(compiled.section(Kind2::Preblank), input, sensitive);
+        if are_all(standard, inconditional, postblank, preblank) {
+            return Ok(());
+        }
+        self.standard.take_back(standard);
+        self.inconditional.take_back(inconditional);
+        self.postblank.take_back(postblank);
+        self.preblank.take_back(preblank);
+        Err(Memory)
+    }
+
+    /// Whether the symbols so far fit no beginning of a left word of any section.
+    pub fn is_dead(&self, compiled: &Compiled) -> bool
+        ensures { (sensitive : Bool) (symbols : List Symbol) → AreLive compiled.now sensitive symbols self.now → result ≡ not (viable_in compiled.now sensitive symbols) }
+    {
+        let _ = compiled.alphabet();
+        let standard = self.standard.is_dead();
+        let inconditional = self.inconditional.is_dead();
+        let postblank = self.postblank.is_dead();
+        let preblank = self.preblank.is_dead();
+        are_all(standard, inconditional, postblank, preblank)
+    }
+
+    /// What is reached in a section.
+    fn section(&self, kind: Kind2) -> &SectionLive
+        ensures { (p : Parts) (sensitive : Bool) (symbols : List Symbol) → AreLive p sensitive symbols self.now → IsSectionLive (section_of p kind) (inputs_of sensitive symbols) result.now }
+    {
+        match kind {
+            Kind2::Standard => &self.standard,
+            Kind2::Inconditional => &self.inconditional,
+            Kind2::Postblank => &self.postblank,
+            Kind2::Preblank => &self.preblank,
+        }
+    }
+
+    /// Whether some entry of that kind reads the symbols so far. It makes no word.
+    pub fn reads(&self, compiled: &Compiled, kind: Kind2) -> bool
+        ensures { (sensitive : Bool) (symbols : List Symbol) → AreLive compiled.now sensitive symbols self.now → result ≡ has_words ((lexicon_of compiled.now sensitive).readings kind symbols) }
+    {
+        self.section(kind).reads(compiled.section(kind))
+    }
+
+    /// Whether some entry of any kind reads the symbols so far. It makes no word.
+    pub fn reads_any(&self, compiled: &Compiled) -> bool
+        ensures { (sensitive : Bool) (symbols : List Symbol) → AreLive compiled.now sensitive symbols self.now → result ≡ has_words (any_words (lexicon_of compiled.now sensitive) symbols) }
+    {
+        self.reads(compiled, Kind2::Standard)
+            || self.reads(compiled, Kind2::Inconditional)
+            || self.reads(compiled, Kind2::Postblank)
+            || self.reads(compiled, Kind2::Preblank)
+    }
+
+    /// What the entries of that kind read in the symbols so far, in the order of words, each once. The error means want of
+    /// memory.
+    pub fn readings(&self, alloc: Global, compiled: &Compiled, kind: Kind2) -> Result<Words, Memory>
+        ensures { IfOk result (λ words. (sensitive : Bool) (symbols : List Symbol) → AreLive compiled.now sensitive symbols self.now → words ≡ (lexicon_of compiled.now sensitive).readings kind symbols) }
+    {
+        self.section(kind).readings(alloc, compiled.section(kind))
+    }
+
+    /// Goes back to the first so many symbols; where there are no more, nothing changes. It takes no memory.
+    pub fn cut(&mut self, len: usize)
+        ensures { (p : Parts) (sensitive : Bool) (symbols : List Symbol) → AreLive p sensitive symbols self.old → AreLive p sensitive (take len symbols) self.new }
+    {
+        self.standard.cut(len);
+        self.inconditional.cut(len);
+        self.postblank.cut(len);
+        self.preblank.cut(len);
+    }
+}

@@ -1,0 +1,113 @@
+ghost use Rattle.std.specs.Prelude.{◌≡◌, true, false, not, ◌++◌, ◌∷◌, [], List, take, IfOk};
+ghost use Rattle.ap_symbol.specs.declared.symbol.Symbol.{Symbol};
+ghost use Rattle.ap_fst.specs.Machines.{Machine};
+ghost use Rattle.ap_fst.specs.Sections.{IsSection};
+ghost use Rattle.ap_fst.specs.Silence.{HasNoEmptyCycle};
+ghost use Rattle.ap_live.specs.Fitting.{Input};
+ghost use Rattle.ap_live.specs.Found.{outputs, has_output, is_viable};
+ghost use Rattle.ap_live.specs.Outputs.{WritesWords};
+
+use crate::live::Live;
+use ap_fst::Fst;
+use ap_symbol::{Memory, Symbol, Words};
+use std::alloc::Global;
+
+/// What the symbols so far reach in one section of a compiled dictionary. A section without a final state accepts nothing:
+/// no live set is held for it, so that a kind of sections without entries costs no step anything.
+#[derive(Drop)]
+pub struct SectionLive {
+    live: Option<Live>,
+}
+
+impl SectionLive {
+    ghost use Rattle.ap_live.specs.SectionLives.{IsSectionLive};
+
+    /// What no symbol reaches. The error means want of memory.
+    pub fn start(alloc: Global, fst: &Fst) -> Result<SectionLive, Memory>
+        ensures { IfOk result (λ section. IsSectionLive fst.now [] section) }
+    {
+        if fst.finals().is_empty() {
+            return Ok(SectionLive { live: None });
+        }
+        let live = Live::start(alloc, fst)?;
+        Ok(SectionLive { live: Some(live) })
+    }
+
+    /// Goes on by a symbol, and answers whether there was memory for it. If not, nothing was changed.
+    pub fn step(&mut self, fst: &Fst, input: &Symbol, sensitive: bool) -> bool
+        ensures stepped { result ≡ true → (seen : List Input) → IsSectionLive fst.now seen self.old → IsSectionLive fst.now (seen ++ record { symbol = input.now; sensitive = sensitive } ∷ []) self.new }
+        ensures stayed { result ≡ false → self.new ≡ self.old }
+    {
+        match &mut self.live {
+            None => true,
+            Some(live) => match live.step(fst, input, sensitive) {
+                Ok(()) => true,
+                Err(_) => false,
+            },
+        }
+    }
+
+    /// Takes the last symbol back, if it was stepped by. It takes no memory.
+    pub fn take_back(&mut self, stepped: bool)
+        ensures back { stepped ≡ true → (m : Machine) (seen : List Input) (last : Input) → IsSectionLive m (seen ++ last ∷ []) self.old → IsSectionLive m seen self.new }
+        ensures stayed { stepped ≡ false → self.new ≡ self.old }
+    {
+        if !stepped {
+            return;
+        }
+        match &mut self.live {
+            None => {}
+            Some(live) => {
+                let before = live.len().saturating_sub(1);
+                live.cut(before);
+            }
+        }
+    }
+
+    /// Goes back to the first so many symbols. It takes no memory.
+    pub fn cut(&mut self, len: usize)
+        ensures { (m : Machine) (seen : List Input) → IsSectionLive m seen self.old → IsSectionLive m (take len seen) self.new }
+    {
+        match &mut self.live {
+            None => {}
+            Some(live) => live.cut(len),
+        }
+    }
+
+    /// Whether the symbols so far fit no beginning of a left word of the section.
+    pub fn is_dead(&self) -> bool
+        ensures { (m : Machine) (seen : List Input) → IsSection m → IsSectionLive m seen self.now → result ≡ not (is_viable m seen) }
+    {
+        match &self.live {
+            None => true,
+            Some(live) => live.is_dead(),
+        }
+    }
+
+    /// Whether some entry of the section reads the symbols so far. It makes no word.
+    pub fn reads(&self, fst: &Fst) -> bool
+        ensures { (seen : List Input) → HasNoEmptyCycle fst.now → IsSectionLive fst.now seen self.now → result ≡ has_output fst.now seen }
+    {
+        match &self.live {
+            None => false,
+            Some(live) => live.accepts(fst),
+        }
+    }
+
+    /// What the entries of the section read in the symbols so far. Where none reads them, it takes no memory.
+    pub fn readings(&self, alloc: Global, fst: &Fst) -> Result<Words, Memory>
+        requires no_cycle { HasNoEmptyCycle fst.now }
+        requires writes { WritesWords fst.now }
+        ensures { IfOk result (λ words. (seen : List Input) → IsSectionLive fst.now seen self.now → words ≡ outputs fst.now seen) }
+    {
+        match &self.live {
+            None => Ok(Words::new(alloc)),
+            Some(live) => {
+                if !live.accepts(fst) {
+                    return Ok(Words::new(alloc));
+                }
+                live.finals(alloc, fst)
+            }
+        }
+    }
+}
