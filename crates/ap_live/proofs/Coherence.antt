@@ -6,6 +6,7 @@ use Rattle.std.proofs.lemmas.List.{length-map}
 use Rattle.ap_symbol.specs.Alphabet.{has_letter}
 use Rattle.ap_symbol.specs.Fitting.{fits_lem, lists_fit}
 use Rattle.ap_symbol.specs.Lists.{IsIn}
+use Rattle.ap_symbol.specs.Words.{is_word_symbol}
 use Rattle.ap_symbol.specs.declared.symbol.Symbol.{Symbol}
 use Rattle.ap_symbol.specs.declared.symbol.Symbol.TheVariants as symbol
 use Rattle.ap_fst.specs.Machines.{Machine}
@@ -15,7 +16,7 @@ use Rattle.ap_fst.specs.declared.compiled.Kind2.{Kind2}
 use Rattle.ap_fst.specs.declared.compiled.Kind2.TheVariants.{Standard, Inconditional, Postblank, Preblank}
 use Rattle.ap_live.specs.Fitting.{Input, fits_inputs}
 use Rattle.ap_live.specs.Found.{outputs, is_viable}
-use Rattle.ap_live.specs.Outputs.{IsOutput, FitBeginning, WritesWords, is_word_side}
+use Rattle.ap_live.specs.Outputs.{IsOutput, FitBeginning, WritesWords, is_word_side, is_proper_side}
 use Rattle.ap_live.proofs.Finding.{OneRendering, found_is_output, found_sorted, outputs_found, viable_found}
 use Rattle.ap_live.specs.Lexicon.{IsLexiconOf, IsCoherent, Spelled, inputs_of, viable_in, lexicon_of}
 use Rattle.ap_live.specs.Relations.{AreSidesProper}
@@ -195,8 +196,17 @@ plain_word (Some symbol.At) h = refl
 pub section_writes : (p : Parts) (kind : Kind2) → IsCompiled p → WritesWords (section_of p kind)
 section_writes p kind compiled e i = plain_word e.label.right (and_parts (is_plain_side e.label.left) (is_plain_side e.label.right) ((section_is p kind compiled).plain e i)).1
 
-pub each_kind : (P : Kind2 → Type 0) → P Standard → P Inconditional → P Postblank → P Preblank → (kind : Kind2) → P kind
-each_kind P a b c d Standard = a
-each_kind P a b c d Inconditional = b
-each_kind P a b c d Postblank = c
-each_kind P a b c d Preblank = d
+plain_proper : (side : Option Symbol) → is_plain_side side ≡ true → is_proper_side side ≡ true
+plain_proper None h = refl
+plain_proper (Some (symbol.Letter c)) h = and_from (is_word_symbol (symbol.Letter c)) true h refl
+plain_proper (Some (symbol.Tag name)) h = h
+plain_proper (Some symbol.Blank) h = refl
+plain_proper (Some symbol.Join) h = refl
+plain_proper (Some symbol.Queue) h = refl
+plain_proper (Some symbol.Alarm) h = refl
+plain_proper (Some symbol.Star) h = refl
+plain_proper (Some symbol.At) h = refl
+
+-- the right sides of a section are proper
+pub sections_proper : (p : Parts) → IsCompiled p → AreSidesProper p
+sections_proper p compiled kind e i = plain_proper e.label.right (and_parts (is_plain_side e.label.left) (is_plain_side e.label.right) ((section_is p kind compiled).plain e i)).1
