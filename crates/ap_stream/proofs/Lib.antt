@@ -1,5 +1,14 @@
 pub mod Stop
 pub mod Encoding
+pub mod WordSteps
+pub mod SignLaws
+pub mod Back
+pub mod BareSpells
+pub mod EachLaws
+pub mod WordsRead
+pub mod Spelt
+pub mod KeptNames
+pub mod Crossed
 pub mod Spells
 pub mod Trying
 pub mod Moved

@@ -3,15 +3,16 @@ use Rattle.std.specs.Prelude.{◌≡◌, ℕ, suc, ◌+◌, ◌<◌, ◌≤◌, 
 use Rattle.std.proofs.Common.{arith, ap, sym, ◌∙◌}
 use Rattle.std.proofs.lemmas.Bool.{eqb-true}
 use Rattle.std.proofs.lemmas.List.{length-take}
+use Rattle.ap_stream.specs.Limits.{item_max}
 use Rattle.ap_stream.specs.declared.dialect.Dialect.{Dialect}
 use Rattle.ap_stream.specs.declared.item.Item.{Item}
 use Rattle.ap_stream.specs.declared.item.Item.TheVariants as item
 use Rattle.ap_stream.specs.declared.item.Read.{Read}
-use Rattle.ap_stream.specs.Dialects.{is_refused, has_units}
+use Rattle.ap_stream.specs.Dialects.{is_refused, has_words}
 use Rattle.ap_stream.specs.Chars.{Front, Part, NotChar, Char, char_at}
 use Rattle.ap_stream.specs.Blanks.{Run, Open, Inside, BadChar, Done, blank}
 use Rattle.ap_stream.proofs.Encoding.{Encodes, char_encodes}
-use Rattle.ap_stream.specs.Reading.{First, Needs, Whole, Faulty, Kind, Past, first, limited, past, at_limit, unit_max, begins_blank, of_run, of_escaped, of_char, plain, IsRead}
+use Rattle.ap_stream.specs.Reading.{First, Needs, Whole, Faulty, Kind, Past, first, limited, past, at_limit, begins_blank, of_run, of_escaped, of_char, plain, IsRead}
 use Rattle.ap_stream.specs.declared.fault.LimitKind.TheVariants.{ItemTooLong}
 use Rattle.ap_stream.specs.Spelling.{spelled}
 
@@ -40,11 +41,12 @@ spells_char dialect text Part e = tt
 spells_char dialect text NotChar e = tt
 spells_char dialect text (Char c n) e = spells_cond text (is_refused dialect c) (Faulty _) (Whole (plain c false) n) (λ _. tt) (λ _. e)
 
-pub first_spells : (dialect : Dialect) (text : List ℕ) → has_units dialect ≡ false → Spells text (first dialect text)
+pub first_spells : (dialect : Dialect) (text : List ℕ) → has_words dialect ≡ false → Spells text (first dialect text)
 unfolding first
 first_spells dialect [] bare = tt
 first_spells dialect (b ∷ bs) bare = spells_cond (b ∷ bs) (begins_blank b) (of_run (b ∷ bs) (blank 0 (b ∷ bs))) _ (λ _. spells_run (b ∷ bs) (blank 0 (b ∷ bs)))
-    (λ _. spells_cond (b ∷ bs) (eqb b 92) (of_escaped (char_at bs)) (of_char dialect (char_at (b ∷ bs))) (λ is. spells_escaped b bs (char_at bs) (eqb-true b 92 is) (char_encodes bs)) (λ _. spells_char dialect (b ∷ bs) (char_at (b ∷ bs)) (char_encodes (b ∷ bs))))
+    (λ _. spells_cond (b ∷ bs) (eqb b 92) (of_escaped (char_at bs)) _ (λ is. spells_escaped b bs (char_at bs) (eqb-true b 92 is) (char_encodes bs))
+    (λ _. rw bare (spells_char dialect (b ∷ bs) (char_at (b ∷ bs)) (char_encodes (b ∷ bs)))))
 
 -- some text begins with the bytes of the item
 abbrev pub Shown : Item → ℕ → Type 0
@@ -71,15 +73,15 @@ shown_cond : (b : Bool) (f g : First) (thing : Item) (n : ℕ) → (f ≡ Whole 
 shown_cond true f g thing n h k e = h e
 shown_cond false f g thing n h k e = k e
 
-pub limited_shows : (most : ℕ) (dialect : Dialect) (text : List ℕ) (thing : Item) (n : ℕ) → has_units dialect ≡ false → limited most dialect text ≡ Whole thing n → Shown thing n
+pub limited_shows : (most : ℕ) (dialect : Dialect) (text : List ℕ) (thing : Item) (n : ℕ) → has_words dialect ≡ false → limited most dialect text ≡ Whole thing n → Shown thing n
 unfolding limited
 limited_shows most dialect text thing n bare h = shown_cond (leb (length text) most) (first dialect text) _ thing n
     (λ e. shown_by text (first dialect text) thing n (first_spells dialect text bare) e)
     (λ e. shown_past most (take most text) (take (suc most) text) (first dialect (take most text)) (first dialect (take (suc most) text)) thing n (first_spells dialect (take most text) bare) (first_spells dialect (take (suc most) text) bare) e) h
 
 -- the spelling of an item as reading gives it has no more bytes than the item had
-pub spelled_size : (dialect : Dialect) (read : Read) → has_units dialect ≡ false → IsRead dialect read → length (spelled read.item) ≤ read.size
+pub spelled_size : (dialect : Dialect) (read : Read) → has_words dialect ≡ false → IsRead dialect read → length (spelled read.item) ≤ read.size
 spelled_size dialect read bare h =
-    let s = limited_shows unit_max dialect h.text read.item read.size bare h.whole in
+    let s = limited_shows item_max dialect h.text read.item read.size bare h.whole in
     let e : length (spelled read.item) ≡ length (take read.size s.0) = ap length s.1 in
     let l = length-take read.size s.0 in omega (arith, e, l)

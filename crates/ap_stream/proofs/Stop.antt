@@ -4,6 +4,7 @@ use Rattle.std.proofs.lemmas.List.{append-nil, drop-drop, take-append-drop, take
 use Rattle.std.proofs.Math.Seq.{take-add}
 use Rattle.std.proofs.Math.ListN.{length-take}
 use Rattle.std.proofs.lemmas.Grind.{common_steps}
+use Rattle.ap_stream.specs.Limits.{begun_max, span_max}
 use Rattle.ap_stream.specs.declared.fault.StreamFault.{StreamFault}
 use Rattle.ap_stream.specs.declared.item.Read.{Read}
 use Rattle.ap_stream.specs.Begun.{Begun}
@@ -17,7 +18,7 @@ use Rattle.ap_stream.specs.Sound.{May, measure, Sound}
 
 module _ {H : Type 0} (is_finished : H → Bool) (held : H → ℕ) (dialect : H → Dialect) (work : H → List Read → Told) where
   pub sound_at_stop : (h after : H) (old new : Begun) (piece : List ℕ) (finished : Bool) (stop : Option StreamFault) (ended : Bool) (f : StreamFault) →
-      held h ≤ 4194304 → Shows f old piece new → length new.held ≤ 1048577 → held after ≡ held h → is_finished after ≡ true → dialect after ≡ dialect h → dialect h ≡ old.dialect →
+      held h ≤ span_max → Shows f old piece new → length new.held ≤ begun_max → held after ≡ held h → is_finished after ≡ true → dialect after ≡ dialect h → dialect h ≡ old.dialect →
       Sound is_finished held dialect after new true (Some f) ended
   sound_at_stop h after old new piece finished stop ended f span shown short same done kept reads_it = record {
     agrees = done;

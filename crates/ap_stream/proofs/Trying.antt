@@ -1,6 +1,7 @@
 -- One turn of the handlers that try the clauses.
 use Rattle.std.proofs.Common.{arith, ap, sym, ◌∙◌, ◌≡◌, ◌<◌, ◌≤◌, ℕ, ◌+◌, List, [], ◌∷◌, ◌++◌, length, get_or, drop, refl, Bool, true, false, not, ◌&&◌, ltb, nat_lt, cond}
 use Rattle.std.specs.List.{AllByRecursion}
+use Rattle.ap_stream.specs.Limits.{span_max, stage_max}
 use Rattle.ap_stream.specs.declared.dialect.Dialect.TheVariants.{Raw}
 use Rattle.ap_stream.specs.declared.item.Read.{Read}
 use Rattle.ap_stream.specs.Reading.{IsRead}
@@ -10,7 +11,7 @@ use Rattle.ap_stream.specs.Tried.{Held, bytes_of, copied, paired, is_long, begin
 use Rattle.ap_stream.proofs.Spells.{spelled_size}
 
 -- the first item is spelled within the bounds of a turn
-pub first_fits : (items : List Read) (first : Read) → AllByRecursion (IsRead Raw) items → 0 < length items → first ≡ get_or items 0 first → length (spelled first.item) ≤ 5242882
+pub first_fits : (items : List Read) (first : Read) → AllByRecursion (IsRead Raw) items → 0 < length items → first ≡ get_or items 0 first → length (spelled first.item) ≤ stage_max
 first_fits [] first all some is = absurd (omega arith)
 first_fits (a ∷ items) first all some is =
     let l = spelled_size Raw a refl all.0 in
@@ -19,7 +20,7 @@ first_fits (a ∷ items) first all some is =
     omega (arith, l, s, same)
 
 -- one item is within the span
-pub one_fits : (items : List Read) → AllByRecursion (IsRead Raw) items → length items < 2 → bytes_of items ≤ 4194304
+pub one_fits : (items : List Read) → AllByRecursion (IsRead Raw) items → length items < 2 → bytes_of items ≤ span_max
 one_fits [] all short = omega arith
 one_fits (read ∷ []) all short = let h = all.0.short in omega (arith, h)
 one_fits (a ∷ b ∷ reads) all short = absurd (omega arith)
@@ -27,7 +28,7 @@ one_fits (a ∷ b ∷ reads) all short = absurd (omega arith)
 module _ (items after : List Read) (now : Held) (finished : Bool) (first : Read) (into written : List ℕ) (view : record { items = items; finished = finished } ≡ now)
     (all : AllByRecursion (IsRead Raw) items) (some : 0 < length items) (is : first ≡ get_or items 0 first) (w : written ≡ into ++ spelled first.item) where
   pub copies_wrote : after ≡ drop 1 items →
-      (x : List ℕ) × (written ≡ into ++ x) × (length x ≤ 5242882) × (length after < length now.items) × (bytes_of after < bytes_of now.items) × (Raw ≡ Raw) × (finished ≡ now.finished)
+      (x : List ℕ) × (written ≡ into ++ x) × (length x ≤ stage_max) × (length after < length now.items) × (bytes_of after < bytes_of now.items) × (Raw ≡ Raw) × (finished ≡ now.finished)
       × ((xs : List Read) → (now.finished ≡ true → xs ≡ []) → behind x (copied (after ++ xs)) ≡ copied (now.items ++ xs))
   copies_wrote a = rw (← view) (spelled first.item, w, first_fits items first all some is, shorter items some a, fewer items all some a, refl, refl, λ xs _. same items some is a xs)
     where
@@ -44,7 +45,7 @@ module _ (items after : List Read) (now : Held) (finished : Bool) (first : Read)
       same (b ∷ items) some is a xs = rw (is, a) refl
 
   pub pairs_both : after ≡ [] → begins_pair items ≡ true → length items ≤ 2 → is_long first.item ≡ false →
-      (x : List ℕ) × (written ≡ into ++ x) × (length x ≤ 5242882) × (length after < length now.items) × (bytes_of after < bytes_of now.items) × (Raw ≡ Raw) × (finished ≡ now.finished)
+      (x : List ℕ) × (written ≡ into ++ x) × (length x ≤ stage_max) × (length after < length now.items) × (bytes_of after < bytes_of now.items) × (Raw ≡ Raw) × (finished ≡ now.finished)
       × ((xs : List Read) → (now.finished ≡ true → xs ≡ []) → behind x (paired (after ++ xs)) ≡ paired (now.items ++ xs))
   pairs_both a both short fine = rw (← view) (spelled first.item, w, first_fits items first all some is, rw a some, rw a (more items all some), refl, refl, λ xs _. same items is both short fine xs)
     where
@@ -59,7 +60,7 @@ module _ (items after : List Read) (now : Held) (finished : Bool) (first : Read)
       same (b ∷ c ∷ d ∷ items) is both short fine xs = absurd (omega arith)
 
   pub pairs_one : after ≡ drop 1 items → begins_pair items ≡ false → (length items < 2 → finished ≡ true) → is_long first.item ≡ false →
-      (x : List ℕ) × (written ≡ into ++ x) × (length x ≤ 5242882) × (length after < length now.items) × (bytes_of after < bytes_of now.items) × (Raw ≡ Raw) × (finished ≡ now.finished)
+      (x : List ℕ) × (written ≡ into ++ x) × (length x ≤ stage_max) × (length after < length now.items) × (bytes_of after < bytes_of now.items) × (Raw ≡ Raw) × (finished ≡ now.finished)
       × ((xs : List Read) → (now.finished ≡ true → xs ≡ []) → behind x (paired (after ++ xs)) ≡ paired (now.items ++ xs))
   pairs_one a lone known fine = rw (← view) (spelled first.item, w, first_fits items first all some is, (copies_wrote_shorter items some a), (copies_wrote_fewer items all some a), refl, refl, λ xs last. same items some is a lone known fine xs last)
     where

@@ -13,11 +13,12 @@ use Rattle.ap_stream.specs.declared.item.Item.{Item}
 use Rattle.ap_stream.specs.declared.item.Item.TheVariants as item
 use Rattle.ap_stream.specs.declared.item.Read.{Read}
 use Rattle.ap_stream.specs.declared.item.Character.{Character}
+use Rattle.ap_symbol.specs.declared.symbol.Symbol.{Symbol}
 use Rattle.ap_stream.specs.declared.dialect.Dialect.{Dialect}
 use Rattle.ap_stream.specs.declared.examine.Seen.TheVariants as seen
 use Rattle.ap_stream.specs.Chars.{Part, char_at}
 use Rattle.ap_stream.specs.Blanks.{Open, Inside}
-use Rattle.ap_stream.specs.Reading.{first, first_nil, Reads, First, Whole, Faulty, Needs, Kind, Bad, Past, limited, unit_max, unit_max_is, reads, reads_whole, reads_faulty, reads_needs, reads_nil, read_at, followed, size_of, stopped, counted, nothing, at_end, fault_at, plain, IsRead}
+use Rattle.ap_stream.specs.Reading.{first, first_nil, Reads, First, Whole, Faulty, Needs, Kind, Bad, Past, limited, reads, reads_whole, reads_faulty, reads_needs, reads_nil, read_at, followed, size_of, stopped, counted, nothing, at_end, fault_at, plain, IsRead}
 use Rattle.ap_stream.specs.Limited.{Surely, Looks, limited_within, limited_ends}
 use Rattle.ap_stream.specs.AtEnd.{Begins, begun, begun_at, at_blank, in_blank}
 use Rattle.ap_stream.specs.Stands.{Stands, InBlank}
@@ -25,6 +26,7 @@ use Rattle.ap_stream.specs.Step.{Stood, some_stood, nothing_part}
 use Rattle.std.proofs.Common.{get_or, get_or-drop, add-zero}
 use Rattle.std.proofs.lemmas.List.{length-drop, length-take}
 use Rattle.std.proofs.lemmas.Grind.{common_steps}
+use Rattle.ap_stream.specs.Limits.{begun_max, item_max, item_max_is, unit_max}
 use Rattle.ap_stream.specs.Begun.{Begun}
 
 -- the items of what is held and what comes
@@ -42,21 +44,21 @@ Stopped fault begun = (x : List ℕ) → reads_of begun x ≡ stopped fault
 
 -- what is held is nothing, or the begin of an item that can still go on
 abbrev pub CanGoOn : Begun → Type 0
-CanGoOn begun = limited unit_max begun.dialect begun.held ≡ Needs
+CanGoOn begun = limited item_max begun.dialect begun.held ≡ Needs
 
 -- before the last byte that is held, more was needed
 abbrev pub NeededMore : Begun → Type 0
-NeededMore begun = limited unit_max begun.dialect (take (length begun.held - 1) begun.held) ≡ Needs
+NeededMore begun = limited item_max begun.dialect (take (length begun.held - 1) begun.held) ≡ Needs
 
 -- where a reader stands that has answered no fault
-abbrev pub StandsAt : Bool → Mode → ℕ → List ℕ → Type 0
-StandsAt true at done held = Stands at (take done held) (drop done held)
-StandsAt false at done held = Stood at (take done held) (drop done held)
+abbrev pub StandsAt : Dialect → Bool → Mode → ℕ → List ℕ → Type 0
+StandsAt dialect true at done held = Stands dialect at (take done held) (drop done held)
+StandsAt dialect false at done held = Stood dialect at (take done held) (drop done held)
 
-pub record Standing (looked : Bool) (at : Mode) (done : ℕ) (held : List ℕ) : Type 0 where
+pub record Standing (dialect : Dialect) (looked : Bool) (at : Mode) (done : ℕ) (held : List ℕ) : Type 0 where
   pub fits : done ≤ length held
-  pub short : looked ≡ true → length held ≤ 1048576
-  pub stands : StandsAt looked at done held
+  pub short : looked ≡ true → length held ≤ unit_max
+  pub stands : StandsAt dialect looked at done held
 
 module _ (dialect : Dialect) (held rest : List ℕ) (place n : ℕ) (thing : Item) (h : Surely dialect held (Whole thing n)) (some : 0 < n) (fits : n ≤ length held) (r : drop n held ≡ rest) where
   pub gives_whole : (x : List ℕ) → reads dialect place (held ++ x) ≡ followed (Some (read_at place thing n)) (reads dialect (counted (place + n)) (rest ++ x))
@@ -70,48 +72,48 @@ stops_always dialect held place kind h some x =
     let more : 0 < length (held ++ x) = rw length-append (omega arith) in reads_faulty dialect place (held ++ x) kind (h x) more
 
 -- at the start of an item
-pub stands_new : (held : List ℕ) → held ≡ [] → Standing true mode.Start 0 held
-stands_new [] h = record { fits = omega arith; short = λ _. omega arith; stands = (refl, nothing_part, refl) }
-stands_new (a ∷ held) h = absurd (cc)
+pub stands_new : (dialect : Dialect) (held : List ℕ) → held ≡ [] → Standing dialect true mode.Start 0 held
+stands_new dialect [] h = record { fits = omega arith; short = λ _. omega arith; stands = (refl, nothing_part, refl) }
+stands_new dialect (a ∷ held) h = absurd (cc)
 
 -- one byte is held, and hasn't been looked at
-pub stands_byte : (held : List ℕ) (b : ℕ) (looked : Bool) → held ≡ b ∷ [] → looked ≡ false → Standing looked mode.Start 0 held
-stands_byte held b true h e = absurd (cc)
-stands_byte held b false h e = record { fits = omega arith; short = λ t. absurd (cc); stands = record { old = []; byte = b; part_is = h; stands = (refl, nothing_part, refl) } }
+pub stands_byte : (dialect : Dialect) (held : List ℕ) (b : ℕ) (looked : Bool) → held ≡ b ∷ [] → looked ≡ false → Standing dialect looked mode.Start 0 held
+stands_byte dialect held b true h e = absurd (cc)
+stands_byte dialect held b false h e = record { fits = omega arith; short = λ t. absurd (cc); stands = record { old = []; byte = b; part_is = h; stands = (refl, nothing_part, refl) } }
 
-pub stands_waits : (dialect : Dialect) (at : Mode) (done : ℕ) (held : List ℕ) → done ≤ length held → Looks dialect at done held seen.Waits → Standing true at done held
+pub stands_waits : (dialect : Dialect) (at : Mode) (done : ℕ) (held : List ℕ) → done ≤ length held → Looks dialect at done held seen.Waits → Standing dialect true at done held
 stands_waits dialect at done held fits h = record { fits = fits; short = λ _. h.1; stands = h.0 }
 
-pub stands_goes : (dialect : Dialect) (at to : Mode) (done size : ℕ) (held : List ℕ) → size ≡ length held → Looks dialect at done held (seen.Goes to) → Standing true to size held
+pub stands_goes : (dialect : Dialect) (at to : Mode) (done size : ℕ) (held : List ℕ) → size ≡ length held → Looks dialect at done held (seen.Goes to) → Standing dialect true to size held
 stands_goes dialect at to done size held e h =
     let all : take size held ≡ held = take_all size held (omega arith) in
     let none : drop size held ≡ [] = rw e (drop-length held) in
     record { fits = omega arith; short = λ _. h.1; stands = rw (all, none) h.0 }
 
-pub stands_pushed : (at : Mode) (done b : ℕ) (held after : List ℕ) (looked : Bool) → after ≡ held ++ b ∷ [] → looked ≡ true → Standing looked at done held → Standing false at done after
-stands_pushed at done b held after false a e h = absurd (cc)
-stands_pushed at done b held after true a e h =
+pub stands_pushed : (dialect : Dialect) (at : Mode) (done b : ℕ) (held after : List ℕ) (looked : Bool) → after ≡ held ++ b ∷ [] → looked ≡ true → Standing dialect looked at done held → Standing dialect false at done after
+stands_pushed dialect at done b held after false a e h = absurd (cc)
+stands_pushed dialect at done b held after true a e h =
     let f = h.fits in
     let front : take done after ≡ take done held = rw a (take-append-le done held (b ∷ []) f) in
     let back : drop done after ≡ drop done held ++ b ∷ [] = rw a (drop-append-le done held (b ∷ []) f) in
     let len : length after ≡ length held + 1 = rw (a, length-append) refl in
     record { fits = omega (arith, f, len); short = λ t. absurd (cc); stands = record { old = drop done held; byte = b; part_is = back; stands = rw front h.stands } }
 
-pub not_looked : (looked : Bool) (at : Mode) (done : ℕ) (held : List ℕ) → looked ≡ false → StandsAt looked at done held → Stood at (take done held) (drop done held)
-not_looked true at done held e h = absurd (cc)
-not_looked false at done held e h = h
+pub not_looked : (dialect : Dialect) (looked : Bool) (at : Mode) (done : ℕ) (held : List ℕ) → looked ≡ false → StandsAt dialect looked at done held → Stood dialect at (take done held) (drop done held)
+not_looked dialect true at done held e h = absurd (cc)
+not_looked dialect false at done held e h = h
 
-pub some_held : (at : Mode) (held : List ℕ) (done : ℕ) → Stood at (take done held) (drop done held) → 0 < length held
-some_held at held done h = let k = some_stood at (take done held) (drop done held) h in let l = length-drop done held in omega (arith, k, l)
+pub some_held : (dialect : Dialect) (at : Mode) (held : List ℕ) (done : ℕ) → Stood dialect at (take done held) (drop done held) → 0 < length held
+some_held dialect at held done h = let k = some_stood dialect at (take done held) (drop done held) h in let l = length-drop done held in omega (arith, k, l)
 
 module _ (now : Begun) (dialect : Dialect) (held : List ℕ) (place done : ℕ) (looked : Bool) (fault : Option StreamFault)
-    (view : record { dialect = dialect; held = held; place = place; looked = looked; fault = fault } ≡ now) (fits : done ≤ length held) (at : Mode) (stood : Stood at (take done held) (drop done held)) where
+    (view : record { dialect = dialect; held = held; place = place; looked = looked; fault = fault } ≡ now) (fits : done ≤ length held) (at : Mode) (stood : Stood dialect at (take done held) (drop done held)) where
   pub plain_given : (c : Character) → Looks dialect at done held (seen.Plain c) →
       (size newplace : ℕ) (after : List ℕ) (looks : Bool) → size ≡ length held → after ≡ [] → newplace ≡ counted (place + size) →
       Gives now (Some (record { item = item.Plain c; place = place; size = size })) (record { dialect = dialect; held = after; place = newplace; looked = looks; fault = fault })
   plain_given c h size newplace after looks l a p =
       record {
-        reads_on = λ x. rw (← view, a, p, l) (gives_whole dialect held [] place (length held) (item.Plain c) h.0 (some_held at held done stood) (omega arith) (drop-length held) x);
+        reads_on = λ x. rw (← view, a, p, l) (gives_whole dialect held [] place (length held) (item.Plain c) h.0 (some_held dialect at held done stood) (omega arith) (drop-length held) x);
         bytes = rw (← view, a, l) (omega arith);
       }
 
@@ -119,8 +121,25 @@ module _ (now : Begun) (dialect : Dialect) (held : List ℕ) (place done : ℕ) 
   plain_read c h size l = record {
     text = held;
     whole = rw (← view, l) (rw append-nil at (h.0 []));
-    some = let k = some_held at held done stood in omega (arith, k, l);
+    some = let k = some_held dialect at held done stood in omega (arith, k, l);
     short = omega (arith, h.1, l);
+  }
+
+  pub unit_given : (words : List (List Symbol)) → Surely dialect held (Whole (item.Unit words) (length held)) →
+      (size newplace : ℕ) (after : List ℕ) (looks : Bool) → size ≡ length held → after ≡ [] → newplace ≡ counted (place + size) →
+      Gives now (Some (record { item = item.Unit words; place = place; size = size })) (record { dialect = dialect; held = after; place = newplace; looked = looks; fault = fault })
+  unit_given words h size newplace after looks l a p =
+      record {
+        reads_on = λ x. rw (← view, a, p, l) (gives_whole dialect held [] place (length held) (item.Unit words) h (some_held dialect at held done stood) (omega arith) (drop-length held) x);
+        bytes = rw (← view, a, l) (omega arith);
+      }
+
+  pub unit_read : (words : List (List Symbol)) → Surely dialect held (Whole (item.Unit words) (length held)) → length held ≤ unit_max → (size : ℕ) → size ≡ length held → IsRead now.dialect (record { item = item.Unit words; place = place; size = size })
+  unit_read words h few size l = record {
+    text = held;
+    whole = rw (← view, l) (rw append-nil at (h []));
+    some = let k = some_held dialect at held done stood in omega (arith, k, l);
+    short = omega (arith, few, l);
   }
 
   front_is : length (take done held) ≡ done
@@ -149,7 +168,7 @@ module _ (now : Begun) (dialect : Dialect) (held : List ℕ) (place done : ℕ) 
       }
 
   pub bad_shown : (kind : Kind) → Surely dialect held (Faulty kind) → (x : List ℕ) → reads dialect place (held ++ x) ≡ stopped (fault_at kind place)
-  bad_shown kind h x = stops_always dialect held place kind h (some_held at held done stood) x
+  bad_shown kind h x = stops_always dialect held place kind h (some_held dialect at held done stood) x
 
 -- a reader shows a fault: it holds what it held and some of the piece, up to the byte that shows the fault, and however the
 -- text goes on, no item comes before the fault
@@ -188,14 +207,14 @@ ends_from old mid new item d p h e = record { reads_end = rw (← p, ← h, ← 
 pub ends_gives : (old new : Begun) (item : Option Read) → Gives old item new → Ends old item new
 ends_gives old new item g = record { reads_end = simp append-nil at (g.reads_on []); bytes = g.bytes }
 
-pub stands_looked : (looked : Bool) (at : Mode) (done : ℕ) (held : List ℕ) → looked ≡ true → Standing looked at done held → Stands at (take done held) (drop done held) × (length held ≤ 1048576)
-stands_looked true at done held e h = (h.stands, h.short refl)
-stands_looked false at done held e h = absurd (cc)
+pub stands_looked : (dialect : Dialect) (looked : Bool) (at : Mode) (done : ℕ) (held : List ℕ) → looked ≡ true → Standing dialect looked at done held → Stands dialect at (take done held) (drop done held) × (length held ≤ unit_max)
+stands_looked dialect true at done held e h = (h.stands, h.short refl)
+stands_looked dialect false at done held e h = absurd (cc)
 
 -- where the text ends
-module _ (dialect : Dialect) (held : List ℕ) (place done : ℕ) (at : Mode) (h : Stands at (take done held) (drop done held)) (short : length held ≤ 1048576) (some : 0 < length held) where
-  at_front : limited unit_max dialect held ≡ Needs
-  at_front = limited_within unit_max dialect held (rw unit_max_is short) ∙ (begun_at dialect held done at h some).needs
+module _ (dialect : Dialect) (held : List ℕ) (place done : ℕ) (at : Mode) (h : Stands dialect at (take done held) (drop done held)) (short : length held ≤ unit_max) (some : 0 < length held) where
+  at_front : limited item_max dialect held ≡ Needs
+  at_front = limited_within item_max dialect held (rw item_max_is short) ∙ (begun_at dialect held done at h some).needs
 
   pub last_broken : at_blank at ≡ false → reads dialect place held ≡ stopped (Malformed Unfinished place)
   last_broken e = reads_needs dialect place held at_front some ∙ rw ((begun_at dialect held done at h some).broken_is e) refl
@@ -211,32 +230,32 @@ module _ (dialect : Dialect) (held : List ℕ) (place done : ℕ) (at : Mode) (h
   -- a letter would end the blank
   pub last_read : (at_blank at ≡ true) → (bytes : List ℕ) (size : ℕ) → bytes ≡ held → size ≡ length held → IsRead dialect (record { item = item.Blank bytes; place = place; size = size })
   last_read e bytes size t l =
-      let on : InBlank held = in_blank held done at h e in
+      let on : InBlank held = in_blank dialect held done at h e in
       record {
         text = held ++ 97 ∷ [];
-        whole = rw (t, l) (rw append-nil at (limited_ends unit_max dialect held (rw unit_max_is short) on));
+        whole = rw (t, l) (rw append-nil at (limited_ends item_max dialect held (rw item_max_is short) on));
         some = omega (arith, some, l);
         short = omega (arith, short, l);
       }
 
-pub can_go_on : (dialect : Dialect) (looked : Bool) (at : Mode) (done : ℕ) (held : List ℕ) → looked ≡ true → Standing looked at done held → limited unit_max dialect held ≡ Needs
-can_go_on dialect looked at done [] e h = limited_within unit_max dialect [] (omega arith) ∙ first_nil dialect
-can_go_on dialect looked at done (b ∷ bs) e h = let s = stands_looked looked at done (b ∷ bs) e h in at_front dialect (b ∷ bs) 0 done at s.0 s.1 (omega arith)
+pub can_go_on : (dialect : Dialect) (looked : Bool) (at : Mode) (done : ℕ) (held : List ℕ) → looked ≡ true → Standing dialect looked at done held → limited item_max dialect held ≡ Needs
+can_go_on dialect looked at done [] e h = limited_within item_max dialect [] (omega arith) ∙ first_nil dialect
+can_go_on dialect looked at done (b ∷ bs) e h = let s = stands_looked dialect looked at done (b ∷ bs) e h in at_front dialect (b ∷ bs) 0 done at s.0 s.1 (omega arith)
 
 -- some of a piece was fed, and then more of it
 pub fed_more : (front held after piece : List ℕ) (used n : ℕ) → held ≡ front ++ take used piece → after ≡ held ++ take n (take (length piece - used) (drop used piece)) → after ≡ front ++ take (used + n) piece
 fed_more front held after piece used n h a = rw (a, h, take_rest piece used, append_assoc, take-add used n piece) refl
 
-needs_all : (dialect : Dialect) (at : Mode) (front old held : List ℕ) → front ++ old ≡ held → Stands at front old → first dialect held ≡ Needs
+needs_all : (dialect : Dialect) (at : Mode) (front old held : List ℕ) → front ++ old ≡ held → Stands dialect at front old → first dialect held ≡ Needs
 needs_all dialect at front old [] e h = first_nil dialect
 needs_all dialect at front old (b ∷ bs) e h =
     let len : length (front ++ old) ≡ length (b ∷ bs) = ap length e in
     ap (first dialect) (sym e) ∙ (begun dialect at front old h (omega (arith, len))).needs
 
-pub needed_before : (dialect : Dialect) (at : Mode) (done : ℕ) (held : List ℕ) → Stood at (take done held) (drop done held) → length held ≤ 1048577 → limited unit_max dialect (take (length held - 1) held) ≡ Needs
+pub needed_before : (dialect : Dialect) (at : Mode) (done : ℕ) (held : List ℕ) → Stood dialect at (take done held) (drop done held) → length held ≤ begun_max → limited item_max dialect (take (length held - 1) held) ≡ Needs
 needed_before dialect at done held h short =
     let is : held ≡ (take done held ++ h.old) ++ h.byte ∷ [] = sym (take-append-drop done held) ∙ ap (λ q. take done held ++ q) h.part_is ∙ sym (append_assoc (take done held) h.old (h.byte ∷ [])) in
     let len : length held ≡ length (take done held ++ h.old) + 1 = ap length is ∙ length-append (take done held ++ h.old) (h.byte ∷ []) in
     let cut : take (length held - 1) held ≡ take done held ++ h.old = ap (take (length held - 1)) is ∙ ap (λ n. take n ((take done held ++ h.old) ++ h.byte ∷ [])) (omega (arith, len)) ∙ take-append_seam (take done held ++ h.old) (h.byte ∷ []) in
-    let few : length (take done held ++ h.old) ≤ unit_max = rw unit_max_is (omega (arith, len, short)) in
-    ap (limited unit_max dialect) cut ∙ limited_within unit_max dialect (take done held ++ h.old) few ∙ needs_all dialect at (take done held) h.old (take done held ++ h.old) refl h.stands
+    let few : length (take done held ++ h.old) ≤ item_max = rw item_max_is (omega (arith, len, short)) in
+    ap (limited item_max dialect) cut ∙ limited_within item_max dialect (take done held ++ h.old) few ∙ needs_all dialect at (take done held) h.old (take done held ++ h.old) refl h.stands

@@ -1,9 +1,13 @@
+pub mod Limits
 pub mod Piped
 pub mod Dialects
 pub mod Chars
 pub mod Seen
 pub mod Blanks
+pub mod Units
 pub mod Reading
+pub mod Signs
+pub mod InUnits
 pub mod Stands
 pub mod Step
 pub mod AtEnd
@@ -18,4 +22,6 @@ pub mod Spelling
 pub mod Supers
 pub mod Crossing
 pub mod Tried
+pub mod Each
 pub mod Moving
+pub mod Laws

@@ -5,6 +5,8 @@ use Rattle.std.proofs.lemmas.List.{append-nil, take-append-le, take-append-drop,
 use Rattle.std.proofs.lemmas.Bool.Decides.{nat_tests}
 use Rattle.std.proofs.lemmas.Bool.{cases_lt}
 use Rattle.std.proofs.Math.Seq.{take-append-add, take-append_seam}
+use Rattle.ap_stream.specs.Limits.{begun_max, item_max, item_max_is, unit_max}
+use Rattle.ap_symbol.specs.declared.symbol.Symbol.{Symbol}
 use Rattle.ap_stream.specs.declared.dialect.Dialect.{Dialect}
 use Rattle.ap_stream.specs.declared.fault.LimitKind.TheVariants.{ItemTooLong}
 use Rattle.ap_stream.specs.declared.fault.MalformedKind.TheVariants.{Unfinished}
@@ -13,9 +15,10 @@ use Rattle.ap_stream.specs.declared.item.Item.TheVariants as item
 use Rattle.ap_stream.specs.declared.examine.Mode.{Mode}
 use Rattle.ap_stream.specs.declared.examine.Seen.{Seen}
 use Rattle.ap_stream.specs.declared.examine.Seen.TheVariants as seen
-use Rattle.ap_stream.specs.Reading.{First, Needs, Whole, Faulty, Kind, Bad, Past, first, limited, past, at_limit, unit_max, unit_max_is, plain}
+use Rattle.ap_stream.specs.Reading.{First, Needs, Whole, Faulty, Kind, Bad, Past, first, limited, past, at_limit, plain}
 use Rattle.ap_stream.specs.Stands.{Stands, Always, InBlank, blank_ends}
 use Rattle.ap_stream.specs.Step.{Stood, Sees}
+use Rattle.ap_stream.specs.InUnits.{UnitOf, unit_always}
 use Rattle.ap_stream.specs.AtEnd.{Begins, begun, begun_blank}
 
 abbrev pub IsDecided : First → Type 0
@@ -58,70 +61,80 @@ limited_past most dialect held l h x =
 
 -- however the text goes on, this is the item at its front within the limit
 abbrev pub Surely : Dialect → List ℕ → First → Type 0
-Surely dialect held f = (x : List ℕ) → limited unit_max dialect (held ++ x) ≡ f
+Surely dialect held f = (x : List ℕ) → limited item_max dialect (held ++ x) ≡ f
 
 -- what is made of one more byte, with the limit
 abbrev pub Looks : Dialect → Mode → ℕ → List ℕ → Seen → Type 0
-Looks dialect at done held seen.Waits = Stands at (take done held) (drop done held) × (length held ≤ 1048576)
-Looks dialect at done held (seen.Goes to) = Stands to held [] × (length held ≤ 1048576)
-Looks dialect at done held (seen.Plain c) = Surely dialect held (Whole (plain c.letter c.escaped) (length held)) × (length held ≤ 1048576)
-Looks dialect at done held seen.BlankEnds = (0 < length (take done held)) × (drop done held ≡ get_or (drop done held) 0 0 ∷ []) × Surely dialect held (Whole (item.Blank (take done held)) (length (take done held))) × (length (take done held) ≤ 1048576)
+Looks dialect at done held seen.Waits = Stands dialect at (take done held) (drop done held) × (length held ≤ unit_max)
+Looks dialect at done held (seen.Goes to) = Stands dialect to held [] × (length held ≤ unit_max)
+Looks dialect at done held (seen.Plain c) = Surely dialect held (Whole (plain c.letter c.escaped) (length held)) × (length held ≤ unit_max)
+Looks dialect at done held seen.BlankEnds = (0 < length (take done held)) × (drop done held ≡ get_or (drop done held) 0 0 ∷ []) × Surely dialect held (Whole (item.Blank (take done held)) (length (take done held))) × (length (take done held) ≤ unit_max)
+Looks dialect at done held seen.UnitEnds = (words : List (List Symbol)) × UnitOf dialect held words × (length held ≤ unit_max)
 Looks dialect at done held (seen.Bad kind) = Surely dialect held (Faulty (Bad kind)) × (kind ≢ Unfinished)
 Looks dialect at done held seen.TooLong = Surely dialect held (Faulty (Past ItemTooLong))
+
+-- a unit within the limit
+pub unit_surely : (dialect : Dialect) (held : List ℕ) (words : List (List Symbol)) → length held ≤ unit_max → UnitOf dialect held words → Surely dialect held (Whole (item.Unit words) (length held))
+unit_surely dialect held words fits h = limited_decided item_max dialect held (Whole (item.Unit words) (length held)) (rw item_max_is fits) (unit_always dialect held words h) tt
 
 module _ (dialect : Dialect) (at : Mode) (done : ℕ) (held : List ℕ) where
   whole : (f : First) → Always dialect (take done held ++ drop done held) f → Always dialect held f
   whole f h = rw (take-append-drop done held) at h
 
-  surely : (f : First) → length held ≤ 1048576 → Always dialect (take done held ++ drop done held) f → IsDecided f → Surely dialect held f
-  surely f fits h d = limited_decided unit_max dialect held f (rw unit_max_is fits) (whole f h) d
+  surely : (f : First) → length held ≤ unit_max → Always dialect (take done held ++ drop done held) f → IsDecided f → Surely dialect held f
+  surely f fits h d = limited_decided item_max dialect held f (rw item_max_is fits) (whole f h) d
 
   front_short : (drop done held ≡ get_or (drop done held) 0 0 ∷ []) → length held ≡ length (take done held) + 1
   front_short h = ap length (sym (take-append-drop done held)) ∙ length-append (take done held) (drop done held) ∙ ap (λ n. length (take done held) + n) (ap length h)
 
-  pub looks_short : (s : Seen) → length held ≤ 1048576 → Sees dialect at (take done held) (drop done held) s → Looks dialect at done held s
+  pub looks_short : (s : Seen) → length held ≤ unit_max → Sees dialect at (take done held) (drop done held) s → Looks dialect at done held s
   looks_short seen.Waits fits h = (h, fits)
-  looks_short (seen.Goes to) fits h = (let P : List ℕ → Type 0 = λ q. Stands to q [] in subst P (take-append-drop done held) h, fits)
+  looks_short (seen.Goes to) fits h = (let P : List ℕ → Type 0 = λ q. Stands dialect to q [] in subst P (take-append-drop done held) h, fits)
   looks_short (seen.Plain c) fits h = (let l = surely (Whole (plain c.letter c.escaped) (length (take done held ++ drop done held))) fits h tt in rw (take-append-drop done held) at l, fits)
   looks_short seen.BlankEnds fits h = (h.0, h.1, surely (Whole (item.Blank (take done held)) (length (take done held))) fits h.2 tt, omega (arith, front_short h.1))
+  looks_short seen.UnitEnds fits h = (h.0, subst (λ (q : List ℕ). UnitOf dialect q h.0) (take-append-drop done held) h.1, fits)
   looks_short (seen.Bad kind) fits h = (surely (Faulty (Bad kind)) fits h.0 tt, h.1)
   looks_short seen.TooLong fits h = absurd h
 
   -- before the byte past the limit, more was needed
-  pub needs_before : Stood at (take done held) (drop done held) → length held ≡ 1048577 → first dialect (take unit_max held) ≡ Needs
+  pub needs_before : Stood dialect at (take done held) (drop done held) → length held ≡ begun_max → first dialect (take item_max held) ≡ Needs
   needs_before h l =
       let old : List ℕ = take done held ++ h.old in
       let is : held ≡ old ++ h.byte ∷ [] = sym (take-append-drop done held) ∙ ap (λ q. take done held ++ q) h.part_is ∙ sym (append_assoc (take done held) h.old (h.byte ∷ [])) in
-      let len : length old ≡ 1048576 = let m = ap length is ∙ length-append old (h.byte ∷ []) in omega (arith, m, l) in
-      let cut : take unit_max held ≡ old = ap (take unit_max) is ∙ ap (λ n. take n (old ++ h.byte ∷ [])) (unit_max_is ∙ sym len) ∙ take-append_seam old (h.byte ∷ []) in
+      let len : length old ≡ unit_max = let m = ap length is ∙ length-append old (h.byte ∷ []) in omega (arith, m, l) in
+      let cut : take item_max held ≡ old = ap (take item_max) is ∙ ap (λ n. take n (old ++ h.byte ∷ [])) (item_max_is ∙ sym len) ∙ take-append_seam old (h.byte ∷ []) in
       ap (first dialect) cut ∙ (begun dialect at (take done held) h.old h.stands (omega (arith, len))).needs
 
-  past_all : Stood at (take done held) (drop done held) → length held ≡ 1048577 → (f : First) → first dialect held ≡ f → Surely dialect held (at_limit unit_max f)
-  past_all h l f e x = limited_past unit_max dialect held (l ∙ ap suc (sym unit_max_is)) (needs_before h l) x ∙ ap (at_limit unit_max) e
+  past_all : Stood dialect at (take done held) (drop done held) → length held ≡ begun_max → (f : First) → first dialect held ≡ f → Surely dialect held (at_limit item_max f)
+  past_all h l f e x = limited_past item_max dialect held (l ∙ ap suc (sym item_max_is)) (needs_before h l) x ∙ ap (at_limit item_max) e
 
   all_now : (f : First) → Always dialect (take done held ++ drop done held) f → first dialect held ≡ f
   all_now f h = rw append-nil at (whole f h [])
 
-  pub looks_blank : Stood at (take done held) (drop done held) → length held ≡ 1048577 → Sees dialect at (take done held) (drop done held) seen.BlankEnds → Looks dialect at done held seen.BlankEnds
+  pub looks_blank : Stood dialect at (take done held) (drop done held) → length held ≡ begun_max → Sees dialect at (take done held) (drop done held) seen.BlankEnds → Looks dialect at done held seen.BlankEnds
   looks_blank h l s =
-      let n : length (take done held) ≡ 1048576 = omega (arith, front_short s.1, l) in
-      let fine : leb (length (take done held)) unit_max ≡ true = rw (unit_max_is, n) refl in
+      let n : length (take done held) ≡ unit_max = omega (arith, front_short s.1, l) in
+      let fine : leb (length (take done held)) item_max ≡ true = rw (item_max_is, n) refl in
       (s.0, s.1, λ x. past_all h l (Whole (item.Blank (take done held)) (length (take done held))) (all_now (Whole (item.Blank (take done held)) (length (take done held))) s.2) x ∙ rw fine refl, omega (arith, n))
 
-  needs_all : (to : Mode) (front part : List ℕ) → front ++ part ≡ held → Stands to front part → length held ≡ 1048577 → first dialect held ≡ Needs
+  needs_all : (to : Mode) (front part : List ℕ) → front ++ part ≡ held → Stands dialect to front part → length held ≡ begun_max → first dialect held ≡ Needs
   needs_all to front part e h l =
-      let len : length (front ++ part) ≡ 1048577 = ap length e ∙ l in
+      let len : length (front ++ part) ≡ begun_max = ap length e ∙ l in
       let k : first dialect (front ++ part) ≡ Needs = (begun dialect to front part h (omega (arith, len))).needs in
       ap (first dialect) (sym e) ∙ k
 
-  pub looks_long : (s : Seen) → s ≢ seen.BlankEnds → Stood at (take done held) (drop done held) → length held ≡ 1048577 → Sees dialect at (take done held) (drop done held) s → Looks dialect at done held seen.TooLong
+  pub looks_long : (s : Seen) → s ≢ seen.BlankEnds → Stood dialect at (take done held) (drop done held) → length held ≡ begun_max → Sees dialect at (take done held) (drop done held) s → Looks dialect at done held seen.TooLong
   looks_long seen.Waits differs h l s = past_all h l Needs (needs_all at (take done held) (drop done held) (take-append-drop done held) s l)
   looks_long (seen.Goes to) differs h l s = past_all h l Needs (needs_all to (take done held ++ drop done held) [] (append-nil _ ∙ take-append-drop done held) s l)
   looks_long (seen.Plain c) differs h l s =
-      let n : length (take done held ++ drop done held) ≡ 1048577 = ap length (take-append-drop done held) ∙ l in
+      let n : length (take done held ++ drop done held) ≡ begun_max = ap length (take-append-drop done held) ∙ l in
       let f : First = Whole (plain c.letter c.escaped) (length (take done held ++ drop done held)) in
-      let long : leb (length (take done held ++ drop done held)) unit_max ≡ false = rw (unit_max_is, n) refl in
+      let long : leb (length (take done held ++ drop done held)) item_max ≡ false = rw (item_max_is, n) refl in
       λ x. past_all h l (Whole (plain c.letter c.escaped) (length (take done held ++ drop done held))) (all_now (Whole (plain c.letter c.escaped) (length (take done held ++ drop done held))) s) x ∙ rw long refl
+  looks_long seen.UnitEnds differs h l s =
+      let n : length (take done held ++ drop done held) ≡ begun_max = ap length (take-append-drop done held) ∙ l in
+      let long : leb (length (take done held ++ drop done held)) item_max ≡ false = rw (item_max_is, n) refl in
+      λ x. past_all h l (Whole (item.Unit s.0) (length (take done held ++ drop done held))) (all_now (Whole (item.Unit s.0) (length (take done held ++ drop done held))) (unit_always dialect (take done held ++ drop done held) s.0 s.1)) x ∙ rw long refl
   looks_long seen.BlankEnds differs h l s = absurd (differs refl)
   looks_long (seen.Bad kind) differs h l s = past_all h l (Faulty (Bad kind)) (all_now (Faulty (Bad kind)) s.0)
   looks_long seen.TooLong differs h l s = absurd s

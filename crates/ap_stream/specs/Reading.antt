@@ -1,7 +1,8 @@
 -- The items of a text, and what stops it, by the Apertium stream format. A text is cut item by item. Places and sizes
--- are in bytes. Units and chunks aren't among the items yet: this is the whole of reading in a dialect that has none.
-use Rattle.std.specs.Prelude.{◌≡◌, ◌≢◌, ℕ, zero, suc, ◌+◌, ◌-◌, ◌^◌, ◌<◌, ◌≤◌, pred, min, List, [], ◌∷◌, ◌++◌, drop, take, length, Option, Some, None, Bool, true, false, cond, eqb, leb, ◌||◌, refl}
+-- are in bytes. Chunks aren't among the items yet: this is the whole of reading in a dialect that has none.
+use Rattle.std.specs.Prelude.{◌≡◌, ◌≢◌, ℕ, zero, suc, ◌+◌, ◌-◌, ◌^◌, ◌<◌, ◌≤◌, pred, min, List, [], ◌∷◌, ◌++◌, drop, take, length, Option, Some, None, Bool, true, false, cond, eqb, leb, ◌||◌, ◌&&◌, refl}
 use Rattle.std.proofs.Common.{arith, ap, sym, ◌∙◌}
+use Rattle.ap_stream.specs.Limits.{item_max, unit_max}
 use Rattle.ap_stream.specs.declared.dialect.Dialect.{Dialect}
 use Rattle.ap_stream.specs.declared.fault.StreamFault.{StreamFault}
 use Rattle.ap_stream.specs.declared.fault.StreamFault.TheVariants.{Malformed, Limit}
@@ -12,9 +13,10 @@ use Rattle.ap_stream.specs.declared.fault.LimitKind.TheVariants.{ItemTooLong}
 use Rattle.ap_stream.specs.declared.item.Item.{Item}
 use Rattle.ap_stream.specs.declared.item.Item.TheVariants as item
 use Rattle.ap_stream.specs.declared.item.Read.{Read}
-use Rattle.ap_stream.specs.Dialects.{is_refused}
+use Rattle.ap_stream.specs.Dialects.{is_refused, has_words}
 use Rattle.ap_stream.specs.Chars.{Front, Part, NotChar, Char, char_at}
 use Rattle.ap_stream.specs.Blanks.{Run, Open, Inside, BadChar, Done, blank, is_white}
+use Rattle.ap_stream.specs.Units.{Rest, Lacks, Wrong, Ends, rest, form_of}
 
 -- the items of a text, and what stops it
 pub record Reads : Type 0 where
@@ -66,10 +68,20 @@ of_char dialect Part = Needs
 of_char dialect NotChar = Faulty (Bad NotUtf8)
 of_char dialect (Char c n) = cond (is_refused dialect c) (Faulty (Bad Stray)) (Whole (plain c false) n)
 
--- the item at the front: a blank where a blank begins, and else an escaped or a bare character
+-- behind ^ a unit goes on to its $
+abbrev pub of_unit : Rest → First
+of_unit Lacks = Needs
+of_unit (Wrong kind) = Faulty (Bad kind)
+of_unit (Ends words n) = Whole (item.Unit words) (1 + n)
+
+abbrev pub begins_unit : Dialect → ℕ → Bool
+begins_unit dialect b = has_words dialect && eqb b 94
+
+-- the item at the front: a blank where a blank begins, a unit where a unit begins, and else an escaped or a bare character
 unfoldable pub first : Dialect → List ℕ → First
 first dialect [] = Needs
-first dialect (b ∷ bs) = cond (begins_blank b) (of_run (b ∷ bs) (blank 0 (b ∷ bs))) (cond (eqb b 92) (of_escaped (char_at bs)) (of_char dialect (char_at (b ∷ bs))))
+first dialect (b ∷ bs) = cond (begins_blank b) (of_run (b ∷ bs) (blank 0 (b ∷ bs))) (cond (eqb b 92) (of_escaped (char_at bs))
+    (cond (begins_unit dialect b) (of_unit (rest (form_of dialect) [] [] 0 bs)) (of_char dialect (char_at (b ∷ bs)))))
 
 abbrev pub last_run : List ℕ → Run → Last
 last_run bytes Open = Complete (item.Blank bytes)
@@ -81,10 +93,6 @@ last_run bytes (Done n) = Broken (Bad Unfinished)
 unfoldable pub last : List ℕ → Last
 last [] = Broken (Bad Unfinished)
 last (b ∷ bs) = cond (begins_blank b) (last_run (b ∷ bs) (blank 0 (b ∷ bs))) (Broken (Bad Unfinished))
-
--- the most bytes of an item
-unfoldable pub unit_max : ℕ
-unit_max = 1048576
 
 -- what one byte more than the limit shows: an item of just so many bytes that this byte ends is whole, and all else is
 -- too long
@@ -138,7 +146,7 @@ walked place bytes (Faulty kind) more = stopped (fault_at kind place)
 unfoldable pub walk : Dialect → ℕ → ℕ → List ℕ → Reads
 walk dialect place skip [] = nothing
 walk dialect place (suc skip) (b ∷ bs) = walk dialect place skip bs
-walk dialect place zero (b ∷ bs) = walked place (b ∷ bs) (limited unit_max dialect (b ∷ bs)) (λ at skip. walk dialect at skip bs)
+walk dialect place zero (b ∷ bs) = walked place (b ∷ bs) (limited item_max dialect (b ∷ bs)) (λ at skip. walk dialect at skip bs)
 
 -- the items of a text whose first byte has this place, and what stops it
 unfoldable pub reads : Dialect → ℕ → List ℕ → Reads
@@ -147,15 +155,11 @@ reads dialect place bytes = walk dialect place 0 bytes
 -- an item as reading gives it: some text begins with it
 pub record IsRead (dialect : Dialect) (read : Read) : Type 0 where
   pub text : List ℕ
-  pub whole : limited unit_max dialect text ≡ Whole read.item read.size
+  pub whole : limited item_max dialect text ≡ Whole read.item read.size
   pub some : 0 < read.size
-  pub short : read.size ≤ 1048576
+  pub short : read.size ≤ unit_max
 
 -- laws
-
-pub unit_max_is : unit_max ≡ 1048576
-unfolding unit_max
-unit_max_is = refl
 
 pub first_nil : (dialect : Dialect) → first dialect [] ≡ Needs
 unfolding first
@@ -172,19 +176,19 @@ unfolding reads walk
 reads_nil dialect place = refl
 
 -- behind a whole item the text goes on
-pub reads_whole : (dialect : Dialect) (place : ℕ) (bs : List ℕ) (thing : Item) (n : ℕ) → limited unit_max dialect bs ≡ Whole thing n → 0 < n → 0 < length bs →
+pub reads_whole : (dialect : Dialect) (place : ℕ) (bs : List ℕ) (thing : Item) (n : ℕ) → limited item_max dialect bs ≡ Whole thing n → 0 < n → 0 < length bs →
     reads dialect place bs ≡ followed (Some (read_at place thing n)) (reads dialect (counted (place + n)) (drop n bs))
 unfolding reads walk
 reads_whole dialect place [] thing n h some more = absurd (omega arith)
 reads_whole dialect place (b ∷ bs) thing zero h some more = absurd (omega arith)
 reads_whole dialect place (b ∷ bs) thing (suc n) h some more = rw h (ap (followed (Some (read_at place thing (suc n)))) (walk_skip dialect (counted (place + suc n)) n bs))
 
-pub reads_faulty : (dialect : Dialect) (place : ℕ) (bs : List ℕ) (kind : Kind) → limited unit_max dialect bs ≡ Faulty kind → 0 < length bs → reads dialect place bs ≡ stopped (fault_at kind place)
+pub reads_faulty : (dialect : Dialect) (place : ℕ) (bs : List ℕ) (kind : Kind) → limited item_max dialect bs ≡ Faulty kind → 0 < length bs → reads dialect place bs ≡ stopped (fault_at kind place)
 unfolding reads walk
 reads_faulty dialect place [] kind h more = absurd (omega arith)
 reads_faulty dialect place (b ∷ bs) kind h more = rw h refl
 
-pub reads_needs : (dialect : Dialect) (place : ℕ) (bs : List ℕ) → limited unit_max dialect bs ≡ Needs → 0 < length bs → reads dialect place bs ≡ at_end place bs (last bs)
+pub reads_needs : (dialect : Dialect) (place : ℕ) (bs : List ℕ) → limited item_max dialect bs ≡ Needs → 0 < length bs → reads dialect place bs ≡ at_end place bs (last bs)
 unfolding reads walk
 reads_needs dialect place [] h more = absurd (omega arith)
 reads_needs dialect place (b ∷ bs) h more = rw h refl

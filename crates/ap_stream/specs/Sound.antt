@@ -1,5 +1,6 @@
 -- What is true of each stage that has answered no fault.
 use Rattle.std.specs.Prelude.{◌≡◌, ◌≢◌, ℕ, ◌+◌, ◌*◌, ◌≤◌, List, [], ◌++◌, length, Bool, true, false, Option, Some, None, cond}
+use Rattle.ap_stream.specs.Limits.{begun_max, stage_max}
 use Rattle.ap_stream.specs.declared.fault.StreamFault.{StreamFault}
 use Rattle.ap_stream.specs.declared.fault.StreamFault.TheVariants.{Malformed}
 use Rattle.ap_stream.specs.declared.fault.MalformedKind.TheVariants.{Unfinished}
@@ -16,8 +17,8 @@ only_stop stop = record { items = []; stop = stop }
 pub record Sound {H : Type 0} (is_finished : H → Bool) (held : H → ℕ) (dialect : H → Dialect) (handler : H) (reader : Begun) (finished : Bool) (stop : Option StreamFault) (ended : Bool) : Type 0 where
   pub agrees : is_finished handler ≡ finished
   pub reads_it : dialect handler ≡ reader.dialect
-  pub bounded : held handler + length reader.held ≤ 5242882
-  pub reader_bounded : length reader.held ≤ 1048577
+  pub bounded : held handler + length reader.held ≤ stage_max
+  pub reader_bounded : length reader.held ≤ begun_max
   pub reading : finished ≡ false → reader.fault ≡ None
   pub unstopped : finished ≡ false → stop ≡ None
   pub at_end : finished ≡ true → reads reader.dialect reader.place reader.held ≡ only_stop stop

@@ -1,15 +1,25 @@
 ghost use Rattle.std.specs.Prelude.{◌≡◌, eqb, length, take, drop, ◌≤◌, ◌+◌};
-ghost use Rattle.ap_stream.specs.Stands.{Stands, blank_first, escape_first};
-ghost use Rattle.ap_stream.specs.Step.{Stood, Sees};
+ghost use Rattle.ap_stream.specs.Stands.{Stands, blank_first, escape_first, unit_first, tag_first};
+ghost use Rattle.ap_stream.specs.Units.{is_barred as barred_test};
+ghost use Rattle.ap_stream.specs.InUnits.{surface_at, several_in, grown_spot};
+ghost use Rattle.ap_stream.specs.Step.{Stood, Sees, slash_seen, dollar_seen, bare_seen, name_seen};
 ghost use Rattle.ap_stream.specs.Limited.{Looks};
 ghost use Rattle.ap_stream.specs.Blanks.{is_white as white_test};
-ghost use Rattle.ap_stream.specs.Dialects.{is_refused as refused_test, is_reserved as reserved_test};
+ghost use Rattle.ap_stream.specs.Dialects.{is_refused as refused_test, is_reserved as reserved_test, has_words as words_test};
 
 use crate::UNIT_MAX;
 use crate::decode::{Decoded, decode};
 use crate::dialect::Dialect;
 use crate::fault::MalformedKind;
 use crate::item::Character;
+use ap_symbol::is_reserved_in_tag;
+
+/// Where in a unit a word stands: whether it is the first, and whether nothing of it is there yet.
+#[derive(Clone, Copy, Debug, PartialEq, Eq)]
+pub(crate) struct Spot {
+    pub first: bool,
+    pub empty: bool,
+}
 
 /// Where in an item the bytes so far end.
 #[derive(Clone, Copy, Debug, PartialEq, Eq)]
@@ -24,6 +34,12 @@ pub(crate) enum Mode {
     Inside,
     /// Within a superblank, behind a backslash.
     InsideEscape,
+    /// Before a symbol of a unit's word, or within a bare character there.
+    Word(Spot),
+    /// Behind a backslash in a unit's word, or within the character there.
+    WordEscape(Spot),
+    /// Within a tag's name, and whether a character of it is there.
+    Tag(Spot, bool),
 }
 
 /// What one more byte shows.
@@ -37,6 +53,8 @@ pub(crate) enum Seen {
     Plain(Character),
     /// The bytes before this one are a whole blank.
     BlankEnds,
+    /// A unit is whole.
+    UnitEnds,
     /// No whole item can follow.
     Bad(MalformedKind),
     /// The item has too many bytes.
@@ -82,7 +100,7 @@ fn is_byte(c: u8, d: u8) -> bool
 }
 
 fn examine_inside(dialect: Dialect, done: &[u8], part: &[u8]) -> Seen
-    requires { Stood Mode.Inside done.now part.now }
+    requires { Stood dialect Mode.Inside done.now part.now }
     ensures { Sees dialect Mode.Inside done.now part.now result }
 {
     match decode(part) {
@@ -101,7 +119,7 @@ fn examine_inside(dialect: Dialect, done: &[u8], part: &[u8]) -> Seen
 }
 
 fn examine_inside_escape(dialect: Dialect, done: &[u8], part: &[u8]) -> Seen
-    requires { Stood Mode.InsideEscape done.now part.now }
+    requires { Stood dialect Mode.InsideEscape done.now part.now }
     ensures { Sees dialect Mode.InsideEscape done.now part.now result }
 {
     match decode(part) {
@@ -112,7 +130,7 @@ fn examine_inside_escape(dialect: Dialect, done: &[u8], part: &[u8]) -> Seen
 }
 
 fn examine_escape(dialect: Dialect, done: &[u8], part: &[u8]) -> Seen
-    requires { Stood Mode.Escape done.now part.now }
+    requires { Stood dialect Mode.Escape done.now part.now }
     ensures { Sees dialect Mode.Escape done.now part.now result }
 {
     match decode(part) {
@@ -143,8 +161,167 @@ fn starts_escape(bytes: &[u8]) -> bool
     }
 }
 
+/// Whether the dialect has units.
+fn has_words(dialect: Dialect) -> bool
+    ensures { result ≡ words_test dialect }
+{
+    matches!(
+        dialect,
+        Dialect::Analysed | Dialect::Lexical | Dialect::Bilingual
+    )
+}
+
+fn starts_unit(dialect: Dialect, bytes: &[u8]) -> bool
+    ensures { result ≡ unit_first dialect bytes.now }
+{
+    match bytes {
+        [] => false,
+        [b, ..] => has_words(dialect) && *b == 94,
+    }
+}
+
+fn starts_tag(surface: bool, bytes: &[u8]) -> bool
+    ensures { result ≡ tag_first surface bytes.now }
+{
+    match bytes {
+        [] => false,
+        [b, ..] => *b == 60 && !surface,
+    }
+}
+
+/// Whether the word is a surface.
+fn is_surface(dialect: Dialect, at: Spot) -> bool
+    ensures { result ≡ surface_at dialect at }
+{
+    matches!(dialect, Dialect::Analysed) && at.first
+}
+
+/// Whether a unit of the dialect has several words.
+fn is_several(dialect: Dialect) -> bool
+    ensures { result ≡ several_in dialect }
+{
+    matches!(dialect, Dialect::Analysed | Dialect::Bilingual)
+}
+
+/// Whether a bare character stands in no word.
+pub(crate) fn is_barred(surface: bool, letter: char) -> bool
+    ensures { result ≡ barred_test surface letter }
+{
+    matches!(letter, '^' | '>' | '{' | '}' | '[' | ']') || surface && matches!(letter, '<' | '@')
+}
+
+/// What a `/` shows.
+fn see_slash(dialect: Dialect, at: Spot) -> Seen
+    ensures { result ≡ slash_seen dialect at }
+{
+    if !is_several(dialect) {
+        return Seen::Bad(MalformedKind::Stray);
+    }
+    if at.first && at.empty {
+        return Seen::Bad(MalformedKind::EmptyWord);
+    }
+    Seen::Goes(Mode::Word(Spot {
+        first: false,
+        empty: true,
+    }))
+}
+
+/// What a `$` shows.
+fn see_dollar(dialect: Dialect, at: Spot) -> Seen
+    ensures { result ≡ dollar_seen dialect at }
+{
+    let missing = if is_several(dialect) {
+        at.first
+    } else {
+        at.empty
+    };
+    if missing {
+        Seen::Bad(MalformedKind::EmptyWord)
+    } else {
+        Seen::UnitEnds
+    }
+}
+
+/// Where the word is once it has one more symbol.
+pub(crate) fn grown(at: Spot) -> Spot
+    ensures { result ≡ grown_spot at }
+{
+    Spot {
+        first: at.first,
+        empty: false,
+    }
+}
+
+/// What a bare character of a word shows.
+fn see_bare(dialect: Dialect, at: Spot, letter: char) -> Seen
+    ensures { result ≡ bare_seen dialect at letter }
+{
+    if letter == '/' {
+        return see_slash(dialect, at);
+    }
+    if letter == '$' {
+        return see_dollar(dialect, at);
+    }
+    if is_barred(is_surface(dialect, at), letter) {
+        return Seen::Bad(MalformedKind::Stray);
+    }
+    Seen::Goes(Mode::Word(grown(at)))
+}
+
+fn examine_word(dialect: Dialect, at: Spot, done: &[u8], part: &[u8]) -> Seen
+    requires { Stood dialect (Mode.Word at) done.now part.now }
+    ensures { Sees dialect (Mode.Word at) done.now part.now result }
+{
+    if starts_escape(part) {
+        return Seen::Goes(Mode::WordEscape(at));
+    }
+    if starts_tag(is_surface(dialect, at), part) {
+        return Seen::Goes(Mode::Tag(at, false));
+    }
+    match decode(part) {
+        Decoded::Part => Seen::Waits,
+        Decoded::NotChar => Seen::Bad(MalformedKind::NotUtf8),
+        Decoded::Char { letter, size: _ } => see_bare(dialect, at, letter),
+    }
+}
+
+fn examine_word_escape(dialect: Dialect, at: Spot, done: &[u8], part: &[u8]) -> Seen
+    requires { Stood dialect (Mode.WordEscape at) done.now part.now }
+    ensures { Sees dialect (Mode.WordEscape at) done.now part.now result }
+{
+    match decode(part) {
+        Decoded::Part => Seen::Waits,
+        Decoded::NotChar => Seen::Bad(MalformedKind::NotUtf8),
+        Decoded::Char { .. } => Seen::Goes(Mode::Word(grown(at))),
+    }
+}
+
+/// What a character of a tag shows.
+fn see_name(at: Spot, some: bool, letter: char) -> Seen
+    ensures { result ≡ name_seen at some letter }
+{
+    if !is_reserved_in_tag(letter) {
+        return Seen::Goes(Mode::Tag(at, true));
+    }
+    if letter == '>' && some {
+        return Seen::Goes(Mode::Word(grown(at)));
+    }
+    Seen::Bad(MalformedKind::BadTag)
+}
+
+fn examine_tag(dialect: Dialect, at: Spot, some: bool, done: &[u8], part: &[u8]) -> Seen
+    requires { Stood dialect (Mode.Tag at some) done.now part.now }
+    ensures { Sees dialect (Mode.Tag at some) done.now part.now result }
+{
+    match decode(part) {
+        Decoded::Part => Seen::Waits,
+        Decoded::NotChar => Seen::Bad(MalformedKind::NotUtf8),
+        Decoded::Char { letter, size: _ } => see_name(at, some, letter),
+    }
+}
+
 fn examine_start(dialect: Dialect, done: &[u8], part: &[u8]) -> Seen
-    requires { Stood Mode.Start done.now part.now }
+    requires { Stood dialect Mode.Start done.now part.now }
     ensures { Sees dialect Mode.Start done.now part.now result }
 {
     if starts_blank(part) {
@@ -156,6 +333,12 @@ fn examine_start(dialect: Dialect, done: &[u8], part: &[u8]) -> Seen
     }
     if starts_escape(part) {
         return Seen::Goes(Mode::Escape);
+    }
+    if starts_unit(dialect, part) {
+        return Seen::Goes(Mode::Word(Spot {
+            first: true,
+            empty: true,
+        }));
     }
     match decode(part) {
         Decoded::Part => Seen::Waits,
@@ -174,7 +357,7 @@ fn examine_start(dialect: Dialect, done: &[u8], part: &[u8]) -> Seen
 }
 
 fn examine_blank(dialect: Dialect, done: &[u8], part: &[u8]) -> Seen
-    requires { Stood Mode.Blank done.now part.now }
+    requires { Stood dialect Mode.Blank done.now part.now }
     ensures { Sees dialect Mode.Blank done.now part.now result }
 {
     let byte = part[0];
@@ -188,7 +371,7 @@ fn examine_blank(dialect: Dialect, done: &[u8], part: &[u8]) -> Seen
 }
 
 fn examine(dialect: Dialect, mode: Mode, done: &[u8], part: &[u8]) -> Seen
-    requires { Stood mode done.now part.now }
+    requires { Stood dialect mode done.now part.now }
     ensures { Sees dialect mode done.now part.now result }
 {
     match mode {
@@ -197,13 +380,16 @@ fn examine(dialect: Dialect, mode: Mode, done: &[u8], part: &[u8]) -> Seen
         Mode::Blank => examine_blank(dialect, done, part),
         Mode::Inside => examine_inside(dialect, done, part),
         Mode::InsideEscape => examine_inside_escape(dialect, done, part),
+        Mode::Word(at) => examine_word(dialect, at, done, part),
+        Mode::WordEscape(at) => examine_word_escape(dialect, at, done, part),
+        Mode::Tag(at, some) => examine_tag(dialect, at, some, done, part),
     }
 }
 
 /// What the last byte shows, where so many bytes are behind.
 pub(crate) fn look(dialect: Dialect, mode: Mode, done: usize, held: &[u8]) -> Seen
     requires fits { done ≤ length held.now }
-    requires stood { Stood mode (take done held.now) (drop done held.now) }
+    requires stood { Stood dialect mode (take done held.now) (drop done held.now) }
     requires short { length held.now ≤ UNIT_MAX + 1 }
     ensures { Looks dialect mode done held.now result }
 {

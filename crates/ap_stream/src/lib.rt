@@ -5,23 +5,29 @@ mod blank;
 mod crossing;
 mod decode;
 mod dialect;
+mod each;
 mod examine;
 mod fault;
 mod handler;
 mod item;
+mod laws;
+mod names;
 mod pipe;
 mod reader;
 mod stage;
 mod staged;
 mod supers;
 mod unit;
+mod words;
 mod write;
 
 pub use blank::Blank;
 pub use dialect::Dialect;
+pub use each::{Each, UnitWriter};
 pub use fault::{LimitKind, MalformedKind, StageFault, StreamFault};
 pub use handler::{Handler, Turn};
 pub use item::{Character, Chunk, Content, Inner, Item, Read};
+pub use laws::{limits, units_are_words, units_read_back, words_are_spelt};
 pub use pipe::Pipe;
 pub use reader::{Fed, Reader};
 pub use stage::{Finish, Stage};
@@ -31,10 +37,10 @@ pub use unit::Unit;
 pub use write::write_item;
 
 /// The most bytes that one unit, blank or chunk of a stream may have.
-pub const UNIT_MAX: usize = 1_048_576;
+pub const UNIT_MAX: usize = 4_194_304;
 
 /// The most bytes of input that are held for one match, and the most bytes that one rule gives.
-pub const SPAN_MAX: usize = 4_194_304;
+pub const SPAN_MAX: usize = 16_777_216;
 
 /// The most bytes that one pipe may hold.
 pub const ROOM_MAX: usize = 1_048_576;

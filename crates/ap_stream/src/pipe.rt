@@ -16,13 +16,14 @@ pub struct Pipe {
 
 impl Model for Pipe {
     ghost use Rattle.std.specs.Prelude.{ℕ, List, ◌≤◌, ◌+◌, ◌*◌, ◌-◌, ◌≡◌, length, drop, vec_capacity, vec_len};
+    ghost use Rattle.ap_stream.specs.Limits.{room_max};
     ghost use Rattle.ap_stream.specs.Piped.{Piped};
 
     ghost Value = { Piped };
 
     ghost view = { λ p. record { bytes = drop p.from p.bytes.items; room = p.room } };
 
-    ghost invariant = { λ p. (p.from ≤ vec_len p.bytes) × (vec_len p.bytes ≤ p.room + p.from) × (2 * p.room ≤ vec_capacity p.bytes) × (p.room ≤ 1048576) };
+    ghost invariant = { λ p. (p.from ≤ vec_len p.bytes) × (vec_len p.bytes ≤ p.room + p.from) × (2 * p.room ≤ vec_capacity p.bytes) × (p.room ≤ room_max) };
 }
 
 /// Drops the first bytes.

@@ -2,16 +2,18 @@ ghost use Rattle.std.specs.Prelude.{◌≡◌, ◌≢◌, ℕ, ◌+◌, ◌-◌,
 ghost use Rattle.ap_stream.specs.Given.{Gives, Stopped, Feeds, Shows, Ends, CanGoOn, NeededMore};
 ghost use Rattle.ap_stream.specs.AtEnd.{at_blank};
 ghost use Rattle.ap_stream.specs.declared.fault.StreamFault.{StreamFault};
-ghost use Rattle.ap_stream.specs.Dialects.{has_units as units_test};
+ghost use Rattle.ap_stream.specs.Dialects.{has_chunks as chunks_test};
 ghost use Rattle.ap_stream.specs.Reading.{counted, reads, stopped, nothing, IsRead};
 
 use crate::UNIT_MAX;
 use crate::blank::Blank;
-use crate::crossing::superblank_run;
+use crate::crossing::{crossed, run_of};
 use crate::dialect::Dialect;
 use crate::examine::{Mode, Seen, look};
 use crate::fault::{LimitKind, MalformedKind, StreamFault};
 use crate::item::{Item, Read};
+use crate::names::Names;
+use crate::words::unit_of;
 use ap_symbol::Memory;
 use std::alloc::Global;
 use std::marker::Model;
@@ -37,10 +39,13 @@ pub struct Reader {
     looked: bool,
     place: u64,
     fault: Option<StreamFault>,
+    /// The names of tags that were read last.
+    names: Names,
 }
 
 impl Model for Reader {
     ghost use Rattle.std.specs.Prelude.{◌≡◌, ◌≤◌, length, None};
+    ghost use Rattle.ap_stream.specs.Limits.{begun_max};
     ghost use Rattle.ap_stream.specs.Begun.{Begun};
     ghost use Rattle.ap_stream.specs.Given.{Standing};
 
@@ -48,10 +53,10 @@ impl Model for Reader {
 
     ghost view = { λ r. record { dialect = r.dialect; held = r.held.items; place = r.place; looked = r.looked; fault = r.fault } };
 
-    ghost invariant = { λ r. (length r.held.items ≤ 1048577) × (r.fault ≡ None → Standing r.looked r.mode r.done r.held.items) };
+    ghost invariant = { λ r. (length r.held.items ≤ begun_max) × (r.fault ≡ None → Standing r.dialect r.looked r.mode r.done r.held.items) };
 }
 
-/// How far ahead the next byte of a superblank that needs a look is sought at once.
+/// How far ahead the next byte of a superblank or a word that needs a look is sought at once.
 const CROSSED_AT_ONCE: usize = 256;
 
 fn place_after(place: u64, size: u64) -> u64
@@ -65,7 +70,13 @@ fn is_blank(mode: Mode) -> bool
 {
     match mode {
         Mode::Blank => true,
-        Mode::Start | Mode::Escape | Mode::Inside | Mode::InsideEscape => false,
+        Mode::Start
+        | Mode::Escape
+        | Mode::Inside
+        | Mode::InsideEscape
+        | Mode::Word(_)
+        | Mode::WordEscape(_)
+        | Mode::Tag(_, _) => false,
     }
 }
 
@@ -85,9 +96,9 @@ fn cut(alloc: Global, held: &mut Vec<u8>, at: usize) -> Result<Vec<u8>, Memory>
 }
 
 impl Reader {
-    /// A reader at the start of a text. Units and chunks aren't read yet, so the dialect is one that has none.
+    /// A reader at the start of a text. Chunks aren't read yet, so the dialect is one that has none.
     pub fn new(alloc: Global, dialect: Dialect) -> Reader
-        requires { units_test dialect ≡ false }
+        requires { chunks_test dialect ≡ false }
         ensures dialect { result.dialect ≡ dialect }
         ensures held { result.held ≡ [] }
         ensures place { result.place ≡ 0 }
@@ -103,6 +114,7 @@ impl Reader {
             looked: true,
             place: 0,
             fault: None,
+            names: Names::new(alloc),
         }
     }
 
@@ -136,7 +148,8 @@ impl Reader {
         }
     }
 
-    /// Within a superblank, takes the bytes that only go on with it, as far as a look ahead shows.
+    /// Within a superblank or a unit's word, takes the bytes that only go on with it, as far as a
+    /// look ahead shows.
     fn cross(&mut self, piece: &[u8]) -> Result<usize, StreamFault>
         requires going { self.old.fault ≡ None }
         requires looked { self.old.looked ≡ true }
@@ -147,10 +160,6 @@ impl Reader {
         ensures holds { length self.new.held ≤ UNIT_MAX + 1 }
         ensures err { IfErr result (λ f. (f ≡ StreamFault.Memory) × (self.new.fault ≡ Some f)) }
     {
-        match self.mode {
-            Mode::Inside => {}
-            _ => return Ok(0),
-        }
         if self.done < self.held.len() {
             return Ok(0);
         }
@@ -158,9 +167,13 @@ impl Reader {
             .len()
             .min(CROSSED_AT_ONCE)
             .min(UNIT_MAX - self.held.len());
-        let count = superblank_run(&piece[..most]);
+        let count = run_of(self.mode, &piece[..most]);
+        if count == 0 {
+            return Ok(0);
+        }
         match self.held.extend_from_slice(&piece[..count]) {
             Ok(()) => {
+                self.mode = crossed(self.mode);
                 self.done = self.held.len();
                 Ok(count)
             }
@@ -171,7 +184,8 @@ impl Reader {
         }
     }
 
-    /// Takes at least one byte: those that only go on with a superblank, or one that it doesn't look at yet.
+    /// Takes at least one byte: those that only go on with a superblank or a word, or one that it
+    /// doesn't look at yet.
     fn advance(&mut self, piece: &[u8]) -> Result<usize, StreamFault>
         requires going { self.old.fault ≡ None }
         requires looked { self.old.looked ≡ true }
@@ -245,6 +259,31 @@ impl Reader {
             Seen::Plain(character) => {
                 let read = Read {
                     item: Item::Plain(character),
+                    place: self.place,
+                    size: self.held.len() as u64,
+                };
+                self.place = place_after(self.place, read.size);
+                self.held.clear();
+                self.mode = Mode::Start;
+                self.done = 0;
+                self.looked = true;
+                Ok(Some(read))
+            }
+            Seen::UnitEnds => {
+                let unit = match unit_of(
+                    self.alloc,
+                    &mut self.names,
+                    self.dialect,
+                    self.held.as_slice(),
+                ) {
+                    Ok(unit) => unit,
+                    Err(_) => {
+                        self.fault = Some(StreamFault::Memory);
+                        return Err(StreamFault::Memory);
+                    }
+                };
+                let read = Read {
+                    item: Item::Unit(unit),
                     place: self.place,
                     size: self.held.len() as u64,
                 };

@@ -1,7 +1,7 @@
 ghost use Rattle.std.specs.Prelude.{◌≡◌, ◌≢◌, ℕ, ◌+◌, ◌-◌, ◌*◌, ◌<◌, ◌≤◌, List, [], ◌∷◌, ◌++◌, take, drop, length, Bool, true, false, Option, Some, None, IfOk, OnOk, IfErr, OnErr};
 ghost use Rattle.ap_stream.specs.declared.fault.StreamFault.{StreamFault};
 ghost use Rattle.ap_stream.specs.declared.fault.MalformedKind.{MalformedKind};
-ghost use Rattle.ap_stream.specs.Dialects.{has_units as units_test};
+ghost use Rattle.ap_stream.specs.Dialects.{has_chunks as chunks_test};
 ghost use Rattle.ap_stream.specs.declared.TheConstants.{SPAN_MAX, UNIT_MAX};
 ghost use Rattle.ap_stream.specs.Told.{Told, Ending, Clean, Cut, silent, behind, ends_in, Begins};
 ghost use Rattle.ap_stream.specs.Rest.{rest_of, held_of, rest_at_fault, rest_at_cut, rest_pending_first};
@@ -35,6 +35,7 @@ pub struct Staged<H: Handler + Drop> {
 
 impl<H: Handler + Drop> Model for Staged<H> {
     ghost use Rattle.std.specs.Prelude.{◌≡◌, ◌≤◌, drop, length, None};
+    ghost use Rattle.ap_stream.specs.Limits.{stage_max};
     ghost use Rattle.ap_stream.specs.Seat.{Seat};
     ghost use Rattle.ap_stream.specs.Sound.{Sound};
 
@@ -42,13 +43,13 @@ impl<H: Handler + Drop> Model for Staged<H> {
 
     ghost view = { λ s. record { handler = s.handler; dialect = s.reader.dialect; begun = s.reader.held; place = s.reader.place; pending = drop s.from s.out; ended = s.ended; fault = s.fault } };
 
-    ghost invariant = { λ s. (s.fault ≡ None → Sound H.finished H.held H.dialect s.handler s.reader s.finished s.stop s.ended) × (s.from ≤ length s.out) × (length s.out ≤ 5242882) };
+    ghost invariant = { λ s. (s.fault ≡ None → Sound H.finished H.held H.dialect s.handler s.reader s.finished s.stop s.ended) × (s.from ≤ length s.out) × (length s.out ≤ stage_max) };
 }
 
 impl<H: Handler + Drop> Staged<H> {
     /// A new stage over a handler that holds nothing and isn't finished, and whose dialect is this one. It takes no memory.
     pub fn new(alloc: Global, dialect: Dialect, handler: H) -> Staged<H>
-        requires known { units_test dialect ≡ false }
+        requires known { chunks_test dialect ≡ false }
         requires dialect { H.dialect handler ≡ dialect }
         requires open { H.finished handler ≡ false }
         requires empty { H.held handler ≡ 0 }

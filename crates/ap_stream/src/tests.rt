@@ -1,5 +1,7 @@
 mod copies;
 mod drive;
+mod marks;
 mod pairs;
 mod reading;
 mod running;
+mod units;

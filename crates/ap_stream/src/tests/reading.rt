@@ -1,16 +1,24 @@
 ghost use Rattle.std.specs.Prelude.{◌<◌, ◌≡◌, IfOk, false};
-ghost use Rattle.ap_stream.specs.Dialects.{has_units as units_test};
+ghost use Rattle.ap_stream.specs.Dialects.{has_chunks as chunks_test};
 
 use crate::UNIT_MAX;
 use crate::dialect::Dialect;
 use crate::fault::StreamFault;
-use crate::item::Read;
+use crate::item::{Item, Read};
 use crate::reader::{Fed, Reader};
 use std::alloc::{AllocError, Global};
 
+/// Its place, its size and, of a unit, how many symbols each word has.
 fn note_item(alloc: Global, log: &mut String, read: &Read) -> Result<(), AllocError> {
-    let text = format!(in alloc; "{}+{} ", read.place, read.size)?;
-    log.push_str(text.as_str())
+    let text = format!(in alloc; "{}+{}", read.place, read.size)?;
+    log.push_str(text.as_str())?;
+    if let Item::Unit(unit) = &read.item {
+        for word in unit.as_slice() {
+            let count = format!(in alloc; ":{}", word.len())?;
+            log.push_str(count.as_str())?;
+        }
+    }
+    log.push_str(" ")
 }
 
 fn note_fault(alloc: Global, log: &mut String, fault: StreamFault) -> Result<(), AllocError> {
@@ -70,7 +78,7 @@ fn read_two(
     front: &[u8],
     back: &[u8],
 ) -> Result<String, AllocError>
-    requires { units_test dialect ≡ false }
+    requires { chunks_test dialect ≡ false }
 {
     let mut log = String::new(alloc);
     let mut reader = Reader::new(alloc, dialect);
@@ -85,13 +93,13 @@ fn read_two(
 }
 
 /// The items of the text, read in pieces of so many bytes.
-fn read_pieces(
+pub fn read_pieces(
     alloc: Global,
     dialect: Dialect,
     text: &[u8],
     size: usize,
 ) -> Result<String, AllocError>
-    requires known { units_test dialect ≡ false }
+    requires known { chunks_test dialect ≡ false }
     requires some { 0 < size }
 {
     let mut log = String::new(alloc);
@@ -168,8 +176,8 @@ fn blanks(alloc: Global, count: usize, end: &[u8]) -> Result<Vec<u8>, AllocError
 fn bounds_an_item(rt: HostRuntime) -> Result<(), AllocError> {
     let alloc = rt.alloc();
     let table: [(&[u8], &str); 4] = [
-        (b"", "0+1048576 end"),
-        (b"a", "0+1048576 1048576+1 end"),
+        (b"", "0+4194304 end"),
+        (b"a", "0+4194304 4194304+1 end"),
         (b" ", "Limit { kind: ItemTooLong, place: 0 }"),
         (b"[", "Limit { kind: ItemTooLong, place: 0 }"),
     ];
@@ -182,14 +190,14 @@ fn bounds_an_item(rt: HostRuntime) -> Result<(), AllocError> {
 }
 
 #[test]
-fn reads_a_megabyte_in_small_pieces(rt: HostRuntime) -> Result<(), AllocError> {
+fn reads_megabytes_in_small_pieces(rt: HostRuntime) -> Result<(), AllocError> {
     let alloc = rt.alloc();
     let text = blanks(alloc, UNIT_MAX, b"a")?;
     for size in [1, 7] {
         let got = read_pieces(alloc, Dialect::Raw, text.as_slice(), size)?;
         assert_eq!(rt;
             got.as_str(),
-            "0+1048576 1048576+1 end",
+            "0+4194304 4194304+1 end",
             "in pieces of {size}"
         );
     }

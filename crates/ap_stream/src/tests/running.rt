@@ -2,6 +2,7 @@ ghost use Rattle.std.specs.Prelude.{◌≡◌, ◌≤◌, true, IsTrue};
 ghost use Rattle.ap_symbol.specs.Words.{is_word_symbol};
 ghost use Rattle.ap_symbol.specs.declared.symbol.Symbol.{Symbol};
 
+use crate::ROOM_MAX;
 use crate::blank::Blank;
 use crate::dialect::Dialect;
 use crate::fault::StreamFault;
@@ -18,7 +19,7 @@ use std::alloc::Global;
 
 fn copy_text(alloc: Global, text: &[u8], room: usize, out: &mut Bytes) -> Result<(), StreamFault>
     requires some { 1 ≤ room }
-    requires most { room ≤ 1048576 }
+    requires most { room ≤ ROOM_MAX }
 {
     let mut stage = Staged::new(alloc, Dialect::Raw, Copies::new(alloc));
     drive(alloc, &mut stage, text, room, out)
@@ -26,7 +27,7 @@ fn copy_text(alloc: Global, text: &[u8], room: usize, out: &mut Bytes) -> Result
 
 fn pair_text(alloc: Global, text: &[u8], room: usize, out: &mut Bytes) -> Result<(), StreamFault>
     requires some { 1 ≤ room }
-    requires most { room ≤ 1048576 }
+    requires most { room ≤ ROOM_MAX }
 {
     let mut stage = Staged::new(alloc, Dialect::Raw, Pairs::new(alloc));
     drive(alloc, &mut stage, text, room, out)

@@ -1,5 +1,5 @@
 use Rattle.std.proofs.Common.{arith}
-use Rattle.ap_stream.specs.Crossing.{goes_on}
+use Rattle.ap_stream.proofs.Crossed.{goes_on}
 use Rattle.ap_stream.proofs.crossing.superblank_run.Goals as goal
 
 pub returns-clause-goes_on : goal.returns-clause-goes_on

@@ -1,7 +1,8 @@
 use Rattle.std.proofs.Common.{arith, ap, sym, ◌∙◌, refl, ◌≡◌, ℕ, ◌+◌, ◌<◌, ◌≤◌, List, ◌++◌, ◌-◌, length, take, None, vec_len}
 use Rattle.std.proofs.lemmas.Grind.{common_steps}
+use Rattle.ap_stream.specs.Limits.{unit_max}
 use Rattle.ap_stream.specs.Begun.{Begun}
-use Rattle.ap_stream.specs.Crossing as crossing
+use Rattle.ap_stream.proofs.Crossed as crossing
 use Rattle.ap_stream.proofs.reader.Reader.cross.Goals as goal
 
 pub invariant_of-self : goal.invariant_of-self
@@ -11,8 +12,9 @@ invariant_of-self c =
     let standing = c.self.invariant.1 none in
     let size : vec_len c.self.inside.held ≡ length c.self.inside.held.items = c.self.inside.held.ok.0 in
     let behind : length c.self.inside.held.items ≤ c.self.inside.done = omega (arith, size, c.len.ensures, c.if-self-len.false) in
-    let after : c.extend_from_slice.new.self.items ≡ c.self.inside.held.items ++ take c.superblank_run-count.result c.args.piece.now = grind (arith, common_steps, c.in-Ok.ensures.items) in
+    let some : 0 < c.run_of-count.result = omega (arith, c.if-count-eq0.false) in
+    let after : c.extend_from_slice.new.self.items ≡ c.self.inside.held.items ++ take c.run_of-count.result c.args.piece.now = grind (arith, common_steps, c.in-Ok.ensures.items) in
     let total : c.len-self-inside.result ≡ length c.extend_from_slice.new.self.items = c.len-self-inside.ensures ∙ c.extend_from_slice.new.self.ok.0 in
-    let most : c.min-most.result ≤ 1048576 - length c.self.inside.held.items = omega (arith, size, c.min-most.ensures, c.len-2.ensures) in
-    let stands = crossing.stands_crossed c.self.inside.done _ _ (c.min-most.result) _ c.args.piece.now _ _ _ looked c.in-Inside.is standing behind c.superblank_run-count.ensures.most c.superblank_run-count.ensures.goes_on most after total in
-    (let n = stands.short looked in omega (arith, n), λ _. stands)
+    let most : c.min-most.result ≤ unit_max - length c.self.inside.held.items = omega (arith, size, c.min-most.ensures, c.len-2.ensures) in
+    let stands = crossing.stands_crossed _ c.self.inside.done _ _ (c.min-most.result) _ c.args.piece.now _ _ _ looked some standing behind c.run_of-count.ensures.most c.run_of-count.ensures.goes_on most after total in
+    (let n = stands.short looked in omega (arith, n), λ _. rw c.crossed-self-inside.ensures stands)

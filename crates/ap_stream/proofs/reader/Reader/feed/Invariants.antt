@@ -1,4 +1,5 @@
 use Rattle.std.proofs.Common.{◌≡◌, ◌≤◌, ◌+◌, ◌-◌, List, ◌++◌, take, length, true, None}
+use Rattle.ap_stream.specs.Limits.{begun_max}
 use Rattle.ap_stream.specs.Given.{CanGoOn}
 use Rattle.ap_stream.proofs.reader.Reader.feed.Given as goal
 
@@ -10,7 +11,7 @@ invariant-loop-used l = record {
   dialect : l.self.dialect ≡ l.fn.self.dialect;
   begun : CanGoOn l.self;
   place : l.self.place ≡ l.fn.self.place;
-  holds : length l.self.held ≤ 1048577;
+  holds : length l.self.held ≤ begun_max;
   held : l.self.held ≡ l.fn.self.held ++ take l.used l.piece;
 }
 

@@ -1,5 +1,6 @@
 use Rattle.std.proofs.Common.{arith, ap, sym, ◌∙◌, refl, ◌≡◌, ℕ, ◌+◌, ◌<◌, ◌≤◌, List, [], ◌∷◌, ◌++◌, length, take, drop, true, false, None, Some}
 use Rattle.std.proofs.lemmas.Grind.{common_steps}
+use Rattle.ap_stream.specs.Limits.{unit_max}
 use Rattle.ap_stream.specs.Begun.{Begun}
 use Rattle.ap_stream.specs.Stands.{Stands}
 use Rattle.ap_stream.specs.Given as given
@@ -8,10 +9,10 @@ use Rattle.ap_stream.specs.Reading.{IsRead}
 use Rattle.ap_stream.proofs.reader.Reader.last.Goals as goal
 use Rattle.ap_stream.proofs.reader.Reader.last.Goals.{Else-is_empty}
 
-stands : (c : Else-is_empty) → Stands c.self.inside.mode (take c.self.inside.done c.self.inside.held.items) (drop c.self.inside.done c.self.inside.held.items) × (length c.self.inside.held.items ≤ 1048576)
+stands : (c : Else-is_empty) → Stands c.self.inside.dialect c.self.inside.mode (take c.self.inside.done c.self.inside.held.items) (drop c.self.inside.done c.self.inside.held.items) × (length c.self.inside.held.items ≤ unit_max)
 stands c =
     let none : c.self.inside.fault ≡ None = ap (λ (s : Begun). s.fault) c.self.view_is ∙ c.requires.going in
-    given.stands_looked _ _ _ _ (ap (λ (s : Begun). s.looked) c.self.view_is ∙ c.requires.looked) (c.self.invariant.1 none)
+    given.stands_looked _ _ _ _ _ (ap (λ (s : Begun). s.looked) c.self.view_is ∙ c.requires.looked) (c.self.invariant.1 none)
 
 some : (c : Else-is_empty) → 0 < length c.self.inside.held.items
 some c = grind (arith, common_steps, c.self.inside.held.ok.0)
@@ -19,7 +20,7 @@ some c = grind (arith, common_steps, c.self.inside.held.ok.0)
 pub invariant_of-self : goal.invariant_of-self
 invariant_of-self c =
     let nil : c.replace-bytes.new.dest.items ≡ [] = rw c.replace-bytes.ensures.after c.new.ensures.items in
-    (let n = ap length nil in omega (arith, n), λ _. rw (ap (λ (s : Begun). s.looked) c.self.view_is ∙ c.requires.looked) (given.stands_new c.replace-bytes.new.dest.items nil))
+    (let n = ap length nil in omega (arith, n), λ _. rw (ap (λ (s : Begun). s.looked) c.self.view_is ∙ c.requires.looked) (given.stands_new _ c.replace-bytes.new.dest.items nil))
 
 pub returns-then-is_blank-clause-given : goal.returns-then-is_blank-clause-given
 returns-then-is_blank-clause-given c =

@@ -1,5 +1,6 @@
 use Rattle.std.proofs.lemmas.List.{append-nil}
 use Rattle.std.proofs.Common.{rules, arith, ap, ◌∙◌, sym, ◌≡◌, ◌≢◌, ℕ, ◌+◌, ◌-◌, ◌*◌, ◌<◌, ◌≤◌, List, [], ◌∷◌, ◌++◌, take, drop, length, Bool, true, false, Option, Some, None, IfOk, OnOk, IfErr, OnErr}
+use Rattle.ap_stream.specs.Limits.{span_max}
 use Rattle.ap_stream.specs.declared.fault.StreamFault.{StreamFault}
 use Rattle.ap_stream.specs.Given.{Shows}
 use Rattle.ap_stream.specs.Seat.{Seat}
@@ -21,7 +22,7 @@ shown g c =
     let unfinished : c.self.inside.finished ≡ false = sym s.agrees ∙ ap g.H.Handler.finished (same g c) ∙ c.requires.reading in
     c.in-Err.ensures.shown (s.reading unfinished) c.in_default.not-Memory
 
-span : (g : _) (c : After-begun g) → g.H.Handler.held c.self.inside.handler ≤ 4194304
+span : (g : _) (c : After-begun g) → g.H.Handler.held c.self.inside.handler ≤ span_max
 span g c = rw (same g c) c.requires.span
 
 none : (g : _) (c : After-begun g) → c.self.inside.fault ≡ None

@@ -1,6 +1,7 @@
 use Rattle.std.proofs.Common.{arith, sym, ◌≡◌, ℕ, ◌+◌, ◌<◌, ◌≤◌, List, [], ◌∷◌, length, true, false, ap, ◌∙◌}
 use Rattle.std.proofs.lemmas.Grind.{common_steps}
 use Rattle.std.specs.List.{AllByRecursion}
+use Rattle.ap_stream.specs.Limits.{span_max}
 use Rattle.ap_stream.specs.declared.item.Read.{Read}
 use Rattle.ap_stream.specs.declared.dialect.Dialect.TheVariants.{Raw}
 use Rattle.ap_stream.specs.Reading.{IsRead}
@@ -9,7 +10,7 @@ use Rattle.ap_stream.proofs.Trying as trying
 use Rattle.ap_stream.proofs.tests.pairs.PairsHandler.turn.Goals as goal
 
 -- the same of what is seen
-seen_fits : (items : List Read) (now : Held) (b : _) → record { items = items; finished = b } ≡ now → AllByRecursion (IsRead Raw) items → length items < 2 → bytes_of now.items ≤ 4194304
+seen_fits : (items : List Read) (now : Held) (b : _) → record { items = items; finished = b } ≡ now → AllByRecursion (IsRead Raw) items → length items < 2 → bytes_of now.items ≤ span_max
 seen_fits items now b e all short = rw (← e) (trying.one_fits items all short)
 
 pub returns-then-waits-clause-wants : goal.returns-then-waits-clause-wants

@@ -1,0 +1,55 @@
+-- A tool that handles each item by itself: a unit gives a text, and every other item is copied as it is spelled.
+use Rattle.std.proofs.Common.{arith, refl, ◌≡◌}
+use Rattle.std.specs.Prelude.{ℕ, ◌+◌, nat_lt, Bool, true, false, ◌&&◌, List, [], ◌∷◌, ◌++◌, length, Option, Some, None, if◌then◌else◌}
+use Rattle.ap_stream.specs.Limits.{unit_max}
+use Rattle.ap_symbol.specs.declared.symbol.Symbol.{Symbol}
+use Rattle.ap_stream.specs.declared.dialect.Dialect.{Dialect}
+use Rattle.ap_stream.specs.declared.fault.StreamFault.TheVariants.{Limit}
+use Rattle.ap_stream.specs.declared.fault.LimitKind.TheVariants.{UnitTooLong}
+use Rattle.ap_stream.specs.declared.item.Item.{Item}
+use Rattle.ap_stream.specs.declared.item.Item.TheVariants.{Plain, Blank, Unit, Chunk}
+use Rattle.ap_stream.specs.declared.item.Read.{Read}
+use Rattle.ap_stream.specs.Spelling.{spelled}
+use Rattle.ap_stream.specs.Told.{Told, silent, behind, ends_in}
+
+-- what is written by the rendering of its words
+abbrev pub is_worded : Item → Bool
+is_worded (Plain c) = false
+is_worded (Blank bytes) = false
+is_worded (Unit words) = true
+is_worded (Chunk c) = true
+
+-- what an item gives, where a unit gives this
+abbrev pub item_text : (List (List Symbol) → List ℕ) → Item → List ℕ
+item_text given (Plain c) = spelled (Plain c)
+item_text given (Blank bytes) = spelled (Blank bytes)
+item_text given (Unit words) = given words
+item_text given (Chunk c) = spelled (Chunk c)
+
+-- what is written for one unit has so many bytes at most
+abbrev pub is_over : (List (List Symbol) → List ℕ) → Item → Bool
+is_over given thing = is_worded thing && nat_lt unit_max (length (item_text given thing))
+
+-- each item by itself
+abbrev pub each : (List (List Symbol) → List ℕ) → List Read → Told
+each given [] = silent
+each given (read ∷ reads) = if is_over given read.item then ends_in [] (Limit UnitTooLong read.place) else behind (item_text given read.item) (each given reads)
+
+-- such a tool at work: its writer, its dialect, the item that it holds, and whether it is the last
+pub record Single (W : Type 0) : Type 0 where
+  pub writer : W
+  pub dialect : Dialect
+  pub item : Option Read
+  pub finished : Bool
+
+abbrev pub held_items : Option Read → List Read
+held_items None = []
+held_items (Some read) = read ∷ []
+
+abbrev pub held_size : Option Read → ℕ
+held_size None = 0
+held_size (Some read) = read.size
+
+pub none_held : (held : Option Read) → length (held_items held) ≡ 0 → held ≡ None
+none_held None e = refl
+none_held (Some read) e = absurd (omega (arith, e))

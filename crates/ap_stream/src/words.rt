@@ -1,0 +1,209 @@
+ghost use Rattle.std.specs.Prelude.{◌≡◌, ◌&&◌, ◌+◌, ◌<◌, List, [], length, IfOk, IsTrue, false};
+ghost use Rattle.ap_symbol.specs.Words.{is_word_symbol};
+ghost use Rattle.ap_symbol.specs.declared.symbol.Symbol.{Symbol};
+ghost use Rattle.ap_stream.specs.Chars.{char_at};
+ghost use Rattle.ap_stream.specs.Units.{sign, of_bare, of_escape, of_name, name, is_none as none_before};
+ghost use Rattle.ap_stream.specs.InUnits.{UnitOf, surface_in};
+ghost use Rattle.ap_stream.specs.Signs.{IsName, Signs, bare_of_test};
+
+use crate::decode::{Decoded, decode};
+use crate::dialect::Dialect;
+use crate::examine::is_barred;
+use crate::names::Names;
+use crate::unit::Unit;
+use ap_symbol::{Memory, Symbol, TagName, Word, bare_symbol, escaped_symbol, is_reserved_in_tag};
+use std::alloc::Global;
+use std::mem;
+
+/// What the bytes of a tag's name go up to: their end within it, no character, or a character that no name holds.
+pub(crate) enum Named {
+    Runs,
+    Breaks,
+    Stops { text: String, letter: char },
+}
+
+/// What stands at the front of a word's bytes: a symbol of so many bytes, the end of the word, or neither.
+pub(crate) enum Signed {
+    Reads(Symbol, usize),
+    Slash,
+    Dollar,
+    Nothing,
+}
+
+fn bare_of(surface: bool, letter: char) -> Symbol
+    ensures value { result ≡ bare_of_test surface letter }
+    ensures word_symbol { IsTrue (is_word_symbol result) }
+{
+    if surface {
+        escaped_symbol(letter)
+    } else {
+        bare_symbol(letter)
+    }
+}
+
+/// The characters of a name at the front.
+fn name_of(alloc: Global, bytes: &[u8]) -> Result<Named, Memory>
+    ensures { IfOk result (IsName bytes.now) }
+{
+    let mut text = String::new(alloc);
+    let mut at = 0;
+    while at < bytes.len() {
+        match decode(&bytes[at..]) {
+            Decoded::Part => return Ok(Named::Runs),
+            Decoded::NotChar => return Ok(Named::Breaks),
+            Decoded::Char { letter, size } => {
+                if is_reserved_in_tag(letter) {
+                    return Ok(Named::Stops { text, letter });
+                }
+                text.push(letter)?;
+                at += size;
+            }
+        }
+    }
+    Ok(Named::Runs)
+}
+
+/// The tag behind a `<`, whose name isn't among those that are kept.
+fn new_tag_at(alloc: Global, names: &mut Names, bytes: &[u8]) -> Result<Signed, Memory>
+    ensures { IfOk result (Signs (of_name bytes.now (name 0 bytes.now)) (1 + length bytes.now)) }
+{
+    match name_of(alloc, bytes)? {
+        Named::Runs => Ok(Signed::Nothing),
+        Named::Breaks => Ok(Signed::Nothing),
+        Named::Stops { text, letter } => {
+            if letter != '>' {
+                return Ok(Signed::Nothing);
+            }
+            let size = text.len();
+            match TagName::new(alloc, text.as_str())? {
+                Some(tag) => {
+                    names.keep(&tag);
+                    Ok(Signed::Reads(Symbol::Tag(tag), 2 + size))
+                }
+                None => Ok(Signed::Nothing),
+            }
+        }
+    }
+}
+
+/// The tag behind a `<`.
+fn tag_at(alloc: Global, names: &mut Names, bytes: &[u8]) -> Result<Signed, Memory>
+    ensures { IfOk result (Signs (of_name bytes.now (name 0 bytes.now)) (1 + length bytes.now)) }
+{
+    match names.find(bytes)? {
+        Some(tag) => {
+            let size = tag.text().len();
+            Ok(Signed::Reads(Symbol::Tag(tag), 2 + size))
+        }
+        None => new_tag_at(alloc, names, bytes),
+    }
+}
+
+fn escape_at(bytes: &[u8]) -> Signed
+    ensures { Signs (of_escape (char_at bytes.now)) (1 + length bytes.now) result }
+{
+    match decode(bytes) {
+        Decoded::Part => Signed::Nothing,
+        Decoded::NotChar => Signed::Nothing,
+        Decoded::Char { letter, size } => Signed::Reads(escaped_symbol(letter), 1 + size),
+    }
+}
+
+fn bare_at(surface: bool, bytes: &[u8]) -> Signed
+    ensures { Signs (of_bare surface (char_at bytes.now)) (length bytes.now) result }
+{
+    match decode(bytes) {
+        Decoded::Part => Signed::Nothing,
+        Decoded::NotChar => Signed::Nothing,
+        Decoded::Char { letter, size } => {
+            if letter == '/' {
+                return Signed::Slash;
+            }
+            if letter == '$' {
+                return Signed::Dollar;
+            }
+            if is_barred(surface, letter) {
+                return Signed::Nothing;
+            }
+            Signed::Reads(bare_of(surface, letter), size)
+        }
+    }
+}
+
+#[tactic(auto, unfolding(crate::specs::Units::sign))]
+fn sign_at(alloc: Global, names: &mut Names, surface: bool, bytes: &[u8]) -> Result<Signed, Memory>
+    ensures { IfOk result (Signs (sign surface bytes.now) (length bytes.now)) }
+{
+    match bytes {
+        [] => Ok(Signed::Nothing),
+        [first, rest @ ..] => {
+            if *first == 92 {
+                return Ok(escape_at(rest));
+            }
+            if *first == 60 && !surface {
+                return tag_at(alloc, names, rest);
+            }
+            Ok(bare_at(surface, bytes))
+        }
+    }
+}
+
+fn is_surfaced(dialect: Dialect) -> bool
+    ensures { result ≡ surface_in dialect }
+{
+    matches!(dialect, Dialect::Analysed)
+}
+
+/// Whether a word behind these words is a surface.
+fn begins_surface(surfaced: bool, words: &[Word]) -> bool
+    ensures { result ≡ (surfaced && none_before words.now) }
+{
+    surfaced && words.is_empty()
+}
+
+/// A word without symbols, with room for the first of so many bytes.
+fn empty_word(alloc: Global, bytes: usize) -> Result<Word, Memory>
+    ensures { IfOk result (λ word. word ≡ []) }
+{
+    Word::with_capacity(alloc, bytes.min(16), bytes.min(32))
+}
+
+/// The unit that these bytes are. Names of its tags are taken from those that are kept, and kept.
+pub(crate) fn unit_of(
+    alloc: Global,
+    names: &mut Names,
+    dialect: Dialect,
+    held: &[u8],
+) -> Result<Unit, Memory>
+    requires { (words : List (List Symbol)) × UnitOf dialect held.now words }
+    ensures { IfOk result (UnitOf dialect held.now) }
+{
+    let surfaced = is_surfaced(dialect);
+    let mut words = Vec::new(alloc);
+    let mut word = empty_word(alloc, held.len())?;
+    let mut at = 1;
+    while at < held.len() {
+        match sign_at(
+            alloc,
+            names,
+            begins_surface(surfaced, words.as_slice()),
+            &held[at..],
+        )? {
+            Signed::Reads(symbol, size) => {
+                word.push(symbol)?;
+                at += size;
+            }
+            Signed::Slash => {
+                let next = empty_word(alloc, held.len())?;
+                words.push(mem::replace(&mut word, next))?;
+                at += 1;
+            }
+            Signed::Dollar => {
+                words.push(word)?;
+                return Ok(Unit::from_vec(words));
+            }
+            Signed::Nothing => unreachable!(),
+        }
+    }
+    unreachable!()
+}
