@@ -9,7 +9,7 @@ use crate::items::begins_alphabetic;
 use ap_fst::{Compiled, Kind2};
 use ap_live::{LiveSections, case_carried, push_kind, sort_words};
 use ap_stream::Read;
-use ap_symbol::{Case, Memory, Word};
+use ap_symbol::{Case, Memory, Word, case_keeps_words};
 use std::alloc::Global;
 
 /// Appends what standard entries read, with this case carried to each: they read only where no
@@ -59,6 +59,8 @@ pub(crate) fn readings(
     )?;
     push_kind(alloc, compiled, lives, Kind2::Postblank, case, &mut words)?;
     push_kind(alloc, compiled, lives, Kind2::Preblank, case, &mut words)?;
+    case_keeps_words();
+    let _ = compiled.alphabet();
     sort_words(&mut words);
     Ok(words)
 }

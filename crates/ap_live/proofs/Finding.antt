@@ -201,7 +201,7 @@ walk_proper m s t whole writes (goes {labels = labels} j e at from is walk) =
     ap (λ (z : List Label). list_all is_proper (right_word z)) is
     ∙ proper_both (option_to_list e.label.right) (right_word labels) (side_proper e.label.right (writes e (in_from_place m.edges j e at))) (walk_proper m e.to t labels writes walk)
 
-output_proper : (m : Machine) (seen : List Input) (w : List Symbol) → WritesProper m → IsOutput m seen w → AreProper w
+pub output_proper : (m : Machine) (seen : List Input) (w : List Symbol) → WritesProper m → IsOutput m seen w → AreProper w
 output_proper m seen w writes o = ap (list_all is_proper) o.is ∙ walk_proper m 0 o.accepted.last o.labels writes o.accepted.walk
 
 abbrev pub OneRendering : Type 0

@@ -8,7 +8,7 @@ ghost use Rattle.ap_live.specs.SectionLives.{AreLive};
 use crate::live_sections::LiveSections;
 use crate::wording::sort_words;
 use ap_fst::{Compiled, Kind2};
-use ap_symbol::{Case, Memory, Symbol, Word, Words, carry, case_of_symbols};
+use ap_symbol::{Case, Memory, Symbol, Word, Words, carry, case_keeps_words, case_of_symbols};
 use std::alloc::Global;
 
 /// The case that is carried to what is read where this was seen: none of its own where case counts.
@@ -119,10 +119,13 @@ pub fn any_readings(
     lives: &LiveSections,
     seen: &[Symbol],
 ) -> Result<Words, Memory>
+    requires { (symbols : List Symbol) × AreLive compiled.now sensitive symbols lives.now }
     ensures { IfOk result (λ words. (symbols : List Symbol) → AreLive compiled.now sensitive symbols lives.now → words ≡ carried_words (lexicon_of compiled.now sensitive) sensitive seen.now symbols) }
 {
     let case = case_carried(sensitive, seen);
     let mut words = gathered(alloc, compiled, lives, case)?;
+    case_keeps_words();
+    let _ = compiled.alphabet();
     sort_words(&mut words);
     Ok(Words::from_vec(words))
 }

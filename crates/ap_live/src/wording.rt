@@ -45,17 +45,9 @@ fn words_of(alloc: Global, backs: Vec<Symbols>) -> Result<Vec<Word>, Memory>
     Ok(words)
 }
 
-/// Sees that the words are proper, as each is. It only reads.
-fn see_proper(words: &[Word])
-    ensures { (w : List Symbol) → IsIn w words.now → AreProper w }
-{
-    for word in words {
-        let _ = word.symbols();
-    }
-}
-
 /// Puts words into the order of their rendered bytes, each once. It takes no memory.
 pub fn sort_words(words: &mut Vec<Word>)
+    requires { (w : List Symbol) → IsIn w words.old.items → AreProper w }
     ensures is { words.new.items ≡ in_order words.old.items }
     ensures members { (w : List Symbol) → IsIn w words.new.items ↔ IsIn w words.old.items }
     ensures order { IsStrictlySortedBy word_cmp words.new.items }
@@ -64,7 +56,6 @@ pub fn sort_words(words: &mut Vec<Word>)
         return;
     }
     one_rendering();
-    see_proper(words.as_slice());
     words.sort_unstable_by(|a, b| compare(a, b));
     words.dedup_by(|a, b| compare(a, b).is_eq());
 }

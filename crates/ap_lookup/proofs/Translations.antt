@@ -1,0 +1,75 @@
+-- The walk over a word that is translated.
+use Rattle.std.specs.Prelude.{◌≡◌, ℕ, ◌+◌, ◌-◌, ◌<◌, ◌≤◌, nat_lt, nat_le, Bool, true, false, not, List, [], ◌∷◌, ◌++◌, length, take, drop, refl}
+use Rattle.std.proofs.Common.{arith, ap, sym, subst, ◌∙◌, inl, get_or, length-drop}
+use Rattle.std.proofs.lemmas.Bool.{false_from_ne_true, and_parts}
+use Rattle.std.proofs.lemmas.Bool.Decides.{nat_tests}
+use Rattle.std.proofs.lemmas.List.{take_more, take-take, take-append-le, length-take, take_all}
+use Rattle.ap_symbol.specs.declared.symbol.Symbol.{Symbol}
+use Rattle.ap_fst.specs.Sections.{Parts}
+use Rattle.ap_live.specs.Found.{has_words}
+use Rattle.ap_live.specs.Greatest.{greatest}
+use Rattle.ap_live.specs.Lexicon.{Lexicon, IsCoherent, viable_in}
+use Rattle.ap_live.specs.Readings.{any_words}
+use Rattle.ap_live.specs.SectionLives.{AreLive}
+use Rattle.ap_live.specs.declared.live_sections.LiveSections.{LiveSections}
+use Rattle.ap_live.proofs.AnyWords.{any_viable, viable_front}
+use Rattle.ap_live.proofs.Greatest.{greatest_is, greatest_cut}
+use Rattle.ap_lookup.specs.Translation.{lemma_length, is_prefix, prefix, is_marked, taken, untaken, translation}
+
+pub prefix_short : (lexicon : Lexicon) (word : List Symbol) (m : ℕ) → m < lemma_length word → is_prefix lexicon word m ≡ false
+prefix_short lexicon word m lt = let t : nat_le (lemma_length word) m ≡ false = grind (arith, nat_tests) in rw t refl
+
+pub prefix_reads : (lexicon : Lexicon) (word : List Symbol) (m : ℕ) (b : Bool) → lemma_length word ≤ m → has_words (any_words lexicon (take m word)) ≡ b → is_prefix lexicon word m ≡ b
+prefix_reads lexicon word m b le e = let t : nat_le (lemma_length word) m ≡ true = grind (arith, nat_tests) in rw t e
+
+pub none_below : (lexicon : Lexicon) (word : List Symbol) (n : ℕ) → n < lemma_length word → greatest (is_prefix lexicon word) n ≡ 0
+none_below lexicon word n lt = greatest_is (is_prefix lexicon word) n 0 (omega arith) (inl refl) (λ m more le. prefix_short lexicon word m (omega (arith, lt, le)))
+
+pub taken_again : {X : Type 0} (m n : ℕ) (xs : List X) → m ≤ n → take m (take n xs) ≡ take m xs
+taken_again m n xs le = take-take m n xs le
+
+-- past a dead end nothing is viable
+pub dead_past : (lexicon : Lexicon) (word : List Symbol) (n : ℕ) → IsCoherent lexicon → lexicon.viable (take (n + 1) word) ≡ false → (m : ℕ) → n < m → m ≤ length word → lexicon.viable (take m word) ≡ false
+dead_past lexicon word n whole dead m lt le = false_from_ne_true _ (λ t. let k = viable_front lexicon word (n + 1) m whole (omega (arith, lt)) t in absurd (let no : true ≡ false = sym k ∙ dead in cc))
+
+-- where nothing longer is viable, the longest prefix is found below
+pub prefix_within : (lexicon : Lexicon) (word : List Symbol) (n : ℕ) → IsCoherent lexicon → n ≤ length word → ((m : ℕ) → n < m → m ≤ length word → lexicon.viable (take m word) ≡ false) → prefix lexicon word ≡ greatest (is_prefix lexicon word) n
+prefix_within lexicon word n whole fits ends =
+    greatest_cut (is_prefix lexicon word) (length word) n fits (λ m more le. false_from_ne_true _ (λ t.
+    let reads = (and_parts (nat_le (lemma_length word) m) (has_words (any_words lexicon (take m word))) t).1 in
+    absurd (let no : true ≡ false = sym (any_viable lexicon (take m word) whole reads) ∙ ends m more le in cc)))
+
+true_not : (b : Bool) → true ≡ not b → b ≡ false
+true_not true h = cc
+true_not false h = refl
+
+module _ (p : Parts) (sensitive : Bool) (word : List Symbol) (n : ℕ) (x : Symbol) (more : n < length word) (at : x ≡ get_or word n x) where
+  next_is : take (n + 1) word ≡ take n word ++ x ∷ []
+  next_is = take_more word n x more ∙ ap (λ y. take n word ++ y ∷ []) (sym at)
+
+  pub live_more : (lives : LiveSections) → AreLive p sensitive (take n word ++ x ∷ []) lives → AreLive p sensitive (take (n + 1) word) lives
+  live_more lives live = subst (λ (symbols : List Symbol). AreLive p sensitive symbols lives) (sym next_is) live
+
+  pub live_cut : (lives : LiveSections) → AreLive p sensitive (take n (take n word ++ x ∷ [])) lives → AreLive p sensitive (take n word) lives
+  live_cut lives live =
+      let l : n ≤ length (take n word) = let t = length-take n word in omega (arith, t, more) in
+      subst (λ (symbols : List Symbol). AreLive p sensitive symbols lives) (take-append-le n (take n word) (x ∷ []) l ∙ taken_again n n word (omega arith)) live
+
+  pub dead_next : (answer : Bool) → answer ≡ true → answer ≡ not (viable_in p sensitive (take n word ++ x ∷ [])) → viable_in p sensitive (take (n + 1) word) ≡ false
+  dead_next answer dead e = ap (viable_in p sensitive) next_is ∙ true_not (viable_in p sensitive (take n word ++ x ∷ [])) (sym dead ∙ e)
+
+pub slice_rest : (word : List Symbol) (i : ℕ) → take (length word - i) (drop i word) ≡ drop i word
+slice_rest word i = let l = length-drop i word in take_all (length word - i) (drop i word) (omega (arith, l))
+
+module _ (lexicon : Lexicon) (sensitive : Bool) (word : List Symbol) where
+  pub translation_marked : is_marked word ≡ true → untaken word ≡ translation lexicon sensitive word
+  unfolding translation
+  translation_marked m = rw m refl
+
+  pub translation_none : is_marked word ≡ false → prefix lexicon word ≡ 0 → untaken word ≡ translation lexicon sensitive word
+  unfolding translation
+  translation_none m e = rw (m, e) refl
+
+  pub translation_found : (n : ℕ) → is_marked word ≡ false → prefix lexicon word ≡ n → 0 < n → taken lexicon sensitive word n ≡ translation lexicon sensitive word
+  unfolding translation
+  translation_found n m e some = let t : nat_lt 0 n ≡ true = grind (arith, nat_tests) in rw (m, e, t) refl

@@ -1,0 +1,4 @@
+pub mod Translation
+pub mod Translating
+pub mod Looking
+pub mod Laws

@@ -1,0 +1,167 @@
+ghost use Rattle.std.specs.Prelude.{◌≡◌, ℕ, ◌<◌, ◌≤◌, Bool, false, List, [], length, take, IfOk, OnOk};
+ghost use Rattle.ap_symbol.specs.declared.symbol.Symbol.{Symbol};
+ghost use Rattle.ap_live.specs.Greatest.{greatest};
+ghost use Rattle.ap_live.specs.Lexicon.{lexicon_of};
+ghost use Rattle.ap_live.specs.SectionLives.{AreLive};
+ghost use Rattle.ap_lookup.specs.Translation.{is_tag as tag_test, lemma_length, is_marked as marked_test, is_prefix, untaken, translation};
+ghost use Rattle.ap_lookup.specs.Translating.{translated};
+
+use ap_fst::Compiled;
+use ap_live::{LiveSections, any_readings};
+use ap_symbol::{Memory, Symbol, Word, Words};
+use std::alloc::Global;
+
+/// The right words of the part of a word that was found, in the order of words, each once, and the
+/// symbols left over behind that part.
+#[derive(Debug, Drop)]
+pub struct Translation {
+    pub heads: Words,
+    pub rest: Word,
+}
+
+fn is_tag(symbol: &Symbol) -> bool
+    ensures { result ≡ tag_test symbol.now }
+{
+    matches!(symbol, Symbol::Tag(_))
+}
+
+/// How many symbols stand before the first tag.
+pub(crate) fn lemma_len(symbols: &[Symbol]) -> usize
+    ensures value { result ≡ lemma_length symbols.now }
+    ensures within { result ≤ length symbols.now }
+{
+    let mut at = 0;
+    while at < symbols.len() {
+        if is_tag(&symbols[at]) {
+            return at;
+        }
+        at += 1;
+    }
+    at
+}
+
+/// Whether the word begins with `*` or `@`.
+pub(crate) fn is_marked(symbols: &[Symbol]) -> bool
+    ensures { result ≡ marked_test symbols.now }
+{
+    match symbols {
+        [] => false,
+        [first, ..] => matches!(first, Symbol::Star | Symbol::At),
+    }
+}
+
+/// Steps over the symbols while they fit a beginning of a left word, and answers how many do.
+fn step_all(
+    compiled: &Compiled,
+    sensitive: bool,
+    symbols: &[Symbol],
+    lives: &mut LiveSections,
+) -> Result<usize, Memory>
+    requires { AreLive compiled.now sensitive [] lives.old }
+    ensures lives { IfOk result (λ n. AreLive compiled.now sensitive (take n symbols.now) lives.new) }
+    ensures within { IfOk result (λ n. n ≤ length symbols.now) }
+    ensures ends { IfOk result (λ n. (m : ℕ) → n < m → m ≤ length symbols.now → (lexicon_of compiled.now sensitive).viable (take m symbols.now) ≡ false) }
+{
+    let _ = compiled.alphabet();
+    let mut at = 0;
+    while at < symbols.len() {
+        lives.step(compiled, &symbols[at], sensitive)?;
+        if lives.is_dead(compiled) {
+            lives.cut(at);
+            return Ok(at);
+        }
+        at += 1;
+    }
+    Ok(at)
+}
+
+/// Goes back to the longest prefix that holds the whole lemma and fits a left word.
+fn step_down(
+    compiled: &Compiled,
+    sensitive: bool,
+    symbols: &[Symbol],
+    lemma: usize,
+    from: usize,
+    lives: &mut LiveSections,
+) -> usize
+    requires lives { AreLive compiled.now sensitive (take from symbols.now) lives.old }
+    requires within { from ≤ length symbols.now }
+    requires lemma { lemma ≡ lemma_length symbols.now }
+    ensures value { result ≡ greatest (is_prefix (lexicon_of compiled.now sensitive) symbols.now) from }
+    ensures within { result ≤ from }
+    ensures kept { (seen : List Symbol) × AreLive compiled.now sensitive seen lives.new }
+    ensures lives { 0 < result → AreLive compiled.now sensitive (take result symbols.now) lives.new }
+{
+    let mut at = from;
+    while at > 0 {
+        if at < lemma {
+            return 0;
+        }
+        if lives.reads_any(compiled) {
+            return at;
+        }
+        at -= 1;
+        lives.cut(at);
+    }
+    0
+}
+
+/// No head, and the whole word left over.
+fn untranslated(alloc: Global, word: &Word) -> Result<Translation, Memory>
+    ensures { IfOk result (λ made. translated made ≡ untaken word.now) }
+{
+    Ok(Translation {
+        heads: Words::new(alloc),
+        rest: word.copy(alloc)?,
+    })
+}
+
+/// The translation of a word, with live sets that stand before its first symbol.
+pub(crate) fn translate_from(
+    alloc: Global,
+    compiled: &Compiled,
+    word: &Word,
+    sensitive: bool,
+    lives: &mut LiveSections,
+) -> Result<Translation, Memory>
+    requires { AreLive compiled.now sensitive [] lives.old }
+    ensures value { IfOk result (λ made. translated made ≡ translation (lexicon_of compiled.now sensitive) sensitive word.now) }
+    ensures kept { OnOk result ((seen : List Symbol) × AreLive compiled.now sensitive seen lives.new) }
+{
+    let _ = compiled.alphabet();
+    let symbols = word.symbols();
+    if is_marked(symbols) {
+        let marked = untranslated(alloc, word)?;
+        return Ok(marked);
+    }
+    let lemma = lemma_len(symbols);
+    let viable = step_all(compiled, sensitive, symbols, lives)?;
+    let taken = step_down(compiled, sensitive, symbols, lemma, viable, lives);
+    if taken == 0 {
+        let whole = untranslated(alloc, word)?;
+        return Ok(whole);
+    }
+    let heads = any_readings(alloc, compiled, sensitive, lives, &symbols[..lemma])?;
+    let rest = word.part(alloc, taken, word.len())?;
+    Ok(Translation { heads, rest })
+}
+
+/// The translation of a word by a compiled bilingual dictionary. Of the prefixes of the word that
+/// hold its whole lemma (what stands before its first tag) and fit a left word of any kind, the
+/// longest is taken: `heads` are its right words with the lemma's case, in the order of words, each
+/// once, and `rest` is what follows it. Without such a prefix, and for a word that begins with `*` or
+/// `@`, there is no head, and the whole word is left. Where case counts, a symbol fits itself alone
+/// and heads keep their case. The error means want of memory.
+///
+/// Where many words are translated, a `Translator` costs less.
+pub fn translate(
+    alloc: Global,
+    compiled: &Compiled,
+    word: &Word,
+    sensitive: bool,
+) -> Result<Translation, Memory>
+    ensures { IfOk result (λ made. translated made ≡ translation (lexicon_of compiled.now sensitive) sensitive word.now) }
+{
+    let mut lives = LiveSections::start(alloc, compiled)?;
+    translate_from(alloc, compiled, word, sensitive, &mut lives)
+}
