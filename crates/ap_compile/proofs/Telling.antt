@@ -32,3 +32,18 @@ pub same_on : (old useful made small new : Machine) → new ≡ small → ((w : 
     → (w : List Label) → AcceptsLabels new w ↔ AcceptsLabels old w
 same_on old useful made small new e first second third w =
     subst (λ (z : Machine). AcceptsLabels z w ↔ AcceptsLabels old w) (sym e) (λ a. (first w).0 ((second w).0 ((third w).0 a)), λ a. (third w).1 ((second w).1 ((first w).1 a)))
+
+-- and on the way to a draft of the small one
+pub same_draft : (old new : Sketch) (fst useful one small : Machine) → ((w : List Label) → Accepts new w ↔ AcceptsLabels small w) → ((w : List Label) → AcceptsLabels fst w ↔ Accepts old w) → ((w : List Label) → AcceptsLabels useful w ↔ AcceptsLabels fst w)
+    → ((w : List Label) → AcceptsLabels one w ↔ AcceptsLabels useful w) → ((w : List Label) → AcceptsLabels small w ↔ AcceptsLabels one w) → (w : List Label) → Accepts new w ↔ Accepts old w
+same_draft old new fst useful one small last first second third fourth w = (
+  λ a. (first w).0 ((second w).0 ((third w).0 ((fourth w).0 ((last w).0 a)))),
+  λ a. (last w).1 ((fourth w).1 ((third w).1 ((second w).1 ((first w).1 a)))),
+)
+
+-- another draft that accepts the same
+pub draft_of_same : (P : List EntryLabel → Type 0) (old new : Sketch) → ((w : List Label) → Accepts new w ↔ Accepts old w) → IsDraftOf P old → IsDraftOf P new
+draft_of_same P old new same h = record {
+  exact = λ w. ((λ a. (h.exact w).0 ((same w).0 a)), (λ p. (same w).1 ((h.exact w).1 p)));
+  plain = λ w a. h.plain w ((same w).0 a);
+}

@@ -9,7 +9,7 @@ ghost use Rattle.ap_compile.specs.Empties.{HasEmptyEntry, IsFirstEmpty, section_
 
 use crate::alphabet::closure;
 use crate::empties::first_empty;
-use crate::gathering::paradigm_drafts;
+use crate::paradigms::paradigm_drafts;
 use crate::sections::section;
 use ap_dix::{Dictionary, Direction, Kind};
 use ap_fst::{Compiled, Draft, Fst, Way, empty_cycle_law};

@@ -2,14 +2,14 @@ ghost use Rattle.std.specs.Prelude.{◌≡◌, ◌∷◌, ◌++◌, ◌⊎◌, L
 ghost use Rattle.std.specs.List.{list_all};
 ghost use Rattle.std.specs.Option.{option_copied};
 ghost use Rattle.ap_symbol.specs.Lists.{IsIn};
-ghost use Rattle.ap_dix.specs.Soundness.{is_sound_entry, IsSound};
+ghost use Rattle.ap_dix.specs.Soundness.{is_sound_entry};
 ghost use Rattle.ap_dix.specs.declared.dictionary.Dictionary.{Dictionary as Lexicon};
 ghost use Rattle.ap_dix.specs.declared.dictionary.Entry.{Entry as LexiconEntry};
 ghost use Rattle.ap_compile.specs.Drafts.{IsDraftOf, Any, Spells, AreDrafts};
 ghost use Rattle.ap_compile.specs.Gatherings.{used_paradigm, ending_of, ending_parts, IsSoundEnding, HasPlace, SpellsFrom, Gathers, IsPlainGathering, IsGatheringOf};
 
 use crate::drafts::{is_entry_kept, part_draft, parts_draft};
-use ap_dix::{Dictionary, Direction, Entry, EntryPart};
+use ap_dix::{Direction, Entry, EntryPart};
 use ap_fst::Draft;
 use ap_symbol::Memory;
 use std::alloc::Global;
@@ -214,27 +214,4 @@ pub fn entries_draft(
     let places = places_by_ending(alloc, entries)?;
     let gathering = gathered(alloc, direction, drafts, entries, places.as_slice())?;
     closed(alloc, direction, drafts, gathering)
-}
-
-/// A draft for each paradigm, in order.
-pub fn paradigm_drafts(
-    alloc: Global,
-    direction: Direction,
-    dictionary: &Dictionary,
-) -> Result<Vec<Draft>, Memory>
-    requires { IsSound dictionary.now }
-    ensures drafts { IfOk result (λ drafts. AreDrafts dictionary.now direction drafts.items) }
-    ensures count { IfOk result (λ drafts. length drafts.items ≡ length dictionary.now.pardefs) }
-{
-    let mut drafts = Vec::new(alloc);
-    for pardef in dictionary.pardefs.as_slice() {
-        let draft = entries_draft(
-            alloc,
-            direction,
-            drafts.as_slice(),
-            pardef.entries.as_slice(),
-        )?;
-        drafts.push(draft)?;
-    }
-    Ok(drafts)
 }

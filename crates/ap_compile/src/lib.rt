@@ -8,6 +8,7 @@ mod empties;
 mod expressions;
 mod gathering;
 mod laws;
+mod paradigms;
 mod sections;
 #[cfg(test)]
 mod tests;

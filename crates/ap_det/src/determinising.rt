@@ -7,7 +7,7 @@ ghost use Rattle.ap_det.specs.Determinism.{IsDeterministic};
 use crate::dfst::Dfst;
 use crate::ends::add_final;
 use crate::groups::add_groups;
-use crate::places::places_from;
+use crate::places::{begins_of, places_from};
 use crate::sets::Sets;
 use ap_fst::{Edges, Finals, Fst};
 use ap_symbol::Memory;
@@ -24,6 +24,7 @@ pub fn determinise(alloc: Global, fst: &Fst) -> Result<Dfst, Memory>
     ensures trimmed { IfOk result (λ made. IsTrimmed fst.now → IsTrimmed made) }
 {
     let exits = fst.edges();
+    let begins = begins_of(alloc, fst)?;
     let mut sets = Sets::new(alloc);
     let _ = sets.number(alloc, &[0])?;
     let mut edges = Edges::new(alloc);
@@ -31,7 +32,7 @@ pub fn determinise(alloc: Global, fst: &Fst) -> Result<Dfst, Memory>
     let mut number = 0;
     'sets: while number < sets.len() {
         add_final(fst, sets.get(number), number, &mut finals)?;
-        let places = places_from(alloc, fst, sets.get(number))?;
+        let places = places_from(alloc, fst, &begins, sets.get(number))?;
         add_groups(
             alloc,
             exits,

@@ -37,33 +37,68 @@ fn sort_places(edges: &[Edge], places: &mut Vec<usize>)
     places.sort_unstable_by(|a, b| compare_places(edges, *a, *b));
 }
 
+fn fill(begins: &mut Vec<usize>, upto: usize, place: usize) -> Result<(), Memory> {
+    for _ in begins.len()..upto {
+        begins.push(place)?;
+    }
+    Ok(())
+}
+
+/// For each state a guess where its edges begin, which is tested where it is used.
+pub(crate) fn begins_of(alloc: Global, fst: &Fst) -> Result<Vec<usize>, Memory> {
+    let mut begins = Vec::with_capacity(alloc, fst.states())?;
+    for (place, edge) in fst.edges().iter().enumerate() {
+        fill(&mut begins, edge.from.saturating_add(1), place)?;
+    }
+    fill(&mut begins, fst.states(), fst.edges().len())?;
+    Ok(begins)
+}
+
+fn guess_at(begins: &[usize], state: usize) -> usize {
+    match begins.get(state) {
+        None => 0,
+        Some(place) => *place,
+    }
+}
+
 /// Adds the places of the edges that leave a state.
-fn add_places(fst: &Fst, state: usize, places: &mut Vec<usize>) -> Result<(), Memory>
+fn add_places(
+    fst: &Fst,
+    begins: &[usize],
+    state: usize,
+    places: &mut Vec<usize>,
+) -> Result<(), Memory>
     ensures { OnOk result (AddsWhere (IsPlaceOf fst.now.edges state) places.old.items places.new.items) }
 {
-    let (low, high) = fst.span(state);
+    let guess = guess_at(begins, state);
+    let (low, high) = fst.span_near(state, guess);
     for place in low..high {
         places.push(place)?;
     }
     Ok(())
 }
 
-fn gathered(alloc: Global, fst: &Fst, set: &[usize]) -> Result<Vec<usize>, Memory>
+fn gathered(alloc: Global, fst: &Fst, begins: &[usize], set: &[usize]) -> Result<Vec<usize>, Memory>
     ensures { IfOk result (λ places. (p : ℕ) → IsIn p places.items ↔ IsPlaceFrom fst.now.edges set.now p) }
 {
     let mut places = Vec::new(alloc);
     for state in set {
-        add_places(fst, *state, &mut places)?;
+        add_places(fst, begins, *state, &mut places)?;
     }
     Ok(places)
 }
 
 /// The places of the edges that leave these states, by label and then by the state that they enter.
-pub(crate) fn places_from(alloc: Global, fst: &Fst, set: &[usize]) -> Result<Vec<usize>, Memory>
+pub(crate) fn places_from(
+    alloc: Global,
+    fst: &Fst,
+    begins: &[usize],
+    set: &[usize],
+) -> Result<Vec<usize>, Memory>
     ensures exactly { IfOk result (λ places. (p : ℕ) → IsIn p places.items ↔ IsPlaceFrom fst.now.edges set.now p) }
     ensures rises { IfOk result (λ places. RisesByLabel (edge_at fst.now.edges places.items)) }
 {
-    let mut places = gathered(alloc, fst, set)?;
+    let mut places = gathered(alloc, fst, begins, set)?;
     sort_places(fst.edges(), &mut places);
     Ok(places)
 }

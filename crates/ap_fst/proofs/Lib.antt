@@ -15,3 +15,4 @@ pub mod Laws
 pub mod QuietLaws
 pub mod Adding
 pub mod Removals
+pub mod Redrafts

@@ -10,7 +10,7 @@ use Rattle.std.proofs.lemmas.List.Sorted.{Contains-permutation, IsPermutation-sy
 use Rattle.std.proofs.lemmas.Option.{same_Some, none-some, slice_get_within, get_or_from_slice_get}
 use Rattle.std.specs.declared.cmp.Ordering.{Ordering}
 use Rattle.std.specs.declared.cmp.Ordering.TheVariants.{Less}
-use Rattle.ap_fst.specs.Lists.{IsIn, Ascends, IsKeyRange}
+use Rattle.ap_fst.specs.Lists.{IsIn, Ascends, IsKeyRange, IsLow}
 
 pub in_front : {X : Type 0} (x : X) (xs ys : List X) → IsIn x xs → IsIn x (xs ++ ys)
 in_front x [] ys h = elim h [ ]
@@ -240,6 +240,20 @@ key_range_on key s xs low more l lend h hend =
     key_range key s xs low (low + more) l lend
     (end_behind key s xs low more (λ k d lt. let t : ltb (key (get_or xs k d)) s ≡ true = l.0 k d (omega arith) lt in grind (arith, nat_tests)) h)
     (omega arith)
+
+-- a place that was tested
+pub low_from : {X : Type 0} (key : X → ℕ) (s : ℕ) (xs : List X) (at : ℕ) → IsNonDecreasingBy key xs → at ≤ length xs → ((d : X) → 0 < at → key (get_or xs (at - 1) d) < s) → ((d : X) → at < length xs → s ≤ key (get_or xs at d)) → IsLow key s xs at
+low_from key s xs at up end before behind = record {
+  end = end;
+  below = λ k d lt. let h : key (get_or xs k d) ≤ key (get_or xs (at - 1) d) = up k (at - 1) d (omega arith) (omega arith) in let g : key (get_or xs (at - 1) d) < s = before d (omega arith) in omega arith;
+  above = λ k d le lt. let h : key (get_or xs at d) ≤ key (get_or xs k d) = up at k d le lt in let g : s ≤ key (get_or xs at d) = behind d (omega arith) in omega arith;
+}
+
+pub low_point : {X : Type 0} (key : X → ℕ) (s : ℕ) (xs : List X) (at : ℕ) → IsLow key s xs at → IsPartitionPoint (λ x. ltb (key x) s ≡ true) (λ x. ltb (key x) s ≡ false) xs at
+low_point key s xs at low = (
+  λ k d from lt. let h : key (get_or xs k d) < s = low.below k d lt in grind (arith, nat_tests),
+  λ k d from lt. let h : s ≤ key (get_or xs k d) = low.above k d from lt in grind (arith, nat_tests),
+)
 
 -- ---- ascending lists
 

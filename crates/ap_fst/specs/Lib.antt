@@ -5,6 +5,7 @@ pub mod Places
 pub mod Sketches
 pub mod Paths
 pub mod Machines
+pub mod Redrafting
 pub mod Walks
 pub mod Graphs
 pub mod Marks

@@ -9,6 +9,12 @@ abbrev pub Ascends : {X : Type 0} → (X → X → Ordering) → List X → Type
 Ascends cmp [] = Unit {0}
 Ascends {X} cmp (x ∷ xs) = ((y : X) → IsIn y xs → cmp x y ≡ Less) × Ascends cmp xs
 
+-- in a list whose keys do not fall, the items before this place, and no others, have a key below this one
+pub record IsLow {X : Type 0} (key : X → ℕ) (s : ℕ) (xs : List X) (at : ℕ) : Type 0 where
+  pub end : at ≤ length xs
+  pub below : (k : ℕ) (d : X) → k < at → key (slice_index_or xs k d) < s
+  pub above : (k : ℕ) (d : X) → at ≤ k → k < length xs → s ≤ key (slice_index_or xs k d)
+
 -- in a list whose keys do not fall, the items with this key stand at the places from low up to high
 pub record IsKeyRange {X : Type 0} (key : X → ℕ) (s : ℕ) (xs : List X) (low high : ℕ) : Type 0 where
   pub rises : low ≤ high

@@ -2,7 +2,9 @@ ghost use Rattle.std.specs.Prelude.{◌≡◌, ◌+◌, ◌^◌, ◌<◌, ◌++�
 ghost use Rattle.ap_fst.specs.Sides.{has_side};
 ghost use Rattle.ap_fst.specs.Places.{placed, moved, Shifts};
 
+use crate::fst::Fst;
 use crate::label::Label;
+use crate::redrafting::moves_of;
 use ap_symbol::Memory;
 use std::alloc::Global;
 use std::marker::Model;
@@ -108,6 +110,7 @@ impl Model for Draft {
 
 impl Draft {
     ghost use Rattle.ap_fst.specs.Paths.{Accepts, IsJoined, IsEither, IsOptional, IsMoreThanNone, Repeats};
+    ghost use Rattle.ap_fst.specs.Walks.{AcceptsLabels};
     ghost use Rattle.ap_fst.specs.declared.label.Label.{Label};
 
     /// Accepts no string.
@@ -293,6 +296,23 @@ impl Draft {
             states,
             start,
             end,
+            moves,
+        })
+    }
+
+    /// A draft of a transducer: it accepts the same label strings.
+    pub fn of(alloc: Global, fst: &Fst) -> Result<Draft, Memory>
+        ensures { IfOk result (λ made. (labels : List Label) → Accepts made labels ↔ AcceptsLabels fst.now labels) }
+    {
+        let states = fst.states();
+        let Some(all) = states.checked_add(2) else {
+            return Err(Memory);
+        };
+        let moves = moves_of(alloc, fst)?;
+        Ok(Draft {
+            states: all,
+            start: states,
+            end: states + 1,
             moves,
         })
     }

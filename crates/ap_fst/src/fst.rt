@@ -1,11 +1,12 @@
-ghost use Rattle.std.specs.Prelude.{◌≡◌, ◌<◌, ◌↔◌, IsTrue, nat_lt, nat_le, ◌≤◌, ◌==◌, length, true, false};
+ghost use Rattle.std.specs.Prelude.{◌≡◌, ◌<◌, ◌↔◌, IsTrue, nat_lt, nat_le, ◌≤◌, ◌-◌, ◌==◌, length, slice_index_or, true, false};
 ghost use Rattle.std.specs.List.{filter};
 ghost use Rattle.std.specs.Option.{option_copied};
 ghost use Rattle.std.specs.Ordering.{nat_cmp};
 ghost use Rattle.std.specs.List.Sorted.{IsNonDecreasingBy, IsPartitionPoint};
-ghost use Rattle.ap_fst.specs.Lists.{IsIn, IsKeyRange, Ascends};
+ghost use Rattle.ap_fst.specs.Lists.{IsIn, IsKeyRange, IsLow, Ascends};
 ghost use Rattle.ap_fst.specs.Machines.{edge_from, edges_of, IsSpan, IsSpanBy};
 ghost use Rattle.ap_fst.specs.Order.{left_place};
+ghost use Rattle.ap_fst.specs.declared.label.Edge.{Edge};
 
 use crate::label::{Edge, Edges, Finals};
 use crate::order::compare_left;
@@ -51,6 +52,61 @@ fn range_of(edges: &[Edge], state: usize) -> (usize, usize)
     ensures { IsKeyRange edge_from state edges.now result.0 result.1 }
 {
     let low = low_of(edges, state);
+    let more = near_high_of(&edges[low..], state);
+    (low, low + more)
+}
+
+fn is_below(edges: &[Edge], state: usize, at: usize) -> bool
+    requires { at ≤ length edges.now }
+    ensures { IsTrue result → 0 < at → (d : Edge) → edge_from (slice_index_or edges.now (at - 1) d) < state }
+{
+    if at == 0 {
+        return true;
+    }
+    edges[at - 1].from < state
+}
+
+fn is_above(edges: &[Edge], state: usize, at: usize) -> bool
+    ensures { IsTrue result → at < length edges.now → (d : Edge) → state ≤ edge_from (slice_index_or edges.now at d) }
+{
+    if at >= edges.len() {
+        return true;
+    }
+    edges[at].from >= state
+}
+
+/// Whether the edges from this place on are all that leave the state or a later one.
+fn is_low(edges: &[Edge], state: usize, at: usize) -> bool
+    requires { IsNonDecreasingBy edge_from edges.now }
+    ensures { IsTrue result → IsLow edge_from state edges.now at }
+{
+    if at > edges.len() {
+        return false;
+    }
+    if !is_below(edges, state, at) {
+        return false;
+    }
+    is_above(edges, state, at)
+}
+
+/// Where the edges of a state begin: at the guess if it is right, else by halving.
+fn low_near(edges: &[Edge], state: usize, guess: usize) -> usize
+    requires { IsNonDecreasingBy edge_from edges.now }
+    ensures point { IsPartitionPoint (λ e. nat_lt (edge_from e) state ≡ true) (λ e. nat_lt (edge_from e) state ≡ false) edges.now result }
+    ensures bound { result ≤ length edges.now }
+{
+    if is_low(edges, state, guess) {
+        return guess;
+    }
+    low_of(edges, state)
+}
+
+/// Where the edges of a state begin and end, with a guess where they begin.
+fn range_near(edges: &[Edge], state: usize, guess: usize) -> (usize, usize)
+    requires { IsNonDecreasingBy edge_from edges.now }
+    ensures { IsKeyRange edge_from state edges.now result.0 result.1 }
+{
+    let low = low_near(edges, state, guess);
     let more = near_high_of(&edges[low..], state);
     (low, low + more)
 }
@@ -182,6 +238,15 @@ impl Fst {
         ensures sound { IsMachine self.now }
     {
         range_of(self.edges.as_slice(), state)
+    }
+
+    /// The same places, found at once where the guess of the first is right. A wrong guess costs time
+    /// alone.
+    pub fn span_near(&self, state: usize, guess: usize) -> (usize, usize)
+        ensures span { IsSpan self.now.edges state result.0 result.1 }
+        ensures sound { IsMachine self.now }
+    {
+        range_near(self.edges.as_slice(), state, guess)
     }
 
     /// The places in `edges` from the first up to the second that hold the edges of a state with

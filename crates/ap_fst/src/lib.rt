@@ -12,6 +12,7 @@ mod graph;
 mod label;
 mod numbering;
 mod order;
+mod redrafting;
 mod removal;
 mod silence;
 #[cfg(test)]

@@ -6,10 +6,10 @@ use Rattle.ap_dix.specs.Soundness.{is_sound_entry}
 use Rattle.ap_dix.specs.declared.dictionary.Entry.{Entry}
 use Rattle.ap_compile.specs.Drafts.{AreDrafts, IsDraftOf, Any, Spells}
 use Rattle.ap_compile.proofs.Deriving.{drafts_more, sound_at}
-use Rattle.ap_compile.proofs.gathering.paradigm_drafts.Goals as goal
+use Rattle.ap_compile.proofs.paradigms.paradigm_drafts.Goals as goal
 
-pub entries_draft-requires : goal.entries_draft-requires
-entries_draft-requires c =
+pub paradigm_draft-requires : goal.paradigm_draft-requires
+paradigm_draft-requires c =
     let count : length c.as_slice.result.now ≡ c.loop-pardef.pardef-index = ap (length {A = Sketch}) c.as_slice.ensures.value ∙ c.loop-pardef.invariant.count in
     let same : c.as_slice-pardef-items.result.now ≡ c.args.dictionary.now.pardefs = c.as_slice-pardef-items.ensures in
     subst (λ (xs : List Entry). IsTrue (list_all (is_sound_entry (length c.as_slice.result.now)) xs)) (sym c.as_slice-in-loop-pardef.ensures)
