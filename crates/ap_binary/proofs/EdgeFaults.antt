@@ -1,5 +1,5 @@
 -- What is wrong where an edge is wanted.
-use Rattle.std.proofs.Common.{◌≡◌, ◌⊎◌, inl, inr, ℕ, suc, zero, ◌+◌, ◌-◌, ◌^◌, ◌<◌, Bool, true, false, nat_lt, List, [], ◌∷◌, ◌++◌, length, refl, sym, ◌∙◌, ap, subst, arith, append_assoc, Option, Some, None, Result, Ok, Err}
+use Rattle.std.proofs.Common.{◌≡◌, inl, inr, ℕ, suc, zero, ◌+◌, ◌-◌, ◌^◌, ◌<◌, true, false, nat_lt, List, [], ◌∷◌, ◌++◌, length, refl, sym, ◌∙◌, ap, subst, arith, append_assoc, Option, Some, None, Ok, Err}
 use Rattle.std.specs.Prelude.{◌&&◌}
 use Rattle.std.specs.List.{flat_map, list_all}
 use Rattle.std.specs.Ordering.{nat_cmp, is_lt, ordering_then}
@@ -7,9 +7,9 @@ use Rattle.std.proofs.lemmas.Bool.{and_parts, cases_Bool}
 use Rattle.std.proofs.lemmas.Bool.Decides.{nat_tests}
 use Rattle.std.proofs.lemmas.Option.{same_Some}
 use Rattle.ap_fst.specs.Machines.{IsEdgeWithin}
-use Rattle.ap_fst.specs.Order.{label_cmp, edge_cmp}
+use Rattle.ap_fst.specs.Order.{label_cmp}
 use Rattle.ap_fst.specs.declared.label.Edge.{Edge}
-use Rattle.ap_binary.specs.Faults.{IsEdgeLine, HasEdge, IsEdgeFault, bad_edge, edge_out, last_or}
+use Rattle.ap_binary.specs.Faults.{HasEdge, IsEdgeFault, bad_edge, edge_out, last_or}
 use Rattle.ap_binary.specs.Held.{is_held_edge}
 use Rattle.ap_binary.specs.Pieces.{edge_at}
 use Rattle.ap_binary.specs.Lines.{◌>>=◌, fault, on_line, follows, is_within, judged_edge, edge_line, with_edges, edges_in}
@@ -20,10 +20,9 @@ use Rattle.ap_binary.proofs.AnyNumbers.{clamped, clamped_below, clamped_order}
 use Rattle.ap_binary.proofs.AnyLines.{clamped_edge, IsEdgeRead, edge_found, has_edge}
 use Rattle.ap_binary.proofs.Bools.{both_true}
 use Rattle.ap_binary.proofs.Edges.{AreEdges, IsNextEdge, more_edges, next_edge, ok_holds, within_is}
-use Rattle.ap_binary.proofs.Erring.{same_Err, err_same, ok_no_err, IsErrBehind, bound_err, judge}
+use Rattle.ap_binary.proofs.Erring.{same_Err, err_same, ok_no_err, bound_err, judge}
 use Rattle.ap_binary.proofs.Inverses.{line_is_edge}
 use Rattle.ap_binary.proofs.Options.{some_holds}
-use Rattle.ap_binary.proofs.Realphabet.{pass_at}
 use Rattle.ap_binary.proofs.Reread.{line_edge, within_test}
 use Rattle.ap_binary.proofs.Rereading.{IsWritable, edge_back}
 

@@ -1,5 +1,5 @@
 -- No fault of a text is WrongWay.
-use Rattle.std.proofs.Common.{◌≡◌, inl, inr, ℕ, ◌+◌, List, [], ◌∷◌, sym, ◌∙◌, ap, Option, Some, None}
+use Rattle.std.proofs.Common.{◌≡◌, inl, inr, ℕ, ◌+◌, List, [], ◌∷◌, sym, ◌∙◌, ap, Option}
 use Rattle.ap_fst.specs.declared.compiled.Kind2.{Kind2}
 use Rattle.ap_fst.specs.declared.label.Edge.{Edge}
 use Rattle.ap_binary.specs.Faults.{IsEdgeFault, bad_edge, edge_out, IsFinalFault, bad_final, final_out, IsSectionFault, bad_head, head_out, at_edge, at_final, IsFaultFrom, in_section, past_section, no_end, behind_end, IsLineFault, bad_header, bad_way, bad_alphabet, behind_alphabet, placed_sections, HasFirstFault, at_line, of_section}

@@ -1,5 +1,5 @@
 -- The first fault of a file in sentences is the one that is read.
-use Rattle.std.proofs.Common.{◌≡◌, ◌⊎◌, inl, inr, ℕ, ◌+◌, Bool, true, false, List, [], ◌∷◌, ◌++◌, length, refl, sym, ◌∙◌, ap, subst, append_assoc, Option, Some, None, Result, Ok, Err}
+use Rattle.std.proofs.Common.{◌≡◌, ◌⊎◌, inl, inr, ℕ, ◌+◌, Bool, true, false, List, [], ◌∷◌, ◌++◌, length, refl, sym, ◌∙◌, ap, subst, Option, Some, None, Result, Ok, Err}
 use Rattle.std.specs.Prelude.{◌↔◌, codes}
 use Rattle.ap_fst.specs.Sections.{IsAlphabet}
 use Rattle.ap_fst.specs.declared.compiled.Kind2.{Kind2}
@@ -11,18 +11,18 @@ use Rattle.ap_binary.specs.Grammar.{IsRaw, AreRawParts}
 use Rattle.ap_binary.specs.Lines.{◌>>=◌, fault, on_line, on_header, way_in, header_in, alphabet_place, over, end_in, section_in, line_after, sections_in, file_in}
 use Rattle.ap_binary.specs.Pieces.{word_at, version_at, way_at, alphabet_at}
 use Rattle.ap_binary.specs.Spelling.{IsFirstIn, in_order, IsFirstFault, in_lines, in_sections}
-use Rattle.ap_binary.specs.Text.{section_text, alphabet_text, header_text, compiled_text}
+use Rattle.ap_binary.specs.Text.{alphabet_text, header_text}
 use Rattle.ap_binary.specs.declared.file.File.{File}
 use Rattle.ap_binary.specs.declared.refusal.BinaryFault.{BinaryFault}
 use Rattle.ap_binary.specs.declared.refusal.BinaryKind.TheVariants.{BadHeader, BadLine}
 use Rattle.ap_binary.specs.declared.sections.Sections.{Sections}
 use Rattle.ap_binary.specs.declared.sections.Written.{Written}
 use Rattle.ap_binary.proofs.Edges.{ok_holds, on_line_some, same_Ok}
-use Rattle.ap_binary.proofs.Erring.{same_Err, err_same, ok_no_err, IsErrBehind, bound_err, err_bind, ok_bind}
+use Rattle.ap_binary.proofs.Erring.{same_Err, err_same, ok_no_err, bound_err, err_bind, ok_bind}
 use Rattle.ap_binary.proofs.Files.{raw_at, IsRawFile, file_raw}
 use Rattle.ap_binary.proofs.Inverse.{alphabet_inv, IsAlphabetOf, word_is}
 use Rattle.ap_binary.proofs.Inverses.{IsSectionOf, section_is, header_some, version_is, way_is, header_inv, file_parts_of, IsFileOf, file_inv}
-use Rattle.ap_binary.proofs.Letters.{alphabet_good, AreLetters}
+use Rattle.ap_binary.proofs.Letters.{alphabet_good}
 use Rattle.ap_binary.proofs.Numerals.{word_back}
 use Rattle.ap_binary.proofs.Options.{some_holds}
 use Rattle.ap_binary.proofs.Realphabet.{alphabet_back}

@@ -1,10 +1,9 @@
 -- What is wrong where a final state is wanted.
-use Rattle.std.proofs.Common.{◌≡◌, ◌⊎◌, inl, inr, ℕ, suc, zero, ◌+◌, ◌-◌, ◌^◌, ◌<◌, ◌≤◌, true, false, nat_le, nat_lt, List, [], ◌∷◌, ◌++◌, length, refl, sym, ◌∙◌, ap, subst, arith, append_assoc, Option, Some, None, Result, Ok, Err}
+use Rattle.std.proofs.Common.{◌≡◌, inl, inr, ℕ, suc, zero, ◌+◌, ◌-◌, ◌^◌, ◌<◌, ◌≤◌, true, false, nat_le, nat_lt, List, [], ◌∷◌, ◌++◌, length, refl, sym, ◌∙◌, ap, subst, arith, append_assoc, Option, Some, None, Ok, Err}
 use Rattle.std.specs.List.{flat_map}
 use Rattle.std.proofs.lemmas.Bool.{cases_Bool}
 use Rattle.std.proofs.lemmas.Bool.Decides.{nat_tests}
 use Rattle.std.proofs.lemmas.Option.{same_Some}
-use Rattle.ap_fst.specs.Lists.{IsIn}
 use Rattle.ap_binary.specs.Faults.{HasFinal, IsAbove, IsFinalFault, bad_final, final_out, last_or}
 use Rattle.ap_binary.specs.Pieces.{final_at}
 use Rattle.ap_binary.specs.Lines.{◌>>=◌, fault, on_line, judged_final, final_line, with_finals, finals_in}
@@ -14,7 +13,7 @@ use Rattle.ap_binary.specs.declared.refusal.BinaryKind.TheVariants.{BadLine, Out
 use Rattle.ap_binary.proofs.AnyNumbers.{clamped, clamped_cases, clamped_below}
 use Rattle.ap_binary.proofs.AnyLines.{IsFinalRead, final_found, final_again}
 use Rattle.ap_binary.proofs.Edges.{AreFinals, IsNextFinal, more_finals, next_final, ok_holds}
-use Rattle.ap_binary.proofs.Erring.{same_Err, err_same, ok_no_err, IsErrBehind, bound_err, judge}
+use Rattle.ap_binary.proofs.Erring.{same_Err, err_same, ok_no_err, bound_err, judge}
 use Rattle.ap_binary.proofs.Inverses.{line_is_final}
 use Rattle.ap_binary.proofs.Options.{some_holds}
 use Rattle.ap_binary.proofs.Reread.{line_final}

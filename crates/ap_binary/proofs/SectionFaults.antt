@@ -1,28 +1,27 @@
 -- What is wrong first in a section.
-use Rattle.std.proofs.Common.{◌≡◌, ◌⊎◌, inl, inr, ℕ, suc, ◌+◌, ◌^◌, ◌<◌, ◌≤◌, eqb, true, false, List, ◌++◌, length, refl, sym, ◌∙◌, ap, subst, arith, append_assoc, Option, Some, None, Result, Ok, Err}
+use Rattle.std.proofs.Common.{◌≡◌, inl, inr, ℕ, ◌+◌, ◌^◌, ◌<◌, eqb, true, false, List, ◌++◌, length, refl, sym, ◌∙◌, ap, arith, Option, Some, None, Result, Ok, Err}
 use Rattle.std.specs.List.{flat_map, list_all}
 use Rattle.std.proofs.lemmas.Bool.{cases_lt}
 use Rattle.std.proofs.lemmas.Bool.Decides.{nat_tests}
-use Rattle.std.proofs.lemmas.Option.{same_Some}
 use Rattle.ap_fst.specs.declared.compiled.Kind2.{Kind2}
 use Rattle.ap_fst.specs.declared.label.Edge.{Edge}
-use Rattle.ap_binary.specs.Faults.{HasHead, AreCounts, AreGoodEdges, AreGoodFinals, IsEdgeFault, IsFinalFault, IsSectionFault, bad_head, head_out, at_edge, at_final, last_or}
+use Rattle.ap_binary.specs.Faults.{HasHead, AreCounts, AreGoodEdges, AreGoodFinals, IsSectionFault, bad_head, head_out, at_edge, at_final}
 use Rattle.ap_binary.specs.Held.{is_held_edge}
 use Rattle.ap_binary.specs.Pieces.{limited, head_at}
 use Rattle.ap_binary.specs.Lines.{◌>>=◌, fault, on_line, edges_in, finals_in, counts_of, head_line, section_in}
-use Rattle.ap_binary.specs.Text.{then_space, then_end, edge_text, final_text, section_name, head_of}
+use Rattle.ap_binary.specs.Text.{edge_text, final_text, head_of}
 use Rattle.ap_binary.specs.declared.heads.Counts.{Counts}
 use Rattle.ap_binary.specs.declared.heads.Head.{Head}
 use Rattle.ap_binary.specs.declared.refusal.BinaryFault.{BinaryFault}
 use Rattle.ap_binary.specs.declared.refusal.BinaryKind.TheVariants.{BadLine, OutOfRange}
 use Rattle.ap_binary.specs.declared.sections.Written.{Written}
 use Rattle.ap_binary.proofs.AnyLines.{IsHeadRead, head_found, has_head}
-use Rattle.ap_binary.proofs.EdgeFaults.{IsEdgesFault, edges_found, edges_given, edge_moved}
-use Rattle.ap_binary.proofs.Edges.{AreEdges, AreFinals, edges_are, finals_are, ok_holds}
-use Rattle.ap_binary.proofs.Erring.{same_Err, err_same, ok_no_err, IsErrBehind, bound_err, err_bind, ok_bind}
+use Rattle.ap_binary.proofs.EdgeFaults.{IsEdgesFault, edges_found, edges_given}
+use Rattle.ap_binary.proofs.Edges.{AreEdges, AreFinals, edges_are, ok_holds}
+use Rattle.ap_binary.proofs.Erring.{same_Err, err_same, ok_no_err, bound_err}
 use Rattle.ap_binary.proofs.Files.{head_some}
 use Rattle.ap_binary.proofs.FinalFaults.{IsFinalsFault, finals_found, finals_given}
-use Rattle.ap_binary.proofs.Inverses.{IsCountsOf, head_line_inv, AreEdgesOf, edges_inv, finals_inv}
+use Rattle.ap_binary.proofs.Inverses.{IsCountsOf, head_line_inv, AreEdgesOf, edges_inv}
 use Rattle.ap_binary.proofs.Numbers.{limited_none, limited_some}
 use Rattle.ap_binary.proofs.Options.{some_holds}
 use Rattle.ap_binary.proofs.Reread.{edges_back, written_listed, head_line_back}

@@ -72,12 +72,10 @@ fn fault_of(alloc: Global, text: &str) -> (u8, u64) {
 fn faults_have_their_lines(rt: HostRuntime) -> Result<(), Fail> {
     let alloc = rt.alloc();
     assert!(rt; fault_of(alloc, "LTC9\nalphabet\n") == (1, 1));
-    assert!(rt; fault_of(alloc, "LTC2") == (1, 1));
     assert!(rt; fault_of(alloc, "LTC2\n") == (2, 2));
     assert!(rt; fault_of(alloc, "LTC1\nalphabet\n") == (2, 3));
     assert!(rt; fault_of(alloc, "LTC1\nalphabet\nsection standard 0 0 0\n") == (3, 3));
     assert!(rt; fault_of(alloc, EMPTY_CYCLE) == (4, 5));
     assert_eq!(rt; BinaryKind::EmptySide.name(), "EmptySide");
-    assert_eq!(rt; BinaryKind::WrongWay.name(), "WrongWay");
     Ok(())
 }
