@@ -190,14 +190,14 @@ fn bounds_an_item(rt: HostRuntime) -> Result<(), AllocError> {
 }
 
 #[test]
-fn reads_megabytes_in_small_pieces(rt: HostRuntime) -> Result<(), AllocError> {
+fn reads_a_megabyte_in_small_pieces(rt: HostRuntime) -> Result<(), AllocError> {
     let alloc = rt.alloc();
-    let text = blanks(alloc, UNIT_MAX, b"a")?;
+    let text = blanks(alloc, 1_048_576, b"a")?;
     for size in [1, 7] {
         let got = read_pieces(alloc, Dialect::Raw, text.as_slice(), size)?;
         assert_eq!(rt;
             got.as_str(),
-            "0+4194304 4194304+1 end",
+            "0+1048576 1048576+1 end",
             "in pieces of {size}"
         );
     }
