@@ -1,0 +1,6 @@
+pub mod Finding
+pub mod Cutting
+pub mod MovedParts
+pub mod Staying
+pub mod Whole
+pub mod ReadAgain

@@ -1,0 +1,5 @@
+use Rattle.ap_passes.proofs.Staying.{none_empty}
+use Rattle.ap_passes.proofs.laws.none_is_empty.Goals as goal
+
+pub returns : goal.returns
+returns c = none_empty

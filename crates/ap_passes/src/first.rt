@@ -1,0 +1,158 @@
+ghost use Rattle.std.specs.Prelude.{◌≡◌, ℕ, List, [], length, false, None};
+ghost use Rattle.ap_stream.specs.Each.{held_items, held_size, none_held};
+ghost use Rattle.ap_stream.specs.Told.{Ending};
+ghost use Rattle.ap_stream.specs.Rest.{rest_of, held_of, rest_at_fault, rest_at_cut, rest_pending_first};
+ghost use Rattle.ap_stream.specs.declared.dialect.Dialect.TheVariants.{Analysed};
+ghost use Rattle.ap_passes.specs.Passes.{first_reading, first_pass, first_work};
+
+use crate::units::write_one;
+use ap_stream::{
+    Dialect, Each, Finish, Handler, Pipe, Read, Stage, StageFault, Staged, Turn, Unit, UnitWriter,
+};
+use ap_symbol::{Bytes, Memory};
+use std::alloc::Global;
+use std::marker::Model;
+
+/// Writes the first reading of a unit.
+#[derive(Drop)]
+struct FirstWriter;
+
+impl UnitWriter for FirstWriter {
+    ghost given = { λ _ words. first_reading words };
+
+    fn write(&mut self, unit: &Unit, into: &mut Bytes) -> Result<(), Memory> {
+        match unit.get(1) {
+            None => Ok(()),
+            Some(reading) => {
+                if reading.is_empty() {
+                    return Ok(());
+                }
+                write_one(reading, into)
+            }
+        }
+    }
+}
+
+/// The first readings of analysed units: a `Handler` over the items of an analysed text.
+#[derive(Drop)]
+pub struct FirstWork {
+    each: Each<FirstWriter>,
+}
+
+impl Model for FirstWork {
+    ghost use Rattle.ap_passes.specs.Passes.{Passing};
+
+    ghost Value = { Passing };
+
+    ghost view = { λ w. record { dialect = w.each.dialect; item = w.each.item; finished = w.each.finished } };
+}
+
+impl FirstWork {
+    /// The work, which holds nothing. It takes no memory.
+    pub fn new(alloc: Global) -> FirstWork
+        ensures dialect { result.dialect ≡ Analysed }
+        ensures item { result.item ≡ None }
+        ensures finished { result.finished ≡ false }
+    {
+        FirstWork {
+            each: Each::new(alloc, Dialect::Analysed, FirstWriter),
+        }
+    }
+}
+
+impl Handler for FirstWork {
+    ghost work = { first_work };
+
+    ghost dialect = { λ h. h.dialect };
+
+    ghost count = { λ h. length (held_items h.item) };
+
+    ghost held = { λ h. held_size h.item };
+
+    ghost span = { λ _. 0 };
+
+    ghost finished = { λ h. h.finished };
+
+    ghost wants = { λ h. h.item ≡ None };
+
+    fn push(&mut self, read: Read) -> Result<(), Memory> {
+        self.each.push(read)
+    }
+
+    fn finish(&mut self) {
+        self.each.finish()
+    }
+
+    fn turn(&mut self, into: &mut Bytes) -> Result<Turn, StageFault> {
+        self.each.turn(into)
+    }
+
+    ghost wants_first = { λ h e. none_held h.item e };
+}
+
+/// The first reading of each unit of an analysed text, as a unit: a `Stage` over bytes. Of a unit
+/// whose first reading is empty nothing is written; any other item is copied.
+///
+/// A unit of which more than `UNIT_MAX` bytes are to be written is answered by the limit
+/// `UnitTooLong` at its place.
+#[derive(Drop)]
+pub struct First {
+    stage: Staged<FirstWork>,
+}
+
+impl Model for First {
+    ghost use Rattle.ap_stream.specs.Seat.{Seat};
+    ghost use Rattle.ap_passes.specs.Passes.{Passing};
+
+    ghost Value = { Seat Passing };
+
+    ghost view = { λ f. f.stage };
+}
+
+impl First {
+    /// A new stage, which takes no memory.
+    pub fn new(alloc: Global) -> First
+        ensures rest { (x : List ℕ) (e : Ending) → rest_of first_work result x e ≡ first_pass x e }
+        ensures pending { result.pending ≡ [] }
+        ensures ended { result.ended ≡ false }
+        ensures fault { result.fault ≡ None }
+    {
+        First {
+            stage: Staged::new(alloc, Dialect::Analysed, FirstWork::new(alloc)),
+        }
+    }
+}
+
+impl Stage for First {
+    ghost rest = { λ s. rest_of first_work s };
+
+    ghost pending = { λ s. s.pending };
+
+    ghost held = { λ s. held_of (λ h. held_size h.item) s };
+
+    ghost ended = { λ s. s.ended };
+
+    ghost fault = { λ s. s.fault };
+
+    fn take(&mut self, piece: &[u8]) -> Result<usize, StageFault> {
+        self.stage.take(piece)
+    }
+
+    fn end(&mut self) -> Result<Finish, StageFault> {
+        self.stage.end()
+    }
+
+    fn give(&mut self, into: &mut Pipe) -> usize {
+        self.stage.give(into)
+    }
+
+    fn pending(&self) -> usize {
+        self.stage.pending()
+    }
+
+    ghost at_fault = { λ s f x e h. rest_at_fault first_work s f x e h };
+
+    ghost at_cut = { λ s x. rest_at_cut first_work s x };
+
+    ghost pending_first = { λ s x e. rest_pending_first first_work s x e };
+}

@@ -1,0 +1,35 @@
+ghost use Rattle.ap_passes.specs.Laws.{NothingIsLost, NoneIsEmpty, PlainStays, TaglessStays, SplitReads, FirstReads};
+
+/// The law that nothing of a word is lost where no part is empty: its words joined again by Joins
+/// are the word with its invariable part moved. It is a statement alone and does nothing.
+pub fn nothing_is_lost()
+    ensures { NothingIsLost }
+{}
+
+/// The law that no word that is made of a word is empty. It is a statement alone and does nothing.
+pub fn none_is_empty()
+    ensures { NoneIsEmpty }
+{}
+
+/// The law that a word with neither Join nor Queue stays as it is. It is a statement alone and does
+/// nothing.
+pub fn plain_words_stay()
+    ensures { PlainStays }
+{}
+
+/// The law that a word without a tag stays as it is. It is a statement alone and does nothing.
+pub fn tagless_words_stay()
+    ensures { TaglessStays }
+{}
+
+/// The law that the words that are made of the word of a lexical unit can be words of lexical
+/// units; so what is written of them is read back. It is a statement alone and does nothing.
+pub fn split_words_are_words()
+    ensures { SplitReads }
+{}
+
+/// The law that the first reading of an analysed unit can be the word of a lexical unit, where it
+/// isn't empty. It is a statement alone and does nothing.
+pub fn first_readings_are_words()
+    ensures { FirstReads }
+{}

@@ -1,0 +1,172 @@
+ghost use Rattle.std.specs.Prelude.{◌≡◌, ℕ, List, [], length, false, None};
+ghost use Rattle.ap_stream.specs.Each.{held_items, held_size, none_held};
+ghost use Rattle.ap_stream.specs.Told.{Ending};
+ghost use Rattle.ap_stream.specs.Rest.{rest_of, held_of, rest_at_fault, rest_at_cut, rest_pending_first};
+ghost use Rattle.ap_stream.specs.declared.dialect.Dialect.TheVariants.{Lexical};
+ghost use Rattle.ap_passes.specs.Passes.{split_unit, split_pass, split_work};
+
+use crate::splitting::write_split;
+use ap_stream::{
+    Dialect, Each, Finish, Handler, Pipe, Read, Stage, StageFault, Staged, Turn, Unit, UnitWriter,
+};
+use ap_symbol::{Bytes, Memory, Word};
+use std::alloc::Global;
+use std::marker::Model;
+
+/// Writes the words that are made of the word of a unit.
+#[derive(Drop)]
+struct PretransferWriter {
+    alloc: Global,
+    /// Room for a word whose invariable part is moved.
+    whole: Word,
+    /// Room for a part of a word.
+    part: Word,
+}
+
+impl UnitWriter for PretransferWriter {
+    ghost given = { λ _ words. split_unit words };
+
+    fn write(&mut self, unit: &Unit, into: &mut Bytes) -> Result<(), Memory> {
+        write_split(
+            self.alloc,
+            unit.first(),
+            &mut self.whole,
+            &mut self.part,
+            into,
+        )
+    }
+}
+
+/// Units taken apart: a `Handler` over the items of a lexical text.
+#[derive(Drop)]
+pub struct PretransferWork {
+    each: Each<PretransferWriter>,
+}
+
+impl Model for PretransferWork {
+    ghost use Rattle.ap_passes.specs.Passes.{Passing};
+
+    ghost Value = { Passing };
+
+    ghost view = { λ w. record { dialect = w.each.dialect; item = w.each.item; finished = w.each.finished } };
+}
+
+impl PretransferWork {
+    /// The work, which holds nothing. It takes no memory.
+    pub fn new(alloc: Global) -> PretransferWork
+        ensures dialect { result.dialect ≡ Lexical }
+        ensures item { result.item ≡ None }
+        ensures finished { result.finished ≡ false }
+    {
+        let writer = PretransferWriter {
+            alloc,
+            whole: Word::new(alloc),
+            part: Word::new(alloc),
+        };
+        PretransferWork {
+            each: Each::new(alloc, Dialect::Lexical, writer),
+        }
+    }
+}
+
+impl Handler for PretransferWork {
+    ghost work = { split_work };
+
+    ghost dialect = { λ h. h.dialect };
+
+    ghost count = { λ h. length (held_items h.item) };
+
+    ghost held = { λ h. held_size h.item };
+
+    ghost span = { λ _. 0 };
+
+    ghost finished = { λ h. h.finished };
+
+    ghost wants = { λ h. h.item ≡ None };
+
+    fn push(&mut self, read: Read) -> Result<(), Memory> {
+        self.each.push(read)
+    }
+
+    fn finish(&mut self) {
+        self.each.finish()
+    }
+
+    fn turn(&mut self, into: &mut Bytes) -> Result<Turn, StageFault> {
+        self.each.turn(into)
+    }
+
+    ghost wants_first = { λ h e. none_held h.item e };
+}
+
+/// A lexical text whose words are taken apart, as `apertium-pretransfer` does: a `Stage` over bytes.
+///
+/// A unit that begins with `*` or `@` is copied. In the word of another the invariable part runs
+/// from the first `#` to the next tag, the next `+` or the end; where a tag stands before it, it is
+/// moved in front of the first tag. Then the word is split at each `+` that has a tag somewhere
+/// before it, and its parts that aren't empty are written as units with one space between. Any
+/// other item is copied.
+///
+/// A unit of which more than `UNIT_MAX` bytes are to be written is answered by the limit
+/// `UnitTooLong` at its place.
+#[derive(Drop)]
+pub struct Pretransfer {
+    stage: Staged<PretransferWork>,
+}
+
+impl Model for Pretransfer {
+    ghost use Rattle.ap_stream.specs.Seat.{Seat};
+    ghost use Rattle.ap_passes.specs.Passes.{Passing};
+
+    ghost Value = { Seat Passing };
+
+    ghost view = { λ p. p.stage };
+}
+
+impl Pretransfer {
+    /// A new stage, which takes no memory.
+    pub fn new(alloc: Global) -> Pretransfer
+        ensures rest { (x : List ℕ) (e : Ending) → rest_of split_work result x e ≡ split_pass x e }
+        ensures pending { result.pending ≡ [] }
+        ensures ended { result.ended ≡ false }
+        ensures fault { result.fault ≡ None }
+    {
+        Pretransfer {
+            stage: Staged::new(alloc, Dialect::Lexical, PretransferWork::new(alloc)),
+        }
+    }
+}
+
+impl Stage for Pretransfer {
+    ghost rest = { λ s. rest_of split_work s };
+
+    ghost pending = { λ s. s.pending };
+
+    ghost held = { λ s. held_of (λ h. held_size h.item) s };
+
+    ghost ended = { λ s. s.ended };
+
+    ghost fault = { λ s. s.fault };
+
+    fn take(&mut self, piece: &[u8]) -> Result<usize, StageFault> {
+        self.stage.take(piece)
+    }
+
+    fn end(&mut self) -> Result<Finish, StageFault> {
+        self.stage.end()
+    }
+
+    fn give(&mut self, into: &mut Pipe) -> usize {
+        self.stage.give(into)
+    }
+
+    fn pending(&self) -> usize {
+        self.stage.pending()
+    }
+
+    ghost at_fault = { λ s f x e h. rest_at_fault split_work s f x e h };
+
+    ghost at_cut = { λ s x. rest_at_cut split_work s x };
+
+    ghost pending_first = { λ s x e. rest_pending_first split_work s x e };
+}
