@@ -1,4 +1,5 @@
--- What a text says as a dictionary: the dictionary that it spells, or its first fault.
+-- What the code is proved to compute of a text: a dictionary, or a fault. What a text says as a dictionary is said in
+-- `Sentences`, and the laws tie the two.
 use Rattle.std.specs.Prelude.{◌≡◌, ℕ, List, Option, Some, None, Result, Ok, Err}
 use Rattle.std.specs.Option.{option_map}
 use Rattle.ap_markup.specs.Elements.{elements, Spelled}

@@ -7,7 +7,7 @@ ghost use Rattle.ap_dix.specs.Value.{expression_part, entry_part, entry_parts, e
 use crate::dictionary::{Entries, Entry, EntryPart, EntryParts, Side};
 use crate::expressions::read_expression;
 use crate::words::{texts, word_of};
-use ap_markup::{Names, Node, Part, child, is_named, is_text, name_of, value_of};
+use ap_markup::{Names, Node, Part, child, fitted, is_named, is_text, name_of, value_of};
 use ap_symbol::{Memory, Sequence};
 use std::alloc::Global;
 
@@ -60,7 +60,7 @@ fn entry_parts(alloc: Global, names: &Names, parts: &[Part]) -> Result<EntryPart
             }
         }
     }
-    Ok(made)
+    Ok(fitted(made))
 }
 
 /// The directions that `r` leaves.
@@ -117,5 +117,5 @@ pub fn entries(alloc: Global, names: &Names, parts: &[Part]) -> Result<Entries, 
             }
         }
     }
-    Ok(made)
+    Ok(fitted(made))
 }

@@ -123,11 +123,11 @@ pub fn texts(alloc: Global, parts: &[Part]) -> Result<Text, Memory>
     Ok(made)
 }
 
-/// The word that the parts of an element spell.
+/// The word that the parts of an element spell, in no more memory than it needs.
 pub fn word_of(alloc: Global, parts: &[Part]) -> Result<Word, Memory>
     ensures { IfOk result (λ word. word ≡ symbols (parts_of parts.now)) }
 {
     let mut word = Word::new(alloc);
     add_symbols(alloc, &mut word, parts)?;
-    Ok(word)
+    word.copy(alloc)
 }

@@ -23,4 +23,4 @@ parts-preserved c =
     ]
 
 pub returns : goal.returns
-returns c = ends c.parts.made _ _ (entry_parts_end c.args.names.now c.args.parts.now c.parts.part-index c.parts-test.false) c.parts.invariant
+returns c = c.fitted.ensures ∙ ends c.parts.made _ _ (entry_parts_end c.args.names.now c.args.parts.now c.parts.part-index c.parts-test.false) c.parts.invariant
