@@ -1,0 +1,178 @@
+use crate::status::Status;
+use crate::top::apertium;
+use ap_outside::{MemFiles, MemSink, MemSource};
+use std::alloc::Global;
+use std::process::Abort;
+use std::test::Fail;
+
+/// The plainest dictionary.
+const P: &str =
+    "<dictionary>\n<alphabet>abcdefghijklmnopqrstuvwxyz</alphabet>\n<sdefs><sdef n=\"n\"/><sdef n=\"sg\"/><sdef n=\"vblex\"/><sdef n=\"past\"/><sdef n=\"pr\"/></sdefs>\n<section id=\"main\" type=\"standard\">\n<e><p><l>saw</l><r>saw<s n=\"n\"/><s n=\"sg\"/></r></p></e>\n<e><p><l>saw</l><r>see<s n=\"vblex\"/><s n=\"past\"/></r></p></e>\n<e><p><l>in</l><r>in<s n=\"pr\"/></r></p></e>\n</section>\n</dictionary>\n";
+
+/// A dictionary with a paradigm, a word of two parts and an inconditional section.
+pub(super) const M: &str =
+    "<dictionary>\n<alphabet>abcdefghijklmnopqrstuvwxyz</alphabet>\n<sdefs><sdef n=\"n\"/><sdef n=\"sg\"/><sdef n=\"pl\"/><sdef n=\"vblex\"/>\n<sdef n=\"past\"/><sdef n=\"adv\"/><sdef n=\"sent\"/></sdefs>\n<pardefs><pardef n=\"house__n\">\n<e><p><l></l><r><s n=\"n\"/><s n=\"sg\"/></r></p></e>\n<e><p><l>s</l><r><s n=\"n\"/><s n=\"pl\"/></r></p></e>\n</pardef></pardefs>\n<section id=\"main\" type=\"standard\">\n<e lm=\"house\"><i>house</i><par n=\"house__n\"/></e>\n<e lm=\"saw\"><p><l>saw</l><r>saw<s n=\"n\"/><s n=\"sg\"/></r></p></e>\n<e lm=\"see\"><p><l>saw</l><r>see<s n=\"vblex\"/><s n=\"past\"/></r></p></e>\n<e lm=\"in front\"><p><l>in<b/>front</l><r>in<b/>front<s n=\"adv\"/></r></p></e>\n</section>\n<section id=\"final\" type=\"inconditional\">\n<e lm=\".\"><p><l>.</l><r>.<s n=\"sent\"/></r></p></e>\n</section>\n</dictionary>\n";
+
+/// Entries kept in one direction, one of them in a paradigm.
+const X: &str =
+    "<dictionary><pardefs><pardef n=\"p\"><e r=\"LR\"><i>c</i></e><e><i>d</i></e></pardef></pardefs><section type=\"standard\"><e r=\"LR\"><i>a</i></e><e r=\"RL\"><i>b</i><par n=\"p\"/></e></section></dictionary>";
+
+/// A section of type postblank.
+const Q: &str =
+    "<dictionary>\n<alphabet>abcdefghijklmnopqrstuvwxyz</alphabet>\n<sdefs><sdef n=\"det\"/></sdefs>\n<section id=\"main\" type=\"postblank\">\n<e><p><l>l'</l><r>el<s n=\"det\"/></r></p></e>\n</section>\n</dictionary>\n";
+
+/// An entry with an empty left side.
+const E: &str =
+    "<dictionary>\n<section id=\"m\" type=\"standard\">\n<e><i>a</i></e>\n<e><p><l></l><r>x</r></p></e>\n</section>\n</dictionary>\n";
+
+/// Two words with other words, one of them empty.
+const G: &str =
+    "<dictionary>\n<section id=\"m\" type=\"standard\">\n<e><p><l>ab</l><r>c</r></p></e>\n<e><p><l>x</l><r></r></p></e>\n</section>\n</dictionary>\n";
+
+/// Sections of type postblank and preblank.
+const N: &str =
+    "<dictionary>\n<alphabet>abcdefghijklmnopqrstuvwxyz</alphabet>\n<sdefs><sdef n=\"det\"/></sdefs>\n<section id=\"main\" type=\"postblank\"><e><p><l>l'</l><r>el<s n=\"det\"/></r></p></e></section>\n<section id=\"other\" type=\"preblank\"><e><p><l>'s</l><r>'s<s n=\"det\"/></r></p></e></section>\n</dictionary>\n";
+
+/// Numbers, by an expression.
+const R: &str =
+    "<dictionary>\n<sdefs><sdef n=\"num\"/></sdefs>\n<section id=\"main\" type=\"standard\">\n<e><re>[0-9]+([.,][0-9]+)?</re><p><l></l><r><s n=\"num\"/></r></p></e>\n</section>\n</dictionary>\n";
+
+/// Faulty ones: no expression, a tag that is not declared, a wrong end tag, a weight.
+const B: &str =
+    "<dictionary>\n<section id=\"m\" type=\"standard\">\n<e><re>[^a]</re></e>\n<e><p><l></l><r>x</r></p></e>\n</section>\n</dictionary>\n";
+
+const F1: &str =
+    "<dictionary>\n<sdefs><sdef n=\"n\"/></sdefs>\n<section id=\"m\" type=\"standard\">\n<e><p><l>a</l><r>a<s n=\"x\"/></r></p></e>\n<e w=\"1\"><i>b</i></e>\n</section>\n</dictionary>\n";
+
+const F2: &str =
+    "<dictionary>\n<section id=\"m\" type=\"standard\">\n<e><i>a</e>\n</section>\n</dictionary>\n";
+
+const F3: &str =
+    "<dictionary>\n<section id=\"m\" type=\"standard\">\n<e w=\"1\"><i>b</i></e>\n</section>\n</dictionary>\n";
+
+/// A compiled file: one word, with its tag.
+const C: &str =
+    "LTC1\nalphabet 65 66 97 98\nsection standard 3 2 1\n0 L97 L97 1\n1 - Tn 2\n2\nsection inconditional 1 0 0\nsection postblank 1 0 0\nsection preblank 1 0 0\nend\n";
+
+/// Faulty ones: it breaks off, it has an empty cycle, it is of another form.
+const C1: &str = "LTC1\nalphabet\n";
+
+const C2: &str =
+    "LTC1\nalphabet\nsection standard 2 2 1\n0 L97 L97 1\n1 - Tn 1\n1\nsection inconditional 1 0 0\nsection postblank 1 0 0\nsection preblank 1 0 0\nend\n";
+
+const C3: &str = "LTC9\n";
+
+/// A row: the words with a space between, the input, which load or store, which take and which put fails
+/// (numbered from 1, 0 for none), and the status, the output and the message that it must give.
+#[derive(Clone, Copy)]
+pub(super) struct Row<'a> {
+    pub(super) words: &'a str,
+    pub(super) input: &'a str,
+    pub(super) failing: [u64; 3],
+    pub(super) status: Status,
+    pub(super) out: &'a str,
+    pub(super) message: &'a str,
+}
+
+pub(super) const NONE: [u64; 3] = [0, 0, 0];
+
+pub(super) fn words_of(alloc: Global, text: &str) -> Result<Vec<String>, Fail> {
+    let mut words = Vec::new(alloc);
+    for word in text.split(' ') {
+        if !word.is_empty() {
+            words.push(String::from_str(alloc, word)?)?;
+        }
+    }
+    Ok(words)
+}
+
+fn call_of(alloc: Global, number: u64) -> Result<Vec<u64>, Fail> {
+    let mut calls = Vec::new(alloc);
+    if number > 0 {
+        calls.push(number)?;
+    }
+    Ok(calls)
+}
+
+/// The files; the load or store of this number fails.
+pub(super) fn files_of(alloc: Global, number: u64) -> Result<MemFiles, Fail> {
+    let mut files = MemFiles::new(alloc, call_of(alloc, number)?);
+    for (name, text) in [
+        ("P", P),
+        ("M", M),
+        ("X", X),
+        ("Q", Q),
+        ("E", E),
+        ("G", G),
+        ("F1", F1),
+        ("F2", F2),
+        ("F3", F3),
+        ("N", N),
+        ("R", R),
+        ("B", B),
+        ("C", C),
+        ("C1", C1),
+        ("C2", C2),
+        ("C3", C3),
+    ] {
+        files.add(name, text.as_bytes())?;
+    }
+    Ok(files)
+}
+
+/// The input comes in pieces of so many bytes; a put that fails keeps nothing.
+pub(super) fn check_over(
+    rt: &impl Abort,
+    alloc: Global,
+    files: &mut MemFiles,
+    row: &Row,
+    cut: usize,
+) -> Result<(), Fail> {
+    let words = words_of(alloc, row.words)?;
+    let [_, take, put] = row.failing;
+    let input = Vec::from_slice(alloc, row.input.as_bytes())?;
+    let mut source = MemSource::new(input, cut.max(1), call_of(alloc, take)?);
+    let mut sink = MemSink::new(alloc, 1000, call_of(alloc, put)?, 0)?;
+    let mut err = MemSink::new(alloc, 1000, Vec::new(alloc), 0)?;
+    let status = apertium(
+        alloc,
+        words.as_slice(),
+        files,
+        &mut source,
+        &mut sink,
+        &mut err,
+    );
+    assert_eq!(rt; status, row.status, "of {}", row.words);
+    assert_eq!(rt; sink.written(), row.out.as_bytes());
+    assert_eq!(rt; err.written(), row.message.as_bytes());
+    Ok(())
+}
+
+pub(super) fn check(rt: &impl Abort, alloc: Global, row: &Row, cut: usize) -> Result<(), Fail> {
+    let [number, _, _] = row.failing;
+    let mut files = files_of(alloc, number)?;
+    check_over(rt, alloc, &mut files, row, cut)
+}
+
+pub(super) fn case<'a>(
+    words: &'a str,
+    input: &'a str,
+    failing: [u64; 3],
+    status: Status,
+    out: &'a str,
+    message: &'a str,
+) -> Row<'a> {
+    Row {
+        words,
+        input,
+        failing,
+        status,
+        out,
+        message,
+    }
+}
+
+/// A row in which nothing fails and all is done.
+pub(super) fn done<'a>(words: &'a str, input: &'a str, out: &'a str) -> Row<'a> {
+    case(words, input, NONE, Status::Done, out, "")
+}

@@ -1,0 +1,29 @@
+use crate::status::Status;
+use crate::tests::rows::{NONE, case, check};
+use std::test::Fail;
+
+#[test]
+fn other_words_are_no_command(rt: HostRuntime) -> Result<(), Fail> {
+    for words in [
+        "",
+        "lt-proc",
+        "lt-proc -a",
+        "lt-proc -c",
+        "lt-proc P -a",
+        "lt-proc -a -a P",
+        "lt-proc -c -c P",
+        "lt-proc -a -g M",
+        "lt-proc -g M",
+        "lt-proc -e M",
+        "lt-proc -a -c -a P",
+        "lt-proc -a --help",
+        "lt-proc P P",
+        "work 0",
+        "lt-expand",
+        "lt-expand P Q",
+    ] {
+        let row = case(words, "saw", NONE, Status::Usage, "", "apertium: usage\n");
+        check(&rt, rt.alloc(), &row, 4)?;
+    }
+    Ok(())
+}
