@@ -5,7 +5,7 @@ use std::process::Abort;
 use std::test::Fail;
 
 /// What `lt-comp lr` writes of M.
-const M_LINES: &str = "standard 24 27\ninconditional 3 2\npostblank 1 0\npreblank 1 0\n";
+const M_LINES: &str = "standard 23 26\ninconditional 3 2\npostblank 1 0\npreblank 1 0\n";
 
 /// A row of a faulty dictionary.
 fn faulty<'a>(words: &'a str, fault: u8, line: u64, message: &'a str) -> Row<'a> {
@@ -15,6 +15,17 @@ fn faulty<'a>(words: &'a str, fault: u8, line: u64, message: &'a str) -> Row<'a>
         line,
     };
     case(words, "", NONE, status, "", message)
+}
+
+/// A row in which OUT tells the other direction than the one that is needed.
+fn wrong_way<'a>() -> Row<'a> {
+    let status = Status::BadCompiled {
+        file: 1,
+        fault: 6,
+        line: 2,
+    };
+    let message = "apertium: OUT: line 2: compiled fault 6 WrongWay\n";
+    case("lt-proc OUT", "a bd", NONE, status, "", message)
 }
 
 /// A row over OUT of a text that is malformed at that byte.
@@ -98,7 +109,7 @@ fn the_direction_says_which_side_is_read(rt: HostRuntime) -> Result<(), Fail> {
             "",
             "standard 3 2\ninconditional 1 0\npostblank 1 0\npreblank 1 0\n",
         ),
-        done("lt-proc OUT", "a bd", "a ^bd/bd$"),
+        wrong_way(),
         done(
             "lt-comp lr G OUT",
             "",
@@ -110,7 +121,7 @@ fn the_direction_says_which_side_is_read(rt: HostRuntime) -> Result<(), Fail> {
             "",
             "standard 2 2\ninconditional 1 0\npostblank 1 0\npreblank 1 0\n",
         ),
-        done("lt-proc OUT", "a b", "^a/a$ b"),
+        wrong_way(),
         done("lt-expand X", "", "a:>:a\nbd:<:bd\n"),
     ] {
         check_over(&rt, alloc, &mut files, &row, 7)?;
@@ -201,5 +212,35 @@ fn a_failed_put_comes_after_the_store(rt: HostRuntime) -> Result<(), Fail> {
     ] {
         check_over(&rt, alloc, &mut files, &row, 7)?;
     }
+    Ok(())
+}
+
+/// M, its paradigm written out entry by entry.
+const M2: &str =
+    "<dictionary>\n<alphabet>abcdefghijklmnopqrstuvwxyz</alphabet>\n<sdefs><sdef n=\"n\"/><sdef n=\"sg\"/><sdef n=\"pl\"/><sdef n=\"vblex\"/>\n<sdef n=\"past\"/><sdef n=\"adv\"/><sdef n=\"sent\"/></sdefs>\n<section id=\"main\" type=\"standard\">\n<e><p><l>house</l><r>house<s n=\"n\"/><s n=\"sg\"/></r></p></e>\n<e><p><l>houses</l><r>house<s n=\"n\"/><s n=\"pl\"/></r></p></e>\n<e lm=\"saw\"><p><l>saw</l><r>saw<s n=\"n\"/><s n=\"sg\"/></r></p></e>\n<e lm=\"see\"><p><l>saw</l><r>see<s n=\"vblex\"/><s n=\"past\"/></r></p></e>\n<e lm=\"in front\"><p><l>in<b/>front</l><r>in<b/>front<s n=\"adv\"/></r></p></e>\n</section>\n<section id=\"final\" type=\"inconditional\">\n<e lm=\".\"><p><l>.</l><r>.<s n=\"sent\"/></r></p></e>\n</section>\n</dictionary>\n";
+
+/// A dictionary of one word, and the text that is stored of it.
+const ONE: &str =
+    "<dictionary><alphabet>ab</alphabet><sdefs><sdef n=\"n\"/></sdefs><section id=\"m\" type=\"standard\"><e><p><l>a</l><r>a<s n=\"n\"/></r></p></e></section></dictionary>";
+
+const ONE_STORED: &str =
+    "LTC2\nway lr\nalphabet 65 66 97 98\nsection standard 3 2 1\n0 L97 L97 1\n1 - Tn 2\n2\nsection inconditional 1 0 0\nsection postblank 1 0 0\nsection preblank 1 0 0\nend\n";
+
+#[test]
+fn equal_strings_are_stored_as_equal_bytes(rt: HostRuntime) -> Result<(), Fail> {
+    let alloc = rt.alloc();
+    let mut files = files_of(alloc, 0)?;
+    files.add("M2", M2.as_bytes())?;
+    files.add("ONE", ONE.as_bytes())?;
+    let one = "standard 3 2\ninconditional 1 0\npostblank 1 0\npreblank 1 0\n";
+    for row in [
+        done("lt-comp lr M OUT", "", M_LINES),
+        done("lt-comp lr M2 OUT2", "", M_LINES),
+        done("lt-comp lr ONE OUT3", "", one),
+    ] {
+        check_over(&rt, alloc, &mut files, &row, 7)?;
+    }
+    assert_eq!(rt; files.get("OUT"), files.get("OUT2"));
+    assert_eq!(rt; files.get("OUT3"), Some(ONE_STORED.as_bytes()));
     Ok(())
 }

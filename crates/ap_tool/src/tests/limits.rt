@@ -69,7 +69,7 @@ fn check_limit(
     let mut files = MemFiles::new(alloc, Vec::new(alloc));
     files.add("M", file)?;
     let mut source = MemSource::new(input, 65_536, Vec::new(alloc));
-    let mut sink = MemSink::new(alloc, 1_048_600, Vec::new(alloc), 0)?;
+    let mut sink = MemSink::new(alloc, 4_194_400, Vec::new(alloc), 0)?;
     let mut err = MemSink::new(alloc, 1000, Vec::new(alloc), 0)?;
     let got = apertium(
         alloc,
@@ -111,8 +111,8 @@ fn an_item_is_too_long(rt: HostRuntime) -> Result<(), Fail> {
     let file = M.as_bytes();
     let long = "apertium: stage 1: byte 0: limit 1 ItemTooLong\n";
     for (count, status, written, message) in [
-        (1_048_576, Status::Done, 1_048_576, ""),
-        (1_048_577, limit(1, 1, 0), 0, long),
+        (4_194_304, Status::Done, 4_194_304, ""),
+        (4_194_305, limit(1, 1, 0), 0, long),
     ] {
         let input = letters(alloc, b' ', count)?;
         check_limit(&rt, alloc, file, input, status, written, message)?;
@@ -126,8 +126,8 @@ fn a_unit_is_too_long(rt: HostRuntime) -> Result<(), Fail> {
     let file = M.as_bytes();
     let long = "apertium: stage 1: byte 0: limit 3 UnitTooLong\n";
     for (count, status, written, message) in [
-        (524_286, Status::Done, 1_048_576, ""),
-        (524_287, limit(1, 3, 0), 0, long),
+        (2_097_150, Status::Done, 4_194_304, ""),
+        (2_097_151, limit(1, 3, 0), 0, long),
     ] {
         let input = letters(alloc, b'a', count)?;
         check_limit(&rt, alloc, file, input, status, written, message)?;
