@@ -1,0 +1,85 @@
+ghost use Rattle.std.specs.Prelude.{◌≡◌, ℕ, List, [], false, None, IfOk};
+ghost use Rattle.ap_stream.specs.Each.{held_size};
+ghost use Rattle.ap_stream.specs.Told.{Ending};
+ghost use Rattle.ap_stream.specs.Rest.{rest_of, held_of, rest_at_fault, rest_at_cut, rest_pending_first};
+ghost use Rattle.ap_live.specs.Lexicon.{lexicon_of};
+ghost use Rattle.ap_lookup.specs.Works.{bilingual_text, bilingual_work};
+
+use crate::bilingual_work::BilingualWork;
+use ap_fst::Compiled;
+use ap_stream::{Dialect, Finish, Pipe, Stage, StageFault, Staged};
+use ap_symbol::Memory;
+use std::alloc::Global;
+use std::marker::Model;
+
+/// Bilingual lookup of a Lexical text (`lt-proc -b`): a `Stage` over bytes.
+///
+/// Each unit becomes `^source/translation$`, several translations joined by `/`: the heads of its word
+/// by the dictionary, each followed by the symbols left over (`translate`). Without a head the only
+/// translation is `@` and the word; a word that begins with `*` or `@` is its own translation. Every
+/// other item is copied. Where case counts, a symbol fits itself alone and heads keep their case.
+///
+/// What is written for one unit with more than `UNIT_MAX` bytes is answered by its limit at the unit.
+#[derive(Drop)]
+pub struct Bilingual {
+    stage: Staged<BilingualWork>,
+}
+
+impl Model for Bilingual {
+    ghost use Rattle.ap_stream.specs.Each.{Single};
+    ghost use Rattle.ap_stream.specs.Seat.{Seat};
+    ghost use Rattle.ap_lookup.specs.Looking.{Looking};
+
+    ghost Value = { Seat (Single Looking) };
+
+    ghost view = { λ s. s.stage };
+}
+
+impl Bilingual {
+    /// A new stage by this dictionary.
+    pub fn new(alloc: Global, compiled: Compiled, sensitive: bool) -> Result<Bilingual, Memory>
+        ensures rest { IfOk result (λ made. (x : List ℕ) (e : Ending) → rest_of bilingual_work made x e ≡ bilingual_text (lexicon_of compiled sensitive) sensitive x e) }
+        ensures pending { IfOk result (λ made. made.pending ≡ []) }
+        ensures ended { IfOk result (λ made. made.ended ≡ false) }
+        ensures fault { IfOk result (λ made. made.fault ≡ None) }
+    {
+        let work = BilingualWork::new(alloc, compiled, sensitive)?;
+        Ok(Bilingual {
+            stage: Staged::new(alloc, Dialect::Lexical, work),
+        })
+    }
+}
+
+impl Stage for Bilingual {
+    ghost rest = { λ s. rest_of bilingual_work s };
+
+    ghost pending = { λ s. s.pending };
+
+    ghost held = { λ s. held_of (λ h. held_size h.item) s };
+
+    ghost ended = { λ s. s.ended };
+
+    ghost fault = { λ s. s.fault };
+
+    fn take(&mut self, piece: &[u8]) -> Result<usize, StageFault> {
+        self.stage.take(piece)
+    }
+
+    fn end(&mut self) -> Result<Finish, StageFault> {
+        self.stage.end()
+    }
+
+    fn give(&mut self, into: &mut Pipe) -> usize {
+        self.stage.give(into)
+    }
+
+    fn pending(&self) -> usize {
+        self.stage.pending()
+    }
+
+    ghost at_fault = { λ s f x e h. rest_at_fault bilingual_work s f x e h };
+
+    ghost at_cut = { λ s x. rest_at_cut bilingual_work s x };
+
+    ghost pending_first = { λ s x e. rest_pending_first bilingual_work s x e };
+}
