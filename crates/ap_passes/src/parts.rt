@@ -107,7 +107,8 @@ struct Begun {
     behind: bool,
 }
 
-/// Takes the symbol at a place: a Join ends the part that has begun. Answers which one has begun now.
+/// Takes the symbol at a place: a Join ends the part that has begun. Answers which one has begun
+/// now.
 fn write_symbol(
     alloc: Global,
     word: &Word,

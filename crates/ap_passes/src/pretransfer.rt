@@ -99,7 +99,8 @@ impl Handler for PretransferWork {
     ghost wants_first = { λ h e. none_held h.item e };
 }
 
-/// A lexical text whose words are taken apart, as `apertium-pretransfer` does: a `Stage` over bytes.
+/// A lexical text whose words are taken apart, as `apertium-pretransfer` does: a `Stage` over
+/// bytes.
 ///
 /// A unit that begins with `*` or `@` is copied. In the word of another the invariable part runs
 /// from the first `#` to the next tag, the next `+` or the end; where a tag stands before it, it is
