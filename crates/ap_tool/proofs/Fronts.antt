@@ -1,33 +1,38 @@
 -- What was written where a put failed or memory ran out: for every command at once.
-use Rattle.std.proofs.Common.{◌≡◌, ℕ, List, ◌++◌, subst, sym, ap, ◌∙◌, inl, inr, ◌⊎◌, Option, Ok, length, arith}
+use Rattle.std.proofs.Common.{◌≡◌, ℕ, List, ◌++◌, subst, sym, ap, ◌∙◌, inl, inr, ◌⊎◌, Option, Ok, length, arith, take, refl}
 use Rattle.std.proofs.lemmas.List.{take_all}
 use Rattle.ap_outside.specs.Told.{Puts, PutsFront}
-use Rattle.ap_stream.specs.Told.{Ending as TextEnding}
+use Rattle.ap_stream.specs.Told.{Ending as TextEnding, Begins}
+use Rattle.ap_stream.specs.declared.fault.StreamFault.TheVariants as fault
+use Rattle.ap_pipe.specs.declared.round.Intake.{Intake}
+use Rattle.ap_pipe.specs.declared.round.Outcome.{Outcome}
+use Rattle.ap_pipe.specs.declared.round.Outcome.TheVariants as outcome
+use Rattle.ap_pipe.specs.Row.{RowTold, meaning}
+use Rattle.ap_pipe.specs.Flow.{WentThrough, BrokeOff, Came}
 use Rattle.ap_tool.specs.declared.status.Status.{Status}
 use Rattle.ap_tool.specs.declared.status.Status.TheVariants.{FileFault, WriteFault, Memory, BadDictionary, BadCompiled, Limit}
 use Rattle.ap_tool.specs.declared.words.Command.{Command}
 use Rattle.ap_tool.specs.Words.{command_of, files_of}
 use Rattle.ap_tool.specs.Messages.{name_at}
-use Rattle.ap_tool.specs.Standing.{PutsSome}
 use Rattle.ap_tool.specs.Outside.{FilesStanding, Outside}
-use Rattle.ap_tool.specs.Driving.{Course, Onward, Ended, text_ending}
-use Rattle.ap_tool.specs.Rows.{Stage, RowTold, composed}
+use Rattle.ap_tool.specs.Rows.{Stage}
 use Rattle.ap_tool.specs.Gives.{Gives, Streams, Lists, Stores, Nothing, gives_of, Making}
 use Rattle.ap_tool.specs.Listing.{IsListed}
 use Rattle.ap_tool.specs.Reading.{Flaw, TooLong, OfDictionary, OfCompiled, status_of_flaw}
-use Rattle.ap_tool.specs.Stream.{Always, WentThrough, BrokeOff, RanShort, Flows}
+use Rattle.ap_tool.specs.Stream.{Always, Flows}
 use Rattle.ap_tool.specs.Compiling.{StoresOrStops}
 use Rattle.ap_tool.specs.Answer.{IsRun, IsCommandAnswer, IsAnswer}
 use Rattle.ap_tool.specs.Account.{GivesFront, StoresWhole, StreamsFront, OnAccepted}
+use Rattle.ap_tool.proofs.Listings.{take-front}
 use Rattle.ap_tool.proofs.Reasons.{Refused, Unloaded, Flawed, Starved, refused-so, by-command}
-
-always-more : (row : List ℕ → TextEnding → RowTold) (input : List ℕ) (course : Course) (P Q : RowTold → Type 0) → ((told : RowTold) → P told → Q told) → Always row input course P → Always row input course Q
-always-more row input Onward P Q f h = λ x e. f (row (input ++ x) e) (h x e)
-always-more row input (Ended ending) P Q f h = f (row input (text_ending ending)) h
 
 -- a text that was put is a front of it
 whole-front : (old new : Option (List ℕ)) (text : List ℕ) → Puts old new text → PutsFront old new text
 whole-front old new text p = (length text, subst (λ t. Puts old new t) (sym (take_all (length text) text (omega arith))) p)
+
+-- and so is what it begins with
+front-of : (old new : Option (List ℕ)) (front whole : List ℕ) → Puts old new front → Begins front whole → PutsFront old new whole
+front-of old new front whole p b = (length front, subst (λ t. Puts old new t) (sym (ap (take (length front)) b.1 ∙ take-front front b.0)) p)
 
 not-fault : {A : Type 0} (status : Status) (file : ℕ) → status ≡ WriteFault → status ≡ FileFault file → A
 not-fault status file e f = let x : WriteFault ≡ FileFault file = sym e ∙ f in cc
@@ -47,16 +52,30 @@ module _ (words : List (List ℕ)) (command : Command) (before after : Outside) 
   unrefused status e (Flawed file flaw f h) = not-flaw status file flaw e f
   unrefused status e (Starved f) = not-memory status e f
 
-  went-front : (stages : List Stage) (status : Status) (f : Flows stages before.source after.source before.sink after.sink status)
-      → WentThrough (composed 1 f.meanings) f.input f.course before.sink after.sink status ⊎ (BrokeOff (composed 1 f.meanings) f.input f.course before.sink after.sink status ⊎ RanShort (composed 1 f.meanings) f.input f.course before.sink after.sink status)
-      → Always (composed 1 f.meanings) f.input f.course (λ told. PutsFront before.sink.bytes after.sink.bytes told.text)
-  went-front stages status f (inl w) = always-more (composed 1 f.meanings) f.input f.course (λ t. t ≡ w.told) (λ told. PutsFront before.sink.bytes after.sink.bytes told.text)
-      (λ told e. subst (λ (t : RowTold). PutsFront before.sink.bytes after.sink.bytes t.text) (sym e) (whole-front before.sink.bytes after.sink.bytes w.told.text w.put.put)) w.is_told
-  went-front stages status f (inr (inl b)) = always-more (composed 1 f.meanings) f.input f.course (λ told. PutsSome before.sink after.sink told.text) (λ told. PutsFront before.sink.bytes after.sink.bytes told.text) (λ told p. p.put) b.front
-  went-front stages status f (inr (inr s)) = s.front
+  went-front : (row : List ℕ → TextEnding → RowTold) (input : List ℕ) (intake : Intake) (o : Outcome) → WentThrough row input intake before.sink after.sink o → Always row input intake (λ told. PutsFront before.sink.bytes after.sink.bytes told.text)
+  went-front row input intake o w = λ x e may. subst (λ (t : RowTold). PutsFront before.sink.bytes after.sink.bytes t.text) (sym (w.told x e may)) (whole-front before.sink.bytes after.sink.bytes w.text w.put)
+
+  broke-front : (row : List ℕ → TextEnding → RowTold) (input : List ℕ) (intake : Intake) → BrokeOff row input intake before.sink after.sink → Always row input intake (λ told. PutsFront before.sink.bytes after.sink.bytes told.text)
+  broke-front row input intake b = λ x e may. front-of before.sink.bytes after.sink.bytes b.front (row (input ++ x) e).text b.put (b.begins x e may)
+
+  came-front : (row : List ℕ → TextEnding → RowTold) (input : List ℕ) (intake : Intake) (o : Outcome) → Came row input intake before.sink after.sink o → Always row input intake (λ told. PutsFront before.sink.bytes after.sink.bytes told.text)
+  came-front row input intake outcome.Done c = went-front row input intake outcome.Done c.0
+  came-front row input intake outcome.ReadFault c = went-front row input intake outcome.ReadFault c.0
+  came-front row input intake outcome.InputTooLong c = went-front row input intake outcome.InputTooLong c.0
+  came-front row input intake outcome.WriteFault c = broke-front row input intake c.0
+  came-front row input intake (outcome.Fault n fault.Memory) c = broke-front row input intake (c.0 refl).0
+  came-front row input intake (outcome.Fault n (fault.Malformed kind place)) c = went-front row input intake (outcome.Fault n (fault.Malformed kind place)) (c.1 (λ x. cc))
+  came-front row input intake (outcome.Fault n (fault.Limit kind place)) c = went-front row input intake (outcome.Fault n (fault.Limit kind place)) (c.1 (λ x. cc))
 
   stream-front : (stages : List Stage) (status : Status) → Flows stages before.source after.source before.sink after.sink status → StreamsFront stages before after
-  stream-front stages status f = record { meanings = f.meanings; mean = f.mean; input = f.input; course = f.course; taken = f.taken; front = went-front stages status f f.went }
+  stream-front stages status f = record {
+    meanings = f.meanings;
+    mean = f.mean;
+    input = f.went.input;
+    intake = f.went.intake;
+    taken = f.went.taken;
+    front = came-front (meaning 1 f.meanings) f.went.input f.went.intake f.outcome f.went.came;
+  }
 
   list-front : (text : List ℕ) (status : Status) → IsListed before.sink after.sink text status → PutsFront before.sink.bytes after.sink.bytes text
   list-front text status (inl w) = whole-front before.sink.bytes after.sink.bytes text w.0.put
