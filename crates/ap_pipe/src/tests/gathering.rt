@@ -1,9 +1,10 @@
 //! A row gathers nothing: bytes are put before the source ends, and a failed put leaves most of the input in the source.
+ghost use Rattle.std.specs.Prelude.{None};
+
 use crate::pipeline::Pipeline;
 use crate::round::Outcome;
-use crate::tests::copied::Copied;
+use crate::tests::copied::three;
 use ap_outside::{Failed, MemSource, Sink, Source};
-use std::alloc::Global;
 use std::cell::Cell;
 use std::test::Fail;
 
@@ -59,15 +60,6 @@ impl Sink for Counting<'_> {
     }
 }
 
-/// Three stages that copy.
-fn three(alloc: Global) -> Result<Vec<Copied>, Fail> {
-    let mut stages = Vec::new(alloc);
-    for _ in 0..3 {
-        stages.push(Copied::new(alloc, 64)?)?;
-    }
-    Ok(stages)
-}
-
 #[test]
 fn a_row_gathers_nothing(rt: HostRuntime) -> Result<(), Fail> {
     let alloc = rt.alloc();
@@ -84,7 +76,7 @@ fn a_row_gathers_nothing(rt: HostRuntime) -> Result<(), Fail> {
             fails,
             faults: 0,
         };
-        let mut pipeline = Pipeline::new(alloc, three(alloc)?, 64)?;
+        let mut pipeline = Pipeline::new(alloc, three(alloc, 64)?, 64)?;
         let outcome = pipeline.run(&mut source, &mut sink);
         if fails {
             assert_eq!(rt; outcome, Outcome::WriteFault);

@@ -1,24 +1,15 @@
 //! Rows that were run: three stages that copy, through pipes of one byte and of more.
 use crate::pipeline::Pipeline;
 use crate::round::{Intake, Outcome, Round};
-use crate::tests::copied::Copied;
+use crate::tests::copied::three;
 use ap_outside::{MemSink, MemSource};
-use std::alloc::Global;
 use std::test::Fail;
-
-fn three(alloc: Global) -> Result<Vec<Copied>, Fail> {
-    let mut stages = Vec::new(alloc);
-    for _ in 0..3 {
-        stages.push(Copied::new(alloc, 2)?)?;
-    }
-    Ok(stages)
-}
 
 #[test]
 fn all_is_given(rt: HostRuntime) -> Result<(), Fail> {
     let alloc = rt.alloc();
     for room in [1, 2, 3, 64] {
-        let mut pipeline = Pipeline::new(alloc, three(alloc)?, room)?;
+        let mut pipeline = Pipeline::new(alloc, three(alloc, 2)?, room)?;
         let mut source = MemSource::new(Vec::from_slice(alloc, b"abcdefg")?, 3, Vec::new(alloc));
         let mut sink = MemSink::new(alloc, 1000, Vec::new(alloc), 0)?;
         assert_eq!(rt; pipeline.intake(), Intake::Open);
@@ -36,7 +27,7 @@ fn all_is_given(rt: HostRuntime) -> Result<(), Fail> {
 #[test]
 fn failed_calls_end_it(rt: HostRuntime) -> Result<(), Fail> {
     let alloc = rt.alloc();
-    let mut pipeline = Pipeline::new(alloc, three(alloc)?, 1)?;
+    let mut pipeline = Pipeline::new(alloc, three(alloc, 2)?, 1)?;
     let mut source = MemSource::new(
         Vec::from_slice(alloc, b"abcdefg")?,
         3,
@@ -45,7 +36,7 @@ fn failed_calls_end_it(rt: HostRuntime) -> Result<(), Fail> {
     let mut sink = MemSink::new(alloc, 1000, Vec::new(alloc), 0)?;
     assert_eq!(rt; pipeline.run(&mut source, &mut sink), Outcome::ReadFault);
     assert_eq!(rt; sink.written(), "ab".as_bytes());
-    let mut pipeline = Pipeline::new(alloc, three(alloc)?, 1)?;
+    let mut pipeline = Pipeline::new(alloc, three(alloc, 2)?, 1)?;
     let mut source = MemSource::new(Vec::from_slice(alloc, b"abcdefg")?, 3, Vec::new(alloc));
     let mut sink = MemSink::new(alloc, 1000, Vec::from_slice(alloc, &[2])?, 0)?;
     assert_eq!(rt; pipeline.run(&mut source, &mut sink), Outcome::WriteFault);
