@@ -1,3 +1,5 @@
+ghost use Rattle.std.specs.Prelude.{None};
+
 use crate::status::Status;
 use crate::tests::rows::{files_of, words_of};
 use crate::top::apertium;
