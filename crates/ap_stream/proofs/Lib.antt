@@ -10,6 +10,14 @@ pub mod Spelt
 pub mod KeptNames
 pub mod Crossed
 pub mod Spells
-pub mod Trying
-pub mod Moved
 pub mod Superblanks
+pub mod Joined
+pub mod Cut
+pub mod Fronts
+pub mod Rows
+pub mod EachKept
+pub mod Written
+pub mod SupersAlone
+pub mod ItemFronts
+pub mod StepLaws
+pub mod Scan

@@ -16,12 +16,12 @@ pub mod Begun
 pub mod Given
 pub mod Told
 pub mod Seat
+pub mod Steps
 pub mod Rest
 pub mod Sound
 pub mod Spelling
 pub mod Supers
 pub mod Crossing
-pub mod Tried
 pub mod Each
-pub mod Moving
 pub mod Laws
+pub mod Pieces

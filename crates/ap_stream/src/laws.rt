@@ -1,5 +1,6 @@
 ghost use Rattle.ap_stream.specs.Limits.{LimitsAre};
 ghost use Rattle.ap_stream.specs.Laws.{ReadsBack, ReadsWords, WordsAreSpelt};
+ghost use Rattle.ap_stream.specs.Pieces.{TextsJoin, OneList, ReadTextsHave, EachKeeps, KeptTwice, ScanFinds};
 
 /// The numbers of the limits. It is a statement alone and does nothing.
 pub fn limits()
@@ -21,4 +22,40 @@ pub fn units_are_words()
 /// statement alone and does nothing.
 pub fn words_are_spelt()
     ensures { WordsAreSpelt }
+{}
+
+/// The law that one text behind another has the superblanks of both, in order. It is a statement
+/// alone and does nothing.
+pub fn superblanks_of_texts_joined()
+    ensures { TextsJoin }
+{}
+
+/// The law that a text has one list of superblanks in a dialect, if any. It is a statement alone
+/// and does nothing.
+pub fn one_list_of_superblanks()
+    ensures { OneList }
+{}
+
+/// The law that a text that is read to its end without a fault has the superblanks of its blanks.
+/// It is a statement alone and does nothing.
+pub fn read_texts_have_superblanks()
+    ensures { ReadTextsHave }
+{}
+
+/// The law that a tool that takes each item by itself, and makes no superblank of a unit, keeps the
+/// superblanks of a text. It is a statement alone and does nothing.
+pub fn each_item_keeps_superblanks()
+    ensures { EachKeeps }
+{}
+
+/// The law that superblanks that two tools keep, one after the other, are kept from the first text
+/// to the last. It is a statement alone and does nothing.
+pub fn superblanks_are_kept_twice()
+    ensures { KeptTwice }
+{}
+
+/// The law that the superblanks of a text are those that a scan of it finds, item by item. It is a
+/// statement alone and does nothing.
+pub fn superblanks_are_scanned()
+    ensures { ScanFinds }
 {}

@@ -13,6 +13,7 @@ mod item;
 mod laws;
 mod names;
 mod pipe;
+mod queue;
 mod reader;
 mod stage;
 mod staged;
@@ -27,8 +28,13 @@ pub use each::{Each, UnitWriter};
 pub use fault::{LimitKind, MalformedKind, StageFault, StreamFault};
 pub use handler::{Handler, Turn};
 pub use item::{Character, Chunk, Content, Inner, Item, Read};
-pub use laws::{limits, units_are_words, units_read_back, words_are_spelt};
+pub use laws::{
+    each_item_keeps_superblanks, limits, one_list_of_superblanks, read_texts_have_superblanks,
+    superblanks_are_kept_twice, superblanks_are_scanned, superblanks_of_texts_joined,
+    units_are_words, units_read_back, words_are_spelt,
+};
 pub use pipe::Pipe;
+pub use queue::Queue;
 pub use reader::{Fed, Reader};
 pub use stage::{Finish, Stage};
 pub use staged::Staged;

@@ -1,7 +1,3 @@
-mod copies;
-mod drive;
-mod marks;
-mod pairs;
 mod reading;
-mod running;
 mod units;
+mod writing;
