@@ -1,12 +1,12 @@
 use Rattle.std.proofs.Common.{◌≡◌, ◌⊎◌, inl, inr, ℕ, ◌+◌, ◌<◌, Bool, true, false, List, [], ◌∷◌, ◌++◌, refl, sym, ◌∙◌, ap, subst, arith, drop, append_assoc, ◌≤◌, ◌-◌, Option, Some, None, slice_get, length, take, get_or, suc, zero, eqb, append-nil}
 use Rattle.std.proofs.lemmas.List.{take_more, take_all, take_at, drop_at, take-append-drop, get_or-drop, length-drop, length-append}
-use Rattle.std.proofs.lemmas.Option.{slice_get_within, slice_get-get_or}
+use Rattle.std.proofs.lemmas.Option.{slice_get-get_or}
 use Rattle.std.specs.Option.{option_to_list}
 use Rattle.ap_fst.specs.Lists.{IsIn}
 use Rattle.ap_fst.specs.declared.label.Edge.{Edge}
 use Rattle.ap_live.specs.Fitting.{is_empty_side}
 use Rattle.ap_live.specs.Spreads.{arrival_to}
-use Rattle.ap_live.specs.Tails.{Back, BackFrom, IsBack, AddsBack, IsBackMany, BackMany, AreFinals, given, onward}
+use Rattle.ap_live.specs.Tails.{Back, BackFrom, IsBack, Merges, AddsBack, IsBackMany, BackMany, AreFinals, given, onward}
 use Rattle.ap_fst.specs.Silence.{SilentWalk, still, step, HasNoEmptyCycle}
 use Rattle.ap_fst.specs.Machines.{Machine, IsMachine}
 use Rattle.std.specs.Prelude.{IsTrue}
@@ -18,7 +18,7 @@ use Rattle.ap_symbol.specs.Words.{is_word_symbol}
 use Rattle.ap_live.specs.Outputs.{is_word_side, WritesWords}
 use Rattle.ap_symbol.specs.declared.symbol.Symbol.{Symbol}
 use Rattle.ap_live.specs.declared.arrivals.Arrival.{Arrival}
-use Rattle.ap_live.specs.declared.backward.Item.{Item}
+use Rattle.ap_live.specs.declared.items.Item.{Item}
 use Rattle.ap_live.proofs.Spreading.{in_front, in_back, in_either, from_in, in_from_place, both_true}
 use Rattle.ap_live.proofs.Others.{side_none}
 
@@ -33,10 +33,10 @@ only_back edges b j y x f =
     ]
 
 pub adds_no_link : (edges : List Edge) (b : Bool) (items old : List Item) → AddsBack edges b [] items old old
-adds_no_link edges b items old = record { more = []; grown = sym (append-nil old); back = record { sound = λ x i. elim i [ ]; complete = λ x f. elim f.linked [ ] } }
+adds_no_link edges b items old = record { more = []; grown = sym (append-nil old); sound = λ x i. elim i [ ]; complete = λ x f. elim f.linked [ ] }
 
 pub adds_no_item : (edges : List Edge) (b : Bool) (links : List Arrival) (old : List Item) → AddsBack edges b links [] old old
-adds_no_item edges b links old = record { more = []; grown = sym (append-nil old); back = record { sound = λ x i. elim i [ ]; complete = λ x f. elim f.listed [ ] } }
+adds_no_item edges b links old = record { more = []; grown = sym (append-nil old); sound = λ x i. elim i [ ]; complete = λ x f. elim f.listed [ ] }
 
 more_links : (edges : List Edge) (b : Bool) (links more : List Arrival) (items : List Item) (x : Item) → BackFrom edges b links items x → BackFrom edges b (links ++ more) items x
 more_links edges b links more items x f = record { item = f.item; link = f.link; listed = f.listed; linked = in_front f.link links more f.linked; back = f.back }
@@ -44,23 +44,33 @@ more_links edges b links more items x f = record { item = f.item; link = f.link;
 more_items : (edges : List Edge) (b : Bool) (links : List Arrival) (items more : List Item) (x : Item) → BackFrom edges b links items x → BackFrom edges b links (items ++ more) x
 more_items edges b links items more x f = record { item = f.item; link = f.link; listed = in_front f.item items more f.listed; linked = f.linked; back = f.back }
 
--- one link, by which one item is added
-pub adds_one : (edges : List Edge) (b : Bool) (j : Arrival) (y x : Item) (old found : List Item) → Back edges b x y j → ((z : Item) → Back edges b z y j → z ≡ x) → found ≡ old ++ x ∷ [] → AddsBack edges b (j ∷ []) (y ∷ []) old found
-adds_one edges b j y x old found leads one grown = record {
+-- what was there is kept
+pub kept_more : (edges : List Edge) (b : Bool) (links : List Arrival) (front items items' : List Item) (x : Item) → AddsBack edges b links front items items' → IsIn x items → IsIn x items'
+kept_more edges b links front items items' x h i = subst (λ (zs : List Item). IsIn x zs) (sym h.grown) (in_front x items h.more i)
+
+pub merges_new : (items items' : List Item) (x : Item) → items' ≡ items ++ x ∷ [] → Merges items x items'
+merges_new items items' x e = record {
   more = x ∷ [];
-  grown = grown;
-  back = record {
-    sound = λ z k. elim k [
-      | inl r ↦ record { item = y; link = j; listed = inl refl; linked = inl refl; back = subst (λ (w : Item). Back edges b w y j) (sym r) leads }
-      | inr r ↦ elim r [ ]
-    ];
-    complete = λ z f. inl (one z (only_back edges b j y z f));
-  };
+  grown = e;
+  only = λ y i. elim i [ inl r ↦ r | inr r ↦ elim r [ ] ];
+  there = subst (λ (zs : List Item). IsIn x zs) (sym e) (in_back x items (x ∷ []) (inl refl));
+}
+
+pub merges_known : (items : List Item) (x : Item) → IsIn x items → Merges items x items
+merges_known items x i = record { more = []; grown = sym (append-nil items); only = λ y k. elim k [ ]; there = i }
+
+-- one link, by which one item is added, unless it is there
+pub adds_one : (edges : List Edge) (b : Bool) (j : Arrival) (y x : Item) (old found : List Item) → Back edges b x y j → ((z : Item) → Back edges b z y j → z ≡ x) → Merges old x found → AddsBack edges b (j ∷ []) (y ∷ []) old found
+adds_one edges b j y x old found leads one m = record {
+  more = m.more;
+  grown = m.grown;
+  sound = λ z k. record { item = y; link = j; listed = inl refl; linked = inl refl; back = subst (λ (w : Item). Back edges b w y j) (sym (m.only z k)) leads };
+  complete = λ z f. subst (λ (w : Item). IsIn w found) (sym (one z (only_back edges b j y z f))) m.there;
 }
 
 -- no item is before this one by the link
 pub adds_none : (edges : List Edge) (b : Bool) (j : Arrival) (y : Item) (old : List Item) → ((z : Item) → Back edges b z y j → ⊥) → AddsBack edges b (j ∷ []) (y ∷ []) old old
-adds_none edges b j y old none = record { more = []; grown = sym (append-nil old); back = record { sound = λ x i. elim i [ ]; complete = λ x f. absurd (none x (only_back edges b j y x f)) } }
+adds_none edges b j y old none = record { more = []; grown = sym (append-nil old); sound = λ x i. elim i [ ]; complete = λ x f. absurd (none x (only_back edges b j y x f)) }
 
 -- by two steps
 adds_twice : (old more more' found found' : List Item) → found ≡ old ++ more → found' ≡ found ++ more' → found' ≡ old ++ (more ++ more')
@@ -71,16 +81,14 @@ pub adds_links : (edges : List Edge) (b : Bool) (links more : List Arrival) (ite
 adds_links edges b links more items old found found' h k = record {
   more = h.more ++ k.more;
   grown = adds_twice old h.more k.more found found' h.grown k.grown;
-  back = record {
-    sound = λ x q. elim (in_either x h.more k.more q) [
-      | inl r ↦ more_links edges b links more items x (h.back.sound x r)
-      | inr r ↦ let f : BackFrom edges b more items x = k.back.sound x r in record { item = f.item; link = f.link; listed = f.listed; linked = in_back f.link links more f.linked; back = f.back }
-    ];
-    complete = λ x f. elim (in_either f.link links more f.linked) [
-      | inl r ↦ in_front x h.more k.more (h.back.complete x (record { item = f.item; link = f.link; listed = f.listed; linked = r; back = f.back }))
-      | inr r ↦ in_back x h.more k.more (k.back.complete x (record { item = f.item; link = f.link; listed = f.listed; linked = r; back = f.back }))
-    ];
-  };
+  sound = λ x q. elim (in_either x h.more k.more q) [
+    | inl r ↦ more_links edges b links more items x (h.sound x r)
+    | inr r ↦ let f : BackFrom edges b more items x = k.sound x r in record { item = f.item; link = f.link; listed = f.listed; linked = in_back f.link links more f.linked; back = f.back }
+  ];
+  complete = λ x f. elim (in_either f.link links more f.linked) [
+    | inl r ↦ kept_more edges b more items found found' x k (h.complete x (record { item = f.item; link = f.link; listed = f.listed; linked = r; back = f.back }))
+    | inr r ↦ k.complete x (record { item = f.item; link = f.link; listed = f.listed; linked = r; back = f.back })
+  ];
 }
 
 -- from some items, and then from others
@@ -88,16 +96,14 @@ pub adds_items : (edges : List Edge) (b : Bool) (links : List Arrival) (items mo
 adds_items edges b links items more old found found' h k = record {
   more = h.more ++ k.more;
   grown = adds_twice old h.more k.more found found' h.grown k.grown;
-  back = record {
-    sound = λ x q. elim (in_either x h.more k.more q) [
-      | inl r ↦ more_items edges b links items more x (h.back.sound x r)
-      | inr r ↦ let f : BackFrom edges b links more x = k.back.sound x r in record { item = f.item; link = f.link; listed = in_back f.item items more f.listed; linked = f.linked; back = f.back }
-    ];
-    complete = λ x f. elim (in_either f.item items more f.listed) [
-      | inl r ↦ in_front x h.more k.more (h.back.complete x (record { item = f.item; link = f.link; listed = r; linked = f.linked; back = f.back }))
-      | inr r ↦ in_back x h.more k.more (k.back.complete x (record { item = f.item; link = f.link; listed = r; linked = f.linked; back = f.back }))
-    ];
-  };
+  sound = λ x q. elim (in_either x h.more k.more q) [
+    | inl r ↦ more_items edges b links items more x (h.sound x r)
+    | inr r ↦ let f : BackFrom edges b links more x = k.sound x r in record { item = f.item; link = f.link; listed = in_back f.item items more f.listed; linked = f.linked; back = f.back }
+  ];
+  complete = λ x f. elim (in_either f.item items more f.listed) [
+    | inl r ↦ kept_more edges b links more found found' x k (h.complete x (record { item = f.item; link = f.link; listed = r; linked = f.linked; back = f.back }))
+    | inr r ↦ k.complete x (record { item = f.item; link = f.link; listed = r; linked = f.linked; back = f.back })
+  ];
 }
 
 -- from some items, and then from the one before them
@@ -105,16 +111,14 @@ pub adds_first : (edges : List Edge) (b : Bool) (links : List Arrival) (y : Item
 adds_first edges b links y items old found found' h k = record {
   more = h.more ++ k.more;
   grown = adds_twice old h.more k.more found found' h.grown k.grown;
-  back = record {
-    sound = λ x q. elim (in_either x h.more k.more q) [
-      | inl r ↦ let f : BackFrom edges b links items x = h.back.sound x r in record { item = f.item; link = f.link; listed = inr f.listed; linked = f.linked; back = f.back }
-      | inr r ↦ more_items edges b links (y ∷ []) items x (k.back.sound x r)
-    ];
-    complete = λ x f. elim f.listed [
-      | inl r ↦ in_back x h.more k.more (k.back.complete x (record { item = f.item; link = f.link; listed = inl r; linked = f.linked; back = f.back }))
-      | inr r ↦ in_front x h.more k.more (h.back.complete x (record { item = f.item; link = f.link; listed = r; linked = f.linked; back = f.back }))
-    ];
-  };
+  sound = λ x q. elim (in_either x h.more k.more q) [
+    | inl r ↦ let f : BackFrom edges b links items x = h.sound x r in record { item = f.item; link = f.link; listed = inr f.listed; linked = f.linked; back = f.back }
+    | inr r ↦ more_items edges b links (y ∷ []) items x (k.sound x r)
+  ];
+  complete = λ x f. elim f.listed [
+    | inl r ↦ k.complete x (record { item = f.item; link = f.link; listed = inl r; linked = f.linked; back = f.back })
+    | inr r ↦ kept_more edges b links (y ∷ []) found found' x k (h.complete x (record { item = f.item; link = f.link; listed = r; linked = f.linked; back = f.back }))
+  ];
 }
 
 -- a link more
@@ -138,16 +142,14 @@ adds_here edges b links here y old found e h =
     record {
       more = h'.more;
       grown = h'.grown;
-      back = record {
-        sound = λ x q.
-            let f : BackFrom edges b (filter (λ a. eqb (arrival_to a) y.state) links) (y ∷ []) x = h'.back.sound x q in
-            record { item = f.item; link = f.link; listed = f.listed; linked = (filter_in (λ a. eqb (arrival_to a) y.state) f.link links f.linked).listed; back = f.back };
-        complete = λ x f.
-            let one : f.item ≡ y = elim f.listed [ inl r ↦ r | inr r ↦ elim r [ ] ] in
-            let at : f.link.to ≡ y.state = f.back.arrives ∙ sym f.back.to_is ∙ ap (λ (z : Item). z.state) one in
-            let test : eqb (arrival_to f.link) y.state ≡ true = grind (arith, nat_tests) in
-            h'.back.complete x (record { item = f.item; link = f.link; listed = f.listed; linked = in_filter (λ a. eqb (arrival_to a) y.state) f.link links f.linked test; back = f.back });
-      };
+      sound = λ x q.
+          let f : BackFrom edges b (filter (λ a. eqb (arrival_to a) y.state) links) (y ∷ []) x = h'.sound x q in
+          record { item = f.item; link = f.link; listed = f.listed; linked = (filter_in (λ a. eqb (arrival_to a) y.state) f.link links f.linked).listed; back = f.back };
+      complete = λ x f.
+          let one : f.item ≡ y = elim f.listed [ inl r ↦ r | inr r ↦ elim r [ ] ] in
+          let at : f.link.to ≡ y.state = f.back.arrives ∙ sym f.back.to_is ∙ ap (λ (z : Item). z.state) one in
+          let test : eqb (arrival_to f.link) y.state ≡ true = grind (arith, nat_tests) in
+          h'.complete x (record { item = f.item; link = f.link; listed = f.listed; linked = in_filter (λ a. eqb (arrival_to a) y.state) f.link links f.linked test; back = f.back });
     }
 
 pub adds_none_here : (edges : List Edge) (b : Bool) (here : List Arrival) (items old : List Item) → length here ≡ 0 → AddsBack edges b here items old old
@@ -186,7 +188,7 @@ pub all_taken : (edges : List Edge) (links : List Arrival) (items left old found
 all_taken edges links items left old found none first h =
     let gone : items ≡ h.gone = h.whole ∙ ap (λ (z : List Item). z ++ h.gone) none in
     let more : found ≡ h.adds.more = h.adds.grown ∙ ap (λ (z : List Item). z ++ h.adds.more) first in
-    subst (λ (z : List Item). IsBack edges false links items z) (sym more) (subst (λ (z : List Item). IsBack edges false links z h.adds.more) (sym gone) h.adds.back)
+    subst (λ (z : List Item). IsBack edges false links z found) (sym gone) (record { sound = λ x i. h.adds.sound x (subst (λ (z : List Item). IsIn x z) more i); complete = h.adds.complete })
 
 -- An item that is there stays when others are put behind.
 pub stays : (old found more : List Item) (at : ℕ) (y : Item) → found ≡ old ++ more → slice_get old at ≡ Some y → slice_get found at ≡ Some y
@@ -210,16 +212,13 @@ pub closed_more : (edges : List Edge) (links : List Arrival) (items items' : Lis
     → ((z : Item) → BackFrom edges true links (take from items) z → IsIn z items) → BackFrom edges true links (take end items') x → IsIn x items'
 closed_more edges links items items' from end x e h closed f =
     let old : take end items' ≡ items = ap (take end) h.grown ∙ take_at items h.more end (sym e) in
-    let whole : (z : Item) → IsIn z (items ++ h.more) → IsIn z items' = λ z i. subst (λ (zs : List Item). IsIn z zs) (sym h.grown) i in
     elim (split_in items from f.item (subst (λ (zs : List Item). IsIn f.item zs) old f.listed)) [
-      | inl q ↦ whole x (in_front x items h.more (closed x (record { item = f.item; link = f.link; listed = q; linked = f.linked; back = f.back })))
-      | inr q ↦ whole x (in_back x items h.more (h.back.complete x (record { item = f.item; link = f.link; listed = q; linked = f.linked; back = f.back })))
+      | inl q ↦ kept_more edges true links (drop from items) items items' x h (closed x (record { item = f.item; link = f.link; listed = q; linked = f.linked; back = f.back }))
+      | inr q ↦ h.complete x (record { item = f.item; link = f.link; listed = q; linked = f.linked; back = f.back })
     ]
 
-pub many_more : (edges : List Edge) (links : List Arrival) (base front next : List Item) (x : Item) → IsBack edges true links front next → ((z : Item) → IsIn z front → BackMany edges links base z) → IsIn x next → BackMany edges links base x
-many_more edges links base front next x back sound i =
-    let f : BackFrom edges true links front x = back.sound x i in
-    onward f.item f.link f.linked f.back (sound f.item f.listed)
+pub many_more : (edges : List Edge) (links : List Arrival) (base front : List Item) (x : Item) → ((z : Item) → IsIn z front → BackMany edges links base z) → BackFrom edges true links front x → BackMany edges links base x
+many_more edges links base front x sound f = onward f.item f.link f.linked f.back (sound f.item f.listed)
 
 -- so many edges with an empty left side lead on from the item's state
 pub record Stands (m : Machine) (round : ℕ) (x : Item) : Type 0 where
@@ -235,9 +234,8 @@ pub stands_first : (m : Machine) (x : Item) → x.state < m.states → Stands m 
 stands_first m x lt = record { below = lt; end = x.state; walk = still refl }
 
 -- back by one round more
-pub stands_more : (m : Machine) (links : List Arrival) (front next : List Item) (round : ℕ) (x : Item) → IsMachine m → IsBack m.edges true links front next → ((z : Item) → IsIn z front → Stands m round z) → IsIn x next → Stands m (round + 1) x
-stands_more m links front next round x ok back all i =
-    let f : BackFrom m.edges true links front x = back.sound x i in
+pub stands_more : (m : Machine) (links : List Arrival) (front : List Item) (round : ℕ) (x : Item) → IsMachine m → ((z : Item) → IsIn z front → Stands m round z) → BackFrom m.edges true links front x → Stands m (round + 1) x
+stands_more m links front round x ok all f =
     let s : Stands m round f.item = all f.item f.listed in
     let from : x.state ≡ f.back.edge.from = ap (λ (z : Item). z.state) f.back.is in
     let lt : f.back.edge.from < m.states = from_in m ok f.link.edge f.back.edge f.back.at in
@@ -275,11 +273,8 @@ pub sound_more : (edges : List Edge) (links : List Arrival) (base items items' :
 sound_more edges links base items items' from x h sound i =
     elim (in_either x items h.more (subst (λ (zs : List Item). IsIn x zs) h.grown i)) [
       | inl q ↦ sound x q
-      | inr q ↦ many_more edges links base (drop from items) h.more x h.back (λ z k. sound z (dropped_in items from z k)) q
+      | inr q ↦ many_more edges links base (drop from items) x (λ z k. sound z (dropped_in items from z k)) (h.sound x q)
     ]
-
-pub kept_more : (edges : List Edge) (links : List Arrival) (front items items' : List Item) (x : Item) → (h : AddsBack edges true links front items items') → IsIn x items → IsIn x items'
-kept_more edges links front items items' x h i = subst (λ (zs : List Item). IsIn x zs) (sym h.grown) (in_front x items h.more i)
 
 -- what stands behind those that were there was added
 pub added_more : (edges : List Edge) (links : List Arrival) (front items items' : List Item) (end : ℕ) (x : Item) → end ≡ length items → (h : AddsBack edges true links front items items') → IsIn x (drop end items') → IsIn x h.more
@@ -316,13 +311,6 @@ adds_at edges links items from at found found' le lt h k =
     let is : y ≡ get_or (drop from items) (at - from) d = sym (get_or-drop from items (at - from) d ∙ ap (λ z. get_or items z d) sum) in
     let more : AddsBack edges true links (take (at - from + 1) (drop from items)) items found' = adds_item edges true links (drop from items) (at - from) y d items found found' within is h (k y there) in
     subst (λ z. AddsBack edges true links (take z (drop from items)) items found') (sym n) more
-
-pub stays_within : (edges : List Edge) (links : List Arrival) (old found : List Item) (at : ℕ) → at < length old → ((y : Item) → slice_get old at ≡ Some y → AddsBack edges true links (y ∷ []) old found) → at < length found
-stays_within edges links old found at lt h =
-    let d : Item = record { state = 0; back = [] } in
-    let there : slice_get old at ≡ Some (get_or old at d) = slice_get-get_or old at d lt in
-    let k : AddsBack edges true links (get_or old at d ∷ []) old found = h (get_or old at d) there in
-    slice_get_within found at (get_or old at d) (stays old found k.more at (get_or old at d) k.grown there)
 
 pub adds_from : (edges : List Edge) (links : List Arrival) (items : List Item) (from at : ℕ) (found : List Item) → length items ≤ at → AddsBack edges true links (take (at - from) (drop from items)) items found → AddsBack edges true links (drop from items) items found
 adds_from edges links items from at found all h =

@@ -19,3 +19,4 @@ pub mod Lexicons
 pub mod SectionLives
 pub mod AnyWords
 pub mod Ordered
+pub mod Readables

@@ -15,7 +15,7 @@ use Rattle.ap_live.specs.Tails.{Tail, stop, BaseTail, stops, takes, AreBase, Are
 use Rattle.ap_live.specs.Tails as tails
 use Rattle.ap_live.specs.Rows as rows
 use Rattle.ap_live.specs.declared.arrivals.Arrival.{Arrival}
-use Rattle.ap_live.specs.declared.backward.Item.{Item}
+use Rattle.ap_live.specs.declared.items.Item.{Item}
 use Rattle.ap_live.specs.declared.rows.Row.{Row}
 use Rattle.ap_live.proofs.RowLaws.{snoc_parts}
 

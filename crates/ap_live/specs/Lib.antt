@@ -10,3 +10,4 @@ pub mod Lexicon
 pub mod Relations
 pub mod Readings
 pub mod SectionLives
+pub mod Readable

@@ -8,7 +8,7 @@ use Rattle.ap_live.specs.Fitting.{Input, is_empty_side}
 use Rattle.ap_live.specs.Spreads.{Picked}
 use Rattle.ap_live.specs.Rows.{Reach}
 use Rattle.ap_live.specs.declared.arrivals.Arrival.{Arrival}
-use Rattle.ap_live.specs.declared.backward.Item.{Item}
+use Rattle.ap_live.specs.declared.items.Item.{Item}
 
 -- From a state these inputs lead to a final state, with this output, last symbol first.
 pub data Tail (m : Machine) : List Input → ℕ → List Symbol → Type 0 where
@@ -54,11 +54,19 @@ pub record AreItems (m : Machine) (seen later : List Input) (items : List Item) 
   pub sound : (x : Item) → IsIn x items → Tail m later x.state x.back
   pub complete : (x : Item) → Reach m.edges seen x.state → Tail m later x.state x.back → IsIn x items
 
--- all that these links lead back to from these items is added behind the others
+-- an item more, unless it is there
+pub record Merges (items : List Item) (x : Item) (items' : List Item) : Type 0 where
+  pub more : List Item
+  pub grown : items' ≡ items ++ more
+  pub only : (y : Item) → IsIn y more → y ≡ x
+  pub there : IsIn x items'
+
+-- Of all that these links lead back to from these items, what was not there is added behind the others.
 pub record AddsBack (edges : List Edge) (is_silent : Bool) (links : List Arrival) (items old found : List Item) : Type 0 where
   pub more : List Item
   pub grown : found ≡ old ++ more
-  pub back : IsBack edges is_silent links items more
+  pub sound : (x : Item) → IsIn x more → BackFrom edges is_silent links items x
+  pub complete : (x : Item) → BackFrom edges is_silent links items x → IsIn x found
 
 -- a way on that does not begin with an empty left side
 pub data BaseTail (m : Machine) : List Input → ℕ → List Symbol → Type 0 where

@@ -14,23 +14,14 @@ ghost use Rattle.ap_symbol.specs.declared.symbol.Symbol.{Symbol};
 
 use crate::arrivals::{Arrival, arrivals_at};
 use crate::held::HeldRow;
+use crate::items::{Item, Items, Symbols};
 use ap_fst::{Edge, Fst, empty_cycle_law};
 use ap_symbol::{Memory, Sequence, Symbol};
 use std::alloc::Global;
 use std::mem;
 
-/// The symbols of an output, the last first.
-pub(crate) type Symbols = Sequence<Symbol>;
-
 /// For so many symbols more than there are rows, as for tags, an output has room from its first.
 const SPARE: usize = 8;
-
-/// A state, and an output from it to the end, its last symbol first.
-#[derive(Debug, Drop)]
-pub struct Item {
-    state: usize,
-    back: Symbols,
-}
 
 /// A copy with room for so many symbols, and for one more than there are at least. One of no symbol
 /// takes no memory.
@@ -114,9 +105,9 @@ fn add_link(
     link: Arrival,
     item: &Item,
     room: usize,
-    found: &mut Vec<Item>,
+    found: &mut Items,
 ) -> Result<(), Memory>
-    ensures { OnOk result (AddsBack fst.now.edges false (link ∷ []) (item.now ∷ []) found.old.items found.new.items) }
+    ensures { OnOk result (AddsBack fst.now.edges false (link ∷ []) (item.now ∷ []) found.old found.new) }
 {
     let Some(edge) = edge_at(fst.edges(), link.edge) else {
         return Ok(());
@@ -125,7 +116,7 @@ fn add_link(
         return Ok(());
     }
     let back = copy_symbols(alloc, &item.back, room)?;
-    found.push(item_before(alloc, edge, back, room)?)?;
+    found.add(item_before(alloc, edge, back, room)?)?;
     Ok(())
 }
 
@@ -137,9 +128,9 @@ fn move_link(
     link: Arrival,
     item: Item,
     room: usize,
-    found: &mut Vec<Item>,
+    found: &mut Items,
 ) -> Result<(), Memory>
-    ensures { OnOk result (AddsBack fst.now.edges false (link ∷ []) (item ∷ []) found.old.items found.new.items) }
+    ensures { OnOk result (AddsBack fst.now.edges false (link ∷ []) (item ∷ []) found.old found.new) }
 {
     let Some(edge) = edge_at(fst.edges(), link.edge) else {
         return Ok(());
@@ -147,7 +138,7 @@ fn move_link(
     if !leads(edge, link, &item, false) {
         return Ok(());
     }
-    found.push(item_before(alloc, edge, item.back, room)?)?;
+    found.add(item_before(alloc, edge, item.back, room)?)?;
     Ok(())
 }
 
@@ -158,9 +149,9 @@ fn add_links(
     links: &[Arrival],
     item: &Item,
     room: usize,
-    found: &mut Vec<Item>,
+    found: &mut Items,
 ) -> Result<(), Memory>
-    ensures { OnOk result (AddsBack fst.now.edges false links.now (item.now ∷ []) found.old.items found.new.items) }
+    ensures { OnOk result (AddsBack fst.now.edges false links.now (item.now ∷ []) found.old found.new) }
 {
     for link in links {
         add_link(alloc, fst, *link, item, room, found)?;
@@ -176,10 +167,10 @@ fn move_before(
     links: &[Arrival],
     item: Item,
     room: usize,
-    found: &mut Vec<Item>,
+    found: &mut Items,
 ) -> Result<(), Memory>
     requires { IsNonDecreasingBy arrival_to links.now }
-    ensures { OnOk result (AddsBack fst.now.edges false links.now (item ∷ []) found.old.items found.new.items) }
+    ensures { OnOk result (AddsBack fst.now.edges false links.now (item ∷ []) found.old found.new) }
 {
     let here = arrivals_at(links, item.state);
     let Some((last, others)) = here.split_last() else {
@@ -190,19 +181,19 @@ fn move_before(
 }
 
 /// Goes back from these items by edges with a left symbol. The items before them take their place.
-/// The other vector, which is empty before and after, lends its memory.
+/// The other list, which is empty before and after, lends its memory.
 fn backward(
     alloc: Global,
     fst: &Fst,
     links: &[Arrival],
     room: usize,
-    items: &mut Vec<Item>,
-    found: &mut Vec<Item>,
+    items: &mut Items,
+    found: &mut Items,
 ) -> Result<(), Memory>
     requires order { IsNonDecreasingBy arrival_to links.now }
-    requires none { found.old.items ≡ [] }
-    ensures back { OnOk result (IsBack fst.now.edges false links.now items.old.items items.new.items) }
-    ensures none { OnOk result (found.new.items ≡ []) }
+    requires none { found.old ≡ [] }
+    ensures back { OnOk result (IsBack fst.now.edges false links.now items.old items.new) }
+    ensures none { OnOk result (found.new ≡ []) }
 {
     while let Some(item) = items.pop() {
         move_before(alloc, fst, links, item, room, found)?;
@@ -217,21 +208,22 @@ fn add_silent_link(
     fst: &Fst,
     link: Arrival,
     room: usize,
-    items: &mut Vec<Item>,
+    items: &mut Items,
     at: usize,
 ) -> Result<(), Memory>
-    requires { at < length items.old.items }
-    ensures { OnOk result ((item : Item) → slice_get items.old.items at ≡ Some item → AddsBack fst.now.edges true (link ∷ []) (item ∷ []) items.old.items items.new.items) }
+    ensures { OnOk result ((item : Item) → slice_get items.old at ≡ Some item → AddsBack fst.now.edges true (link ∷ []) (item ∷ []) items.old items.new) }
 {
     let Some(edge) = edge_at(fst.edges(), link.edge) else {
         return Ok(());
     };
-    let item = &items[at];
+    let Some(item) = items.get(at) else {
+        return Ok(());
+    };
     if !leads(edge, link, item, true) {
         return Ok(());
     }
     let back = copy_symbols(alloc, &item.back, room)?;
-    items.push(item_before(alloc, edge, back, room)?)?;
+    items.add(item_before(alloc, edge, back, room)?)?;
     Ok(())
 }
 
@@ -241,11 +233,10 @@ fn add_silent_links(
     fst: &Fst,
     links: &[Arrival],
     room: usize,
-    items: &mut Vec<Item>,
+    items: &mut Items,
     at: usize,
 ) -> Result<(), Memory>
-    requires { at < length items.old.items }
-    ensures { OnOk result ((item : Item) → slice_get items.old.items at ≡ Some item → AddsBack fst.now.edges true links.now (item ∷ []) items.old.items items.new.items) }
+    ensures { OnOk result ((item : Item) → slice_get items.old at ≡ Some item → AddsBack fst.now.edges true links.now (item ∷ []) items.old items.new) }
 {
     for link in links {
         add_silent_link(alloc, fst, *link, room, items, at)?;
@@ -259,14 +250,15 @@ fn add_before(
     fst: &Fst,
     links: &[Arrival],
     room: usize,
-    items: &mut Vec<Item>,
+    items: &mut Items,
     at: usize,
 ) -> Result<(), Memory>
-    requires order { IsNonDecreasingBy arrival_to links.now }
-    requires there { at < length items.old.items }
-    ensures { OnOk result ((item : Item) → slice_get items.old.items at ≡ Some item → AddsBack fst.now.edges true links.now (item ∷ []) items.old.items items.new.items) }
+    requires { IsNonDecreasingBy arrival_to links.now }
+    ensures { OnOk result ((item : Item) → slice_get items.old at ≡ Some item → AddsBack fst.now.edges true links.now (item ∷ []) items.old items.new) }
 {
-    let item = &items[at];
+    let Some(item) = items.get(at) else {
+        return Ok(());
+    };
     let here = arrivals_at(links, item.state);
     add_silent_links(alloc, fst, here, room, items, at)
 }
@@ -277,12 +269,12 @@ fn add_round(
     fst: &Fst,
     links: &[Arrival],
     room: usize,
-    items: &mut Vec<Item>,
+    items: &mut Items,
     from: usize,
 ) -> Result<(), Memory>
     requires order { IsNonDecreasingBy arrival_to links.now }
-    requires there { from ≤ length items.old.items }
-    ensures { OnOk result (AddsBack fst.now.edges true links.now (drop from items.old.items) items.old.items items.new.items) }
+    requires there { from ≤ length items.old }
+    ensures { OnOk result (AddsBack fst.now.edges true links.now (drop from items.old) items.old items.new) }
 {
     let end = items.len();
     for at in from..end {
@@ -297,12 +289,12 @@ fn rounds_back(
     fst: &Fst,
     links: &[Arrival],
     room: usize,
-    items: &mut Vec<Item>,
+    items: &mut Items,
 ) -> Result<(), Memory>
     requires no_cycle { HasNoEmptyCycle fst.now }
     requires order { IsNonDecreasingBy arrival_to links.now }
-    requires below { (x : Item) → IsIn x items.old.items → x.state < fst.now.states }
-    ensures { OnOk result (IsBackMany fst.now.edges links.now items.old.items items.new.items) }
+    requires below { (x : Item) → IsIn x items.old → x.state < fst.now.states }
+    ensures { OnOk result (IsBackMany fst.now.edges links.now items.old items.new) }
 {
     let mut from: usize = 0;
     let mut round: usize = 0;
@@ -323,12 +315,12 @@ fn close_back(
     fst: &Fst,
     links: &[Arrival],
     room: usize,
-    items: &mut Vec<Item>,
+    items: &mut Items,
 ) -> Result<(), Memory>
     requires no_cycle { HasNoEmptyCycle fst.now }
     requires order { IsNonDecreasingBy arrival_to links.now }
-    requires below { (x : Item) → IsIn x items.old.items → x.state < fst.now.states }
-    ensures { OnOk result (IsBackMany fst.now.edges links.now items.old.items items.new.items) }
+    requires below { (x : Item) → IsIn x items.old → x.state < fst.now.states }
+    ensures { OnOk result (IsBackMany fst.now.edges links.now items.old items.new) }
 {
     if links.is_empty() {
         return Ok(());
@@ -337,8 +329,8 @@ fn close_back(
 }
 
 /// The final ones of these states, with an empty output.
-fn final_items(alloc: Global, fst: &Fst, states: &[usize]) -> Result<Vec<Item>, Memory>
-    ensures { IfOk result (λ items. AreFinals fst.now states.now items.items) }
+fn final_items(alloc: Global, fst: &Fst, states: &[usize]) -> Result<Items, Memory>
+    ensures { IfOk result (λ items. AreFinals fst.now states.now items) }
 {
     let mut items = Vec::new(alloc);
     for state in states {
@@ -349,7 +341,7 @@ fn final_items(alloc: Global, fst: &Fst, states: &[usize]) -> Result<Vec<Item>, 
             })?;
         }
     }
-    Ok(items)
+    Items::from_vec(alloc, items)
 }
 
 fn add_start(backs: &mut Vec<Symbols>, item: Item) -> Result<(), Memory>
@@ -387,7 +379,7 @@ fn outputs_back(alloc: Global, fst: &Fst, rows: &[HeldRow]) -> Result<Vec<Symbol
     let room = rows.len().saturating_add(SPARE);
     let last = &rows[at];
     let mut items = final_items(alloc, fst, last.states())?;
-    let mut found = Vec::new(alloc);
+    let mut found = Items::new(alloc);
     close_back(alloc, fst, last.silent(), room, &mut items)?;
     while at > 0 {
         let row = &rows[at];
@@ -396,7 +388,7 @@ fn outputs_back(alloc: Global, fst: &Fst, rows: &[HeldRow]) -> Result<Vec<Symbol
         let earlier = &rows[at];
         close_back(alloc, fst, earlier.silent(), room, &mut items)?;
     }
-    at_start(alloc, items)
+    at_start(alloc, items.into_vec())
 }
 
 /// The same, and none where there is no row.

@@ -16,6 +16,12 @@ use std::marker::Model;
 use std::mem;
 use std::rc::Rc;
 
+/// So many bytes a state takes in a list.
+const STATE_BYTES: usize = 8;
+
+/// So many bytes an edge by which a state was reached takes in a list.
+const ARRIVAL_BYTES: usize = 16;
+
 /// A row that is shared, so that a copy takes no memory. Contracts see the row. Its edges stand in
 /// the order of the states that they lead to.
 #[derive(Debug, Drop)]
@@ -44,13 +50,17 @@ impl SharedRow {
         })
     }
 
-    /// For how many states and edges its lists have room.
-    pub(crate) fn room(&self) -> usize {
-        self.row
-            .states
+    /// How many bytes its lists have room for.
+    pub(crate) fn bytes(&self) -> usize {
+        let states = self.row.states.capacity();
+        let edges = self
+            .row
+            .taken
             .capacity()
-            .saturating_add(self.row.taken.capacity())
-            .saturating_add(self.row.silent.capacity())
+            .saturating_add(self.row.silent.capacity());
+        states
+            .saturating_mul(STATE_BYTES)
+            .saturating_add(edges.saturating_mul(ARRIVAL_BYTES))
     }
 }
 

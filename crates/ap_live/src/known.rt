@@ -12,20 +12,18 @@ use ap_fst::Fst;
 use ap_symbol::{Memory, Symbol};
 use std::alloc::Global;
 
-/// At so many known rows no more are kept.
-const MOST_ROWS: usize = 131_072;
+/// So many bytes what is known of one transducer may take: 8 MiB, so that the four sections of a
+/// dictionary take 32 MiB at most. Where a row would go beyond, it and later ones aren't kept.
+const MOST_BYTES: usize = 8 * 1_024 * 1_024;
 
-/// Where known rows have room for so many states and edges no more are kept.
-const MOST_ROOM: usize = 8_000_000;
+/// So many bytes a known row takes beside the room of its lists: it is 96 bytes itself, and its place
+/// among the rows, its head and its link are 80, in lists that may have room for as many again.
+const ROW_BYTES: usize = 256;
 
 /// A row that has fewer states and edges than this, together with the row that it is computed from,
 /// is computed again as fast as it is found. It isn't kept, so that what is kept stays small on
 /// endless texts.
 const LEAST_KEPT: usize = 16;
-
-/// How many guesses are kept: a guess is the last link that was kept for a row and a letter, or for
-/// another row and letter at the same place. It is checked before it is followed.
-const GUESSES: usize = 65_536;
 
 /// From one known row an input leads to another, under a flag for case. Rows are numbered in the
 /// order in which they were kept. `earlier` is one more than the place of an earlier link from the
@@ -43,17 +41,15 @@ pub struct Link {
 /// one as inputs have asked for.
 ///
 /// `path` has the numbers of the rows so far, as long as these are known. `heads` has for each known
-/// row one more than the place of its last link, or 0; `guesses` has such places by row and letter.
-/// Links are checked when they are found by them. `room` counts the states and edges that known
-/// rows have room for.
+/// row one more than the place of its last link, or 0. `bytes` counts what all of it takes: the room of
+/// each known row's lists, and `ROW_BYTES` for each known row.
 #[derive(Debug, Drop)]
 pub struct Known {
     pub rows: Vec<SharedRow>,
     pub links: Vec<Link>,
     pub path: Vec<usize>,
     heads: Vec<usize>,
-    guesses: Vec<usize>,
-    room: usize,
+    bytes: usize,
 }
 
 pub(crate) fn nothing_known(alloc: Global) -> Known
@@ -66,8 +62,7 @@ pub(crate) fn nothing_known(alloc: Global) -> Known
         links: Vec::new(alloc),
         path: Vec::new(alloc),
         heads: Vec::new(alloc),
-        guesses: Vec::new(alloc),
-        room: 0,
+        bytes: 0,
     }
 }
 
@@ -108,47 +103,12 @@ fn head_of(heads: &[usize], from: usize) -> usize {
     }
 }
 
-/// The place of the guess for a letter from this row.
-fn place_of_guess(from: usize, input: &Symbol) -> usize {
-    match input {
-        Symbol::Letter(c) => from.wrapping_mul(31).wrapping_add(*c as usize) % GUESSES,
-        _ => 0,
-    }
-}
-
-/// Where this input leads from this row, if the link before this place says so.
-fn guessed(
-    links: &[Link],
-    guess: usize,
-    from: usize,
-    input: &Symbol,
-    sensitive: bool,
-) -> Option<usize>
-    ensures { (to : ℕ) → result ≡ Some to → IsLinked links.now from (record { symbol = input.now; sensitive = sensitive }) to }
-{
-    if guess == 0 || links.len() < guess {
-        return None;
-    }
-    let link = &links[guess - 1];
-    if is_link(link, from, input, sensitive) {
-        return Some(link.to);
-    }
-    None
-}
-
-/// Where this input leads from this row: by the guess, or else by the links of the row.
+/// Where this input leads from this row, by the links of the row.
 fn linked(known: &Known, from: usize, input: &Symbol, sensitive: bool) -> Option<usize>
     ensures { (to : ℕ) → result ≡ Some to → IsLinked known.now.links.items from (record { symbol = input.now; sensitive = sensitive }) to }
 {
-    let links = known.links.as_slice();
-    let guess = head_of(known.guesses.as_slice(), place_of_guess(from, input));
-    match guessed(links, guess, from, input, sensitive) {
-        Some(to) => Some(to),
-        None => {
-            let head = head_of(known.heads.as_slice(), from);
-            chained(links, head, from, input, sensitive)
-        }
-    }
+    let head = head_of(known.heads.as_slice(), from);
+    chained(known.links.as_slice(), head, from, input, sensitive)
 }
 
 /// The number of the known row that this input leads to from the last of so many rows.
@@ -187,7 +147,7 @@ fn add_known(rows: &mut Rows, known: &mut Known, to: usize) -> Result<(), Memory
 }
 
 fn is_full(known: &Known) -> bool {
-    MOST_ROWS <= known.rows.as_slice().len() || MOST_ROOM <= known.room
+    MOST_BYTES < known.bytes
 }
 
 /// How many states and edges the row at a place holds.
@@ -216,7 +176,7 @@ fn shared_at(rows: &[HeldRow], at: usize) -> Result<Option<SharedRow>, Memory>
 }
 
 /// Begins with the first row, where nothing is known.
-fn plant(known: &mut Known, alloc: Global, rows: &[HeldRow]) -> Result<(), Memory>
+fn plant(known: &mut Known, rows: &[HeldRow]) -> Result<(), Memory>
     ensures { (edges : List Edge) (finals : List ℕ) → IsKnown edges finals rows.now known.old.rows.items known.old.links.items known.old.path.items → IsKnown edges finals rows.now known.new.rows.items known.new.links.items known.new.path.items }
 {
     if !known.rows.as_slice().is_empty() || !known.path.as_slice().is_empty() {
@@ -225,7 +185,6 @@ fn plant(known: &mut Known, alloc: Global, rows: &[HeldRow]) -> Result<(), Memor
     let Some(first) = shared_at(rows, 0)? else {
         return Ok(());
     };
-    known.guesses = vec![in alloc; 0; GUESSES]?;
     known.rows.push(first)?;
     known.path.push(0)?;
     known.heads.push(0)?;
@@ -238,7 +197,8 @@ fn set_head(heads: &mut Vec<usize>, from: usize, head: usize) {
     }
 }
 
-/// Keeps a row that this input leads to from a known one, as far as there is memory.
+/// Keeps a row that this input leads to from a known one, as far as there is memory. Its bytes are
+/// counted first, and where they are too many it isn't kept.
 fn keep(
     known: &mut Known,
     alloc: Global,
@@ -252,11 +212,16 @@ fn keep(
         → IsKnown edges finals rows known.old.rows.items known.old.links.items known.old.path.items → IsKnown edges finals rows known.new.rows.items known.new.links.items known.new.path.items }
 {
     let to = known.rows.as_slice().len();
-    let room = row.room();
+    known.bytes = known
+        .bytes
+        .saturating_add(row.bytes())
+        .saturating_add(ROW_BYTES);
+    if is_full(known) {
+        return Ok(());
+    }
     let symbol = input.copy(alloc)?;
     known.heads.push(0)?;
     known.rows.push(row)?;
-    known.room = known.room.saturating_add(room);
     let earlier = head_of(known.heads.as_slice(), from);
     known.links.push(Link {
         from,
@@ -267,7 +232,6 @@ fn keep(
     })?;
     let head = known.links.as_slice().len();
     set_head(&mut known.heads, from, head);
-    set_head(&mut known.guesses, place_of_guess(from, input), head);
     known.path.push(to)?;
     Ok(())
 }
@@ -318,7 +282,7 @@ fn add_new(
 {
     let pick = Pick::Fitting(input, sensitive);
     rows.push_next(fst, hints, pick)?;
-    let _ = plant(known, rows.allocator(), rows.as_slice());
+    let _ = plant(known, rows.as_slice());
     let _ = remember(known, rows, input, sensitive);
     Ok(())
 }
@@ -353,8 +317,7 @@ fn forget(known: &mut Known)
     known.links.clear();
     known.path.clear();
     known.heads.clear();
-    known.guesses.clear();
-    known.room = 0;
+    known.bytes = 0;
 }
 
 /// Goes back to the rows of the first so many inputs. At none of them known rows are forgotten where

@@ -8,7 +8,7 @@ ghost use Rattle.ap_fst.specs.Lists.{IsIn};
 ghost use Rattle.ap_live.specs.Found.{in_order};
 ghost use Rattle.ap_live.specs.Outputs.{WritesProper, WritesWords, is_proper_side, is_word_side};
 
-use crate::backward::Symbols;
+use crate::items::Symbols;
 use ap_fst::{Edge, Fst};
 use ap_symbol::{Memory, Symbol, Word, compare, one_rendering};
 use std::alloc::Global;

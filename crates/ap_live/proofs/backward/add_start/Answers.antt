@@ -1,7 +1,7 @@
 use Rattle.std.proofs.Common.{sym, ◌≡◌, subst, ℕ, ◌⊎◌}
 use Rattle.std.specs.Prelude.{◌↔◌}
 use Rattle.ap_fst.specs.Lists.{IsIn}
-use Rattle.ap_live.specs.declared.backward.Item.{Item}
+use Rattle.ap_live.specs.declared.items.Item.{Item}
 use Rattle.ap_live.proofs.TailLaws.{start_there}
 use Rattle.ap_live.proofs.backward.add_start.Goals as goal
 

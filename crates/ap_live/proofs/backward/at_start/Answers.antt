@@ -1,6 +1,6 @@
 use Rattle.std.proofs.Common.{ap, ◌∙◌, sym, List, ◌∷◌, [], ◌++◌, append_assoc}
 use Rattle.std.specs.Vec.Iter.{into_iter_items, into_iter_len}
-use Rattle.ap_live.specs.declared.backward.Item.{Item}
+use Rattle.ap_live.specs.declared.items.Item.{Item}
 use Rattle.ap_live.proofs.TailLaws.{start_more, start_all, over_at}
 use Rattle.ap_live.proofs.backward.at_start.Goals as goal
 

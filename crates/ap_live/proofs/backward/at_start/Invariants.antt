@@ -3,7 +3,7 @@ use Rattle.std.specs.Prelude.{◌↔◌}
 use Rattle.std.specs.Vec.Iter.{into_iter_items}
 use Rattle.ap_fst.specs.Lists.{IsIn}
 use Rattle.ap_symbol.specs.declared.symbol.Symbol.{Symbol}
-use Rattle.ap_live.specs.declared.backward.Item.{Item}
+use Rattle.ap_live.specs.declared.items.Item.{Item}
 use Rattle.ap_live.proofs.backward.at_start.Given as goal
 
 abbrev pub invariant-loop-item : goal.invariant-loop-item
