@@ -1,3 +1,11 @@
 pub mod Translations
 pub mod Prefixes
 pub mod Keepings
+pub mod SuperblanksKept
+pub mod Matches
+pub mod PostSearches
+pub mod PostSizes
+pub mod PostSteps
+pub mod PostTurns
+pub mod PostWritings
+pub mod PostKept

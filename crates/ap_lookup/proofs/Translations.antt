@@ -14,16 +14,17 @@ use Rattle.ap_live.specs.SectionLives.{AreLive}
 use Rattle.ap_live.specs.declared.live_sections.LiveSections.{LiveSections}
 use Rattle.ap_live.proofs.AnyWords.{any_viable, viable_front}
 use Rattle.ap_live.proofs.Greatest.{greatest_is, greatest_cut}
+use Rattle.ap_lookup.specs.Matching.{is_match}
 use Rattle.ap_lookup.specs.Translation.{lemma_length, is_prefix, prefix, is_marked, taken, untaken, translation}
 
-pub prefix_short : (lexicon : Lexicon) (word : List Symbol) (m : ℕ) → m < lemma_length word → is_prefix lexicon word m ≡ false
-prefix_short lexicon word m lt = let t : nat_le (lemma_length word) m ≡ false = grind (arith, nat_tests) in rw t refl
+pub match_short : (lexicon : Lexicon) (least : ℕ) (word : List Symbol) (m : ℕ) → m < least → is_match lexicon least word m ≡ false
+match_short lexicon least word m lt = let t : nat_le least m ≡ false = grind (arith, nat_tests) in rw t refl
 
-pub prefix_reads : (lexicon : Lexicon) (word : List Symbol) (m : ℕ) (b : Bool) → lemma_length word ≤ m → has_words (any_words lexicon (take m word)) ≡ b → is_prefix lexicon word m ≡ b
-prefix_reads lexicon word m b le e = let t : nat_le (lemma_length word) m ≡ true = grind (arith, nat_tests) in rw t e
+pub match_reads : (lexicon : Lexicon) (least : ℕ) (word : List Symbol) (m : ℕ) (b : Bool) → least ≤ m → has_words (any_words lexicon (take m word)) ≡ b → is_match lexicon least word m ≡ b
+match_reads lexicon least word m b le e = let t : nat_le least m ≡ true = grind (arith, nat_tests) in rw t e
 
-pub none_below : (lexicon : Lexicon) (word : List Symbol) (n : ℕ) → n < lemma_length word → greatest (is_prefix lexicon word) n ≡ 0
-none_below lexicon word n lt = greatest_is (is_prefix lexicon word) n 0 (omega arith) (inl refl) (λ m more le. prefix_short lexicon word m (omega (arith, lt, le)))
+pub none_below : (lexicon : Lexicon) (least : ℕ) (word : List Symbol) (n : ℕ) → n < least → greatest (is_match lexicon least word) n ≡ 0
+none_below lexicon least word n lt = greatest_is (is_match lexicon least word) n 0 (omega arith) (inl refl) (λ m more le. match_short lexicon least word m (omega (arith, lt, le)))
 
 pub taken_again : {X : Type 0} (m n : ℕ) (xs : List X) → m ≤ n → take m (take n xs) ≡ take m xs
 taken_again m n xs le = take-take m n xs le
@@ -39,10 +40,15 @@ prefix_within lexicon word n whole fits ends =
     let reads = (and_parts (nat_le (lemma_length word) m) (has_words (any_words lexicon (take m word))) t).1 in
     absurd (let no : true ≡ false = sym (any_viable lexicon (take m word) whole reads) ∙ ends m more le in cc)))
 
-true_not : (b : Bool) → true ≡ not b → b ≡ false
+pub true_not : (b : Bool) → true ≡ not b → b ≡ false
 true_not true h = cc
 true_not false h = refl
 
+pub false_not : (b : Bool) → false ≡ not b → b ≡ true
+false_not true h = refl
+false_not false h = cc
+
+-- one symbol more, which goes on or not
 module _ (p : Parts) (sensitive : Bool) (word : List Symbol) (n : ℕ) (x : Symbol) (more : n < length word) (at : x ≡ get_or word n x) where
   next_is : take (n + 1) word ≡ take n word ++ x ∷ []
   next_is = take_more word n x more ∙ ap (λ y. take n word ++ y ∷ []) (sym at)
@@ -50,13 +56,17 @@ module _ (p : Parts) (sensitive : Bool) (word : List Symbol) (n : ℕ) (x : Symb
   pub live_more : (lives : LiveSections) → AreLive p sensitive (take n word ++ x ∷ []) lives → AreLive p sensitive (take (n + 1) word) lives
   live_more lives live = subst (λ (symbols : List Symbol). AreLive p sensitive symbols lives) (sym next_is) live
 
-  pub live_cut : (lives : LiveSections) → AreLive p sensitive (take n (take n word ++ x ∷ [])) lives → AreLive p sensitive (take n word) lives
-  live_cut lives live =
-      let l : n ≤ length (take n word) = let t = length-take n word in omega (arith, t, more) in
-      subst (λ (symbols : List Symbol). AreLive p sensitive symbols lives) (take-append-le n (take n word) (x ∷ []) l ∙ taken_again n n word (omega arith)) live
+  pub dead_next : viable_in p sensitive (take n word ++ x ∷ []) ≡ false → viable_in p sensitive (take (n + 1) word) ≡ false
+  dead_next e = ap (viable_in p sensitive) next_is ∙ e
 
-  pub dead_next : (answer : Bool) → answer ≡ true → answer ≡ not (viable_in p sensitive (take n word ++ x ∷ [])) → viable_in p sensitive (take (n + 1) word) ≡ false
-  dead_next answer dead e = ap (viable_in p sensitive) next_is ∙ true_not (viable_in p sensitive (take n word ++ x ∷ [])) (sym dead ∙ e)
+  pub so_many : length (take n word) ≡ n
+  so_many = let t = length-take n word in omega (arith, t, more)
+
+-- back before one symbol
+pub live_back : (p : Parts) (sensitive : Bool) (symbols : List Symbol) (x : Symbol) (n : ℕ) (lives : LiveSections) → length symbols ≡ n → AreLive p sensitive (take n (symbols ++ x ∷ [])) lives → AreLive p sensitive symbols lives
+live_back p sensitive symbols x n lives is live =
+    let e : take n (symbols ++ x ∷ []) ≡ symbols = take-append-le n symbols (x ∷ []) (omega (arith, is)) ∙ take_all n symbols (omega (arith, is)) in
+    subst (λ (z : List Symbol). AreLive p sensitive z lives) e live
 
 pub slice_rest : (word : List Symbol) (i : ℕ) → take (length word - i) (drop i word) ≡ drop i word
 slice_rest word i = let l = length-drop i word in take_all (length word - i) (drop i word) (omega (arith, l))

@@ -1,3 +1,4 @@
+pub mod Matching
 pub mod Translation
 pub mod Translating
 pub mod Looking
@@ -6,3 +7,7 @@ pub mod Lookup
 pub mod Generating
 pub mod Kept
 pub mod Works
+pub mod PostGenerating
+pub mod PostWorks
+pub mod PostSearching
+pub mod PostMeasure

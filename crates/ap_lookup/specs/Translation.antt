@@ -1,11 +1,10 @@
 -- The translation of a word by a bilingual dictionary.
-use Rattle.std.specs.Prelude.{ℕ, suc, Bool, true, false, nat_lt, nat_le, ◌&&◌, List, [], ◌∷◌, length, take, drop, if◌then◌else◌}
+use Rattle.std.specs.Prelude.{ℕ, suc, Bool, true, false, nat_lt, List, [], ◌∷◌, take, drop, if◌then◌else◌}
 use Rattle.ap_symbol.specs.declared.symbol.Symbol.{Symbol}
 use Rattle.ap_symbol.specs.declared.symbol.Symbol.TheVariants.{Tag, Star, At}
-use Rattle.ap_live.specs.Found.{has_words}
-use Rattle.ap_live.specs.Greatest.{greatest}
 use Rattle.ap_live.specs.Lexicon.{Lexicon}
-use Rattle.ap_live.specs.Readings.{any_words, carried_words}
+use Rattle.ap_live.specs.Readings.{carried_words}
+use Rattle.ap_lookup.specs.Matching.{is_match, longest_match}
 
 abbrev pub is_tag : Symbol → Bool
 is_tag (Tag name) = true
@@ -36,11 +35,11 @@ forms_of lexicon sensitive word symbols = carried_words lexicon sensitive (lemma
 
 -- the first n symbols hold the whole lemma and fit a left word
 abbrev pub is_prefix : Lexicon → List Symbol → ℕ → Bool
-is_prefix lexicon word n = nat_le (lemma_length word) n && has_words (any_words lexicon (take n word))
+is_prefix lexicon word n = is_match lexicon (lemma_length word) word n
 
 -- the length of the longest such prefix, or 0
 abbrev pub prefix : Lexicon → List Symbol → ℕ
-prefix lexicon word = greatest (is_prefix lexicon word) (length word)
+prefix lexicon word = longest_match lexicon (lemma_length word) word
 
 -- the heads, and the symbols left over
 pub record Translated : Type 0 where

@@ -3,7 +3,7 @@ ghost use Rattle.std.specs.List.Sorted.{IsStrictlySortedBy};
 ghost use Rattle.ap_symbol.specs.Rendering.{word_cmp};
 ghost use Rattle.ap_symbol.specs.declared.symbol.Symbol.{Symbol};
 ghost use Rattle.ap_live.specs.Lexicon.{Lexicon};
-ghost use Rattle.ap_lookup.specs.Laws.{IsLongest, HasNone};
+ghost use Rattle.ap_lookup.specs.Laws.{IsLongest, HasNone, BilingualKeeps, GenerationKeeps, PostGenerationKeeps};
 ghost use Rattle.ap_lookup.specs.Translation.{is_marked, taken, untaken, translation};
 
 /// The law of translation, whatever the lexicon: of the prefixes that hold the whole lemma and fit a
@@ -15,4 +15,25 @@ pub fn longest_prefix_is_taken()
     ensures none { (lexicon : Lexicon) (sensitive : Bool) (word : List Symbol) → HasNone lexicon word → translation lexicon sensitive word ≡ untaken word }
     ensures no_head { (lexicon : Lexicon) (sensitive : Bool) (word : List Symbol) → (((translation lexicon sensitive word).heads ≡ []) ↔ HasNone lexicon word) }
     ensures order { (lexicon : Lexicon) (sensitive : Bool) (word : List Symbol) → IsStrictlySortedBy word_cmp (translation lexicon sensitive word).heads }
+{}
+
+/// The law that bilingual lookup keeps superblanks, by a lexicon whose right words can be written:
+/// where it gives a text without a fault, the superblanks of that text are those of the input, in
+/// order, whole. It is a statement alone and does nothing.
+pub fn bilingual_keeps_superblanks()
+    ensures { BilingualKeeps }
+{}
+
+/// The law that generation keeps superblanks, by a lexicon whose right words can be written: where
+/// it gives a text without a fault, the superblanks of that text are those of the input, in order,
+/// whole. It is a statement alone and does nothing.
+pub fn generation_keeps_superblanks()
+    ensures { GenerationKeeps }
+{}
+
+/// The law that post-generation keeps superblanks, by a lexicon whose right words can be written:
+/// where it gives a text without a fault, the superblanks of that text are those of the input, in
+/// order, whole. It is a statement alone and does nothing.
+pub fn post_generation_keeps_superblanks()
+    ensures { PostGenerationKeeps }
 {}

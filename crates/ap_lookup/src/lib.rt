@@ -11,6 +11,10 @@ mod generation_writer;
 mod keeping;
 mod kept;
 mod laws;
+mod post_generation;
+mod post_generation_work;
+mod post_search;
+mod post_writing;
 mod translation;
 mod translator;
 mod word_writer;
@@ -22,7 +26,12 @@ pub use generation::Generation;
 pub use generation_work::GenerationWork;
 pub use generation_writer::{GenerationWriter, Marks};
 pub use keeping::Keeping;
-pub use laws::longest_prefix_is_taken;
+pub use laws::{
+    bilingual_keeps_superblanks, generation_keeps_superblanks, longest_prefix_is_taken,
+    post_generation_keeps_superblanks,
+};
+pub use post_generation::PostGeneration;
+pub use post_generation_work::PostGenerationWork;
 pub use translation::{Translation, translate};
 pub use translator::Translator;
 pub use word_writer::WordWriter;

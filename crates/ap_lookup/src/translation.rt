@@ -1,9 +1,10 @@
-ghost use Rattle.std.specs.Prelude.{◌≡◌, ℕ, ◌<◌, ◌≤◌, Bool, false, List, [], length, take, IfOk, OnOk};
+ghost use Rattle.std.specs.Prelude.{◌≡◌, ℕ, ◌<◌, ◌≤◌, Bool, true, false, Ok, List, [], ◌∷◌, ◌++◌, length, take, IfOk, OnOk, OnErr};
 ghost use Rattle.ap_symbol.specs.declared.symbol.Symbol.{Symbol};
 ghost use Rattle.ap_live.specs.Greatest.{greatest};
 ghost use Rattle.ap_live.specs.Lexicon.{lexicon_of};
 ghost use Rattle.ap_live.specs.SectionLives.{AreLive};
-ghost use Rattle.ap_lookup.specs.Translation.{is_tag as tag_test, lemma_length, is_marked as marked_test, is_prefix, untaken, translation};
+ghost use Rattle.ap_lookup.specs.Matching.{is_match};
+ghost use Rattle.ap_lookup.specs.Translation.{is_tag as tag_test, lemma_length, is_marked as marked_test, untaken, translation};
 ghost use Rattle.ap_lookup.specs.Translating.{translated};
 
 use ap_fst::Compiled;
@@ -50,6 +51,27 @@ pub(crate) fn is_marked(symbols: &[Symbol]) -> bool
     }
 }
 
+/// Goes on by a symbol behind so many others, if all of them fit a beginning of a left word, and
+/// answers whether they do.
+pub(crate) fn step_one(
+    compiled: &Compiled,
+    sensitive: bool,
+    symbol: &Symbol,
+    at: usize,
+    lives: &mut LiveSections,
+) -> Result<bool, Memory>
+    ensures on { result ≡ Ok true → (symbols : List Symbol) → AreLive compiled.now sensitive symbols lives.old → AreLive compiled.now sensitive (symbols ++ symbol.now ∷ []) lives.new × ((lexicon_of compiled.now sensitive).viable (symbols ++ symbol.now ∷ []) ≡ true) }
+    ensures off { result ≡ Ok false → (symbols : List Symbol) → length symbols ≡ at → AreLive compiled.now sensitive symbols lives.old → AreLive compiled.now sensitive symbols lives.new × ((lexicon_of compiled.now sensitive).viable (symbols ++ symbol.now ∷ []) ≡ false) }
+    ensures err { OnErr result ((symbols : List Symbol) → AreLive compiled.now sensitive symbols lives.old → AreLive compiled.now sensitive symbols lives.new) }
+{
+    lives.step(compiled, symbol, sensitive)?;
+    if lives.is_dead(compiled) {
+        lives.cut(at);
+        return Ok(false);
+    }
+    Ok(true)
+}
+
 /// Steps over the symbols while they fit a beginning of a left word, and answers how many do.
 fn step_all(
     compiled: &Compiled,
@@ -65,9 +87,8 @@ fn step_all(
     let _ = compiled.alphabet();
     let mut at = 0;
     while at < symbols.len() {
-        lives.step(compiled, &symbols[at], sensitive)?;
-        if lives.is_dead(compiled) {
-            lives.cut(at);
+        let fits = step_one(compiled, sensitive, &symbols[at], at, lives)?;
+        if !fits {
             return Ok(at);
         }
         at += 1;
@@ -75,26 +96,25 @@ fn step_all(
     Ok(at)
 }
 
-/// Goes back to the longest prefix that holds the whole lemma and fits a left word.
-fn step_down(
+/// Goes back to the longest front, of at least so many symbols, that fits a left word.
+pub(crate) fn step_down(
     compiled: &Compiled,
     sensitive: bool,
     symbols: &[Symbol],
-    lemma: usize,
+    least: usize,
     from: usize,
     lives: &mut LiveSections,
 ) -> usize
     requires lives { AreLive compiled.now sensitive (take from symbols.now) lives.old }
     requires within { from ≤ length symbols.now }
-    requires lemma { lemma ≡ lemma_length symbols.now }
-    ensures value { result ≡ greatest (is_prefix (lexicon_of compiled.now sensitive) symbols.now) from }
+    ensures value { result ≡ greatest (is_match (lexicon_of compiled.now sensitive) least symbols.now) from }
     ensures within { result ≤ from }
     ensures kept { (seen : List Symbol) × AreLive compiled.now sensitive seen lives.new }
     ensures lives { 0 < result → AreLive compiled.now sensitive (take result symbols.now) lives.new }
 {
     let mut at = from;
     while at > 0 {
-        if at < lemma {
+        if at < least {
             return 0;
         }
         if lives.reads_any(compiled) {

@@ -4,3 +4,4 @@ pub mod MovedParts
 pub mod Staying
 pub mod Whole
 pub mod ReadAgain
+pub mod Kept

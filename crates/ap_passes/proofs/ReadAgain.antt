@@ -1,36 +1,23 @@
 -- The words that are made of a word that was read can be written and read again.
-use Rattle.std.proofs.Common.{◌≡◌, ℕ, zero, suc, ◌+◌, ◌-◌, ◌<◌, ◌≤◌, Bool, true, false, cond, List, [], ◌∷◌, ◌++◌, length, take, drop, sym, refl, subst, arith}
+use Rattle.std.proofs.Common.{◌≡◌, ℕ, ◌-◌, ◌<◌, Bool, true, false, cond, List, [], ◌∷◌, ◌++◌, length, take, drop, sym, refl, subst, arith}
 use Rattle.std.specs.List.{filter, list_all}
 use Rattle.std.proofs.lemmas.Bool.{and_parts}
 use Rattle.ap_symbol.specs.declared.symbol.Symbol.{Symbol}
 use Rattle.ap_stream.specs.declared.dialect.Dialect.TheVariants.{Analysed, Lexical}
 use Rattle.ap_stream.specs.Laws.{AreSpelt, EachSpelt, AreWords}
+use Rattle.ap_stream.proofs.Written.{spelt_append, spelt_take, spelt_drop}
 use Rattle.ap_passes.specs.Laws.{EachWord}
 use Rattle.ap_passes.specs.Marks.{is_join, is_marked}
 use Rattle.ap_passes.specs.Splitting.{between, in_front, between_joins, parts, is_filled, tag_place, queue_place, part_end, invariable, is_moved, moved, split}
 use Rattle.ap_passes.proofs.MovedParts.{moved_is, moved_not}
 use Rattle.ap_passes.proofs.Staying.{split_marked, split_open, none_empty}
 
-spelt_append : (a b : List Symbol) → AreSpelt false a → AreSpelt false b → AreSpelt false (a ++ b)
-spelt_append [] b h k = k
-spelt_append (x ∷ a) b h k = (h.0, spelt_append a b h.1 k)
-
-spelt_take : (n : ℕ) (word : List Symbol) → AreSpelt false word → AreSpelt false (take n word)
-spelt_take zero word h = tt
-spelt_take (suc n) [] h = tt
-spelt_take (suc n) (x ∷ word) h = (h.0, spelt_take n word h.1)
-
-spelt_drop : (n : ℕ) (word : List Symbol) → AreSpelt false word → AreSpelt false (drop n word)
-spelt_drop zero word h = h
-spelt_drop (suc n) [] h = tt
-spelt_drop (suc n) (x ∷ word) h = spelt_drop n word h.1
-
 spelt_between : (from to : ℕ) (word : List Symbol) → AreSpelt false word → AreSpelt false (between from to word)
-spelt_between from to word h = spelt_take (to - from) (drop from word) (spelt_drop from word h)
+spelt_between from to word h = spelt_take false (to - from) (drop from word) (spelt_drop from word h)
 
 spelt_moved_by : (b : Bool) (word : List Symbol) → is_moved word ≡ b → AreSpelt false word → AreSpelt false (moved word)
 spelt_moved_by true word e h = subst (AreSpelt false) (sym (moved_is word e))
-    (spelt_append (take (tag_place word) word) (invariable word ++ (between (tag_place word) (queue_place word) word ++ drop (part_end word) word)) (spelt_take (tag_place word) word h)
+    (spelt_append (take (tag_place word) word) (invariable word ++ (between (tag_place word) (queue_place word) word ++ drop (part_end word) word)) (spelt_take false (tag_place word) word h)
     (spelt_append (invariable word) (between (tag_place word) (queue_place word) word ++ drop (part_end word) word) (spelt_between (queue_place word) (part_end word) word h)
     (spelt_append (between (tag_place word) (queue_place word) word) (drop (part_end word) word) (spelt_between (tag_place word) (queue_place word) word h) (spelt_drop (part_end word) word h))))
 spelt_moved_by false word e h = subst (AreSpelt false) (sym (moved_not word e)) h
@@ -60,7 +47,7 @@ split_spelt_by true word m h = subst EachSpelt (sym (split_marked word m)) (h, t
 split_spelt_by false word m h =
     let whole = spelt_moved_by (is_moved word) word refl h in
     let t = tag_place (moved word) in
-    subst EachSpelt (sym (split_open word m)) (kept_spelt (parts (moved word)) (front_spelt (take t (moved word)) (between_joins (drop t (moved word))) (spelt_take t (moved word) whole) (joins_spelt (drop t (moved word)) (spelt_drop t (moved word) whole))))
+    subst EachSpelt (sym (split_open word m)) (kept_spelt (parts (moved word)) (front_spelt (take t (moved word)) (between_joins (drop t (moved word))) (spelt_take false t (moved word) whole) (joins_spelt (drop t (moved word)) (spelt_drop t (moved word) whole))))
 
 filled_some : (word : List Symbol) → is_filled word ≡ true → 0 < length word
 filled_some [] h = cc

@@ -1,11 +1,14 @@
 -- What the laws of taking words apart say.
-use Rattle.std.specs.Prelude.{◌≡◌, ℕ, ◌<◌, Bool, true, false, List, [], ◌∷◌, ◌++◌, length}
+use Rattle.std.specs.Prelude.{◌≡◌, ℕ, ◌<◌, true, false, List, [], ◌∷◌, ◌++◌, length, None}
 use Rattle.std.specs.List.{flat_map, list_any, list_all}
 use Rattle.ap_symbol.specs.declared.symbol.Symbol.{Symbol}
 use Rattle.ap_symbol.specs.declared.symbol.Symbol.TheVariants.{Join}
 use Rattle.ap_stream.specs.Laws.{AreWords}
+use Rattle.ap_stream.specs.Pieces.{HaveSameSuperblanks}
+use Rattle.ap_stream.specs.Told.{Clean}
 use Rattle.ap_stream.specs.declared.dialect.Dialect.TheVariants.{Analysed, Lexical}
 use Rattle.ap_passes.specs.Marks.{is_tag, is_queue, is_end, is_seam, is_marked}
+use Rattle.ap_passes.specs.Passes.{first_pass, split_pass}
 use Rattle.ap_passes.specs.Splitting.{is_filled, moved, parts, split}
 
 abbrev pub joined_one : List Symbol → List Symbol
@@ -57,3 +60,13 @@ SplitReads = (word : List Symbol) → AreWords Lexical (word ∷ []) → EachWor
 -- so can the first reading of an analysed unit, where it isn't empty
 abbrev pub FirstReads : Type 0
 FirstReads = (surface reading : List Symbol) (readings : List (List Symbol)) → 0 < length reading → AreWords Analysed (surface ∷ reading ∷ readings) → AreWords Lexical (reading ∷ [])
+
+-- where the first readings of a text have no fault, they have its superblanks
+abbrev pub FirstKeeps : Type 0
+FirstKeeps = (text : List ℕ) → (first_pass text Clean).fault ≡ None
+    → HaveSameSuperblanks Analysed Lexical text (first_pass text Clean).text
+
+-- so has a text whose words are taken apart
+abbrev pub SplitKeeps : Type 0
+SplitKeeps = (text : List ℕ) → (split_pass text Clean).fault ≡ None
+    → HaveSameSuperblanks Lexical Lexical text (split_pass text Clean).text

@@ -1,4 +1,4 @@
-ghost use Rattle.ap_passes.specs.Laws.{NothingIsLost, NoneIsEmpty, PlainStays, TaglessStays, SplitReads, FirstReads};
+ghost use Rattle.ap_passes.specs.Laws.{NothingIsLost, NoneIsEmpty, PlainStays, TaglessStays, SplitReads, FirstReads, FirstKeeps, SplitKeeps};
 
 /// The law that nothing of a word is lost where no part is empty: its words joined again by Joins
 /// are the word with its invariable part moved. It is a statement alone and does nothing.
@@ -32,4 +32,17 @@ pub fn split_words_are_words()
 /// isn't empty. It is a statement alone and does nothing.
 pub fn first_readings_are_words()
     ensures { FirstReads }
+{}
+
+/// The law that `first` keeps superblanks: where it gives a text without a fault, the superblanks of
+/// that text are those of the input, in order, whole. It is a statement alone and does nothing.
+pub fn first_keeps_superblanks()
+    ensures { FirstKeeps }
+{}
+
+/// The law that `pretransfer` keeps superblanks: where it gives a text without a fault, the
+/// superblanks of that text are those of the input, in order, whole. It is a statement alone and
+/// does nothing.
+pub fn pretransfer_keeps_superblanks()
+    ensures { SplitKeeps }
 {}

@@ -5,7 +5,8 @@ use Rattle.ap_live.specs.Lexicon.{lexicon_of}
 use Rattle.ap_live.specs.Readings.{carried_words}
 use Rattle.ap_live.specs.SectionLives.{AreLive}
 use Rattle.ap_live.proofs.Coherence.{coherent}
-use Rattle.ap_lookup.specs.Translation.{lemma_length, lemma, is_marked, forms_of, is_prefix, prefix}
+use Rattle.ap_lookup.specs.Matching.{is_match}
+use Rattle.ap_lookup.specs.Translation.{lemma_length, lemma, is_marked, forms_of, prefix}
 use Rattle.ap_lookup.proofs.Translations as laws
 use Rattle.ap_lookup.proofs.translation.translate_from.Goals as goal
 use Rattle.ap_lookup.proofs.translation.translate_from.Goals.{After-step_down-taken}
@@ -19,7 +20,8 @@ length_is c =
     let lexicon = lexicon_of c.args.compiled.now c.args.sensitive in
     laws.prefix_within lexicon c.args.word.now c.in_ok-viable.viable (coherent c.args.compiled.now c.args.sensitive c.alphabet.ensures.sound)
     (rw c.symbols-symbols.ensures.symbols at c.in_ok-viable.ensures.within) (rw c.symbols-symbols.ensures.symbols at c.in_ok-viable.ensures.ends)
-    ∙ ap (λ q. greatest (is_prefix lexicon q) c.in_ok-viable.viable) (sym c.symbols-symbols.ensures.symbols) ∙ sym c.step_down-taken.ensures.value
+    ∙ ap (λ q. greatest (is_match lexicon (lemma_length q) q) c.in_ok-viable.viable) (sym c.symbols-symbols.ensures.symbols)
+    ∙ ap (λ k. greatest (is_match lexicon k c.symbols-symbols.result.now) c.in_ok-viable.viable) (sym c.lemma_len-lemma.ensures.value) ∙ sym c.step_down-taken.ensures.value
 
 fits : (c : After-step_down-taken) → c.step_down-taken.result ≤ length c.args.word.now
 fits c = let w = rw c.symbols-symbols.ensures.symbols at c.in_ok-viable.ensures.within in omega (arith, c.step_down-taken.ensures.within, w)
