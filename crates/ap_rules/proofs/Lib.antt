@@ -1,0 +1,12 @@
+pub mod ValueViews
+pub mod ConditionViews
+pub mod StatementViews
+pub mod ChildSteps
+pub mod TagLaws
+pub mod WithinLaws
+pub mod TreeLaws
+pub mod Read
+pub mod OwnFaults
+pub mod RuleLaws
+pub mod Sound
+pub mod SectionsSound

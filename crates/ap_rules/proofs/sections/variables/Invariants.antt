@@ -1,0 +1,12 @@
+use Rattle.std.proofs.Common.{◌≡◌, ◌++◌, [], map}
+use Rattle.ap_rules.specs.Children.{children_in, size}
+use Rattle.ap_rules.specs.Scopes.{scope}
+use Rattle.ap_rules.specs.Sections.{variables}
+use Rattle.ap_rules.specs.Views.{plain_macro, plain_rule}
+use Rattle.ap_rules.proofs.sections.variables.Given as goal
+
+abbrev pub invariant-rest : goal.invariant-rest
+invariant-rest l = l.made ++ variables (children_in l.rest) ≡ variables (children_in l.parts)
+
+abbrev pub decreases-rest : goal.decreases-rest
+decreases-rest l = size (children_in l.rest)
