@@ -5,9 +5,8 @@ use crate::fst::Fst;
 use crate::graph::{Arc, sort_arcs};
 use crate::label::{Edge, Label};
 use crate::removal::without_empty;
-use crate::silence::empty_side;
 use crate::trimming::trim;
-use ap_symbol::{Symbol, TagName};
+use ap_symbol::Symbol;
 use std::alloc::Global;
 use std::test::Fail;
 
@@ -59,73 +58,13 @@ fn empty_moves_go(rt: HostRuntime) -> Result<(), Fail> {
     assert!(rt; !trimmed.is_final(1));
     assert_eq!(rt; trimmed.edges_from(0).len(), 2);
     assert_eq!(rt; trimmed.span(1), (2, 3));
-    assert!(rt; !empty_side(alloc, &trimmed)?);
     assert_eq!(rt; empty_cycle(alloc, &trimmed)?, None);
-    Ok(())
-}
-
-#[test]
-fn nothing_is_one_state(rt: HostRuntime) -> Result<(), Fail> {
-    let alloc = rt.alloc();
-    let dead = letter_draft(alloc, 'a')?.join(Draft::nothing(alloc)?)?;
-    let trimmed = trim(alloc, &without_empty(alloc, &dead)?)?;
-    assert_eq!(rt; trimmed.states(), 1);
-    assert_eq!(rt; trimmed.edges().len(), 0);
-    assert_eq!(rt; trimmed.finals().len(), 0);
-    Ok(())
-}
-
-#[test]
-fn a_label_may_read_nothing(rt: HostRuntime) -> Result<(), Fail> {
-    let alloc = rt.alloc();
-    let Some(name) = TagName::new(alloc, "n")? else {
-        return Ok(());
-    };
-    let label = Label {
-        left: None,
-        right: Some(Symbol::Tag(name)),
-    };
-    let fst = without_empty(alloc, &Draft::letter(alloc, label)?)?;
-    let text = edges_text(alloc, &fst)?;
-    assert_eq!(rt; text.as_str(), "0-<1 ");
-    assert!(rt; empty_side(alloc, &fst)?);
-    assert_eq!(rt; empty_cycle(alloc, &fst)?, None);
     Ok(())
 }
 
 fn small(alloc: Global, draft: Draft) -> Result<Fst, Fail> {
     let fst = without_empty(alloc, &draft)?;
     Ok(trim(alloc, &fst)?)
-}
-
-#[test]
-fn a_letter_any_number_of_times(rt: HostRuntime) -> Result<(), Fail> {
-    let alloc = rt.alloc();
-    let draft = letter_draft(alloc, 'a')?;
-    let fst = small(alloc, draft.star()?)?;
-    assert!(rt; fst.is_final(0));
-    assert_eq!(rt; fst.edges().len(), 2);
-    Ok(())
-}
-
-#[test]
-fn a_letter_at_least_once(rt: HostRuntime) -> Result<(), Fail> {
-    let alloc = rt.alloc();
-    let draft = letter_draft(alloc, 'a')?;
-    let fst = small(alloc, draft.plus()?)?;
-    assert!(rt; !fst.is_final(0));
-    assert_eq!(rt; fst.edges().len(), 2);
-    Ok(())
-}
-
-#[test]
-fn a_letter_at_most_once(rt: HostRuntime) -> Result<(), Fail> {
-    let alloc = rt.alloc();
-    let draft = letter_draft(alloc, 'a')?;
-    let fst = small(alloc, draft.opt()?)?;
-    assert!(rt; fst.is_final(0));
-    assert_eq!(rt; fst.edges().len(), 1);
-    Ok(())
 }
 
 /// A draft that reads nothing and writes one letter.

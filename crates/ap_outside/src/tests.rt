@@ -1,8 +1,7 @@
-//! Each object in memory by rows that tell its answers apart, and each adapter over std through the
-//! bound of its trait.
+//! Each adapter over std through the bound of its trait. What the objects in memory do is said by
+//! their clauses.
 use crate::{
-    DiskFiles, Failed, Files, LoadRefusal, MemFiles, MemSink, MemSource, Sink, Source, StdSink,
-    StdSource, StoreRefusal,
+    DiskFiles, Failed, Files, LoadRefusal, Sink, Source, StdSink, StdSource, StoreRefusal,
 };
 use std::alloc::Global;
 use std::io::{ErrorKind, Read, Write};
@@ -28,82 +27,6 @@ fn load<F: Files>(
 
 fn store<F: Files>(files: &mut F, name: &str, text: &str) -> Result<(), StoreRefusal> {
     files.store(name, text.as_bytes())
-}
-
-#[test]
-fn a_source_in_memory_gives_pieces(rt: HostRuntime) -> Result<(), Fail> {
-    let alloc = rt.alloc();
-    let bytes = Vec::from_slice(alloc, "abcde".as_bytes())?;
-    let mut source = MemSource::new(bytes, 3, Vec::from_slice(alloc, &[2])?);
-    let mut into = [0; 4];
-    assert_eq!(rt; take(&mut source, &mut into), Ok(3));
-    assert_eq!(rt; into, *b"abc\0");
-    assert_eq!(rt; take(&mut source, &mut into), Err(Failed));
-    assert_eq!(rt; take(&mut source, &mut []), Ok(0));
-    assert_eq!(rt; take(&mut source, &mut into), Ok(2));
-    assert_eq!(rt; into, *b"dec\0");
-    assert_eq!(rt; take(&mut source, &mut into), Ok(0));
-    Ok(())
-}
-
-#[test]
-fn a_sink_in_memory_keeps_what_fits(rt: HostRuntime) -> Result<(), Fail> {
-    let alloc = rt.alloc();
-    let mut sink = MemSink::new(alloc, 6, Vec::from_slice(alloc, &[2])?, 1)?;
-    assert_eq!(rt; put(&mut sink, "ab"), Ok(()));
-    assert_eq!(rt; put(&mut sink, "cd"), Err(Failed));
-    assert_eq!(rt; sink.written(), "abc".as_bytes());
-    assert_eq!(rt; put(&mut sink, "defg"), Err(Failed));
-    assert_eq!(rt; sink.written(), "abcdef".as_bytes());
-    assert_eq!(rt; put(&mut sink, ""), Ok(()));
-    assert_eq!(rt; sink.written(), "abcdef".as_bytes());
-    Ok(())
-}
-
-#[test]
-fn files_in_memory_are_loaded(rt: HostRuntime) -> Result<(), Fail> {
-    let alloc = rt.alloc();
-    let mut files = MemFiles::new(alloc, Vec::from_slice(alloc, &[4])?);
-    files.add("a", b"abc")?;
-    assert_eq!(rt;
-        load(&mut files, alloc, "a", 3)?.as_slice(),
-        "abc".as_bytes()
-    );
-    assert_eq!(rt;
-        load(&mut files, alloc, "a", 2).err(),
-        Some(LoadRefusal::TooLong)
-    );
-    assert_eq!(rt;
-        load(&mut files, alloc, "b", 2).err(),
-        Some(LoadRefusal::Failed)
-    );
-    assert_eq!(rt;
-        load(&mut files, alloc, "a", 3).err(),
-        Some(LoadRefusal::Failed)
-    );
-    assert_eq!(rt;
-        load(&mut files, alloc, "a", 3)?.as_slice(),
-        "abc".as_bytes()
-    );
-    Ok(())
-}
-
-#[test]
-fn files_in_memory_are_stored(rt: HostRuntime) -> Result<(), Fail> {
-    let alloc = rt.alloc();
-    let mut files = MemFiles::new(alloc, Vec::from_slice(alloc, &[3])?);
-    files.add("a", b"abc")?;
-    assert_eq!(rt; store(&mut files, "b", "de"), Ok(()));
-    assert_eq!(rt;
-        load(&mut files, alloc, "b", 2)?.as_slice(),
-        "de".as_bytes()
-    );
-    assert_eq!(rt; store(&mut files, "c", "f"), Err(StoreRefusal::Failed));
-    assert_eq!(rt; store(&mut files, "a", "g"), Ok(()));
-    assert!(rt; files.get("a") == Some("g".as_bytes()));
-    assert!(rt; files.get("b") == Some("de".as_bytes()));
-    assert!(rt; files.get("d").is_none());
-    Ok(())
 }
 
 /// Gives its bytes one at a time, then an error.
