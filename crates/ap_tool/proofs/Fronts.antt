@@ -10,7 +10,7 @@ use Rattle.ap_pipe.specs.declared.round.Outcome.TheVariants as outcome
 use Rattle.ap_pipe.specs.Row.{RowTold, meaning}
 use Rattle.ap_pipe.specs.Flow.{WentThrough, BrokeOff, Came}
 use Rattle.ap_tool.specs.declared.status.Status.{Status}
-use Rattle.ap_tool.specs.declared.status.Status.TheVariants.{FileFault, WriteFault, Memory, BadDictionary, BadCompiled, Limit}
+use Rattle.ap_tool.specs.declared.status.Status.TheVariants.{FileFault, WriteFault, Memory, BadDictionary, BadRules, BadCompiled, Limit}
 use Rattle.ap_tool.specs.declared.words.Command.{Command}
 use Rattle.ap_tool.specs.Words.{command_of, files_of}
 use Rattle.ap_tool.specs.Messages.{name_at}
@@ -18,7 +18,7 @@ use Rattle.ap_tool.specs.Outside.{FilesStanding, Outside}
 use Rattle.ap_tool.specs.Rows.{Stage}
 use Rattle.ap_tool.specs.Gives.{Gives, Streams, Lists, Stores, Nothing, gives_of, Making}
 use Rattle.ap_tool.specs.Listing.{IsListed}
-use Rattle.ap_tool.specs.Reading.{Flaw, TooLong, OfDictionary, OfCompiled, status_of_flaw}
+use Rattle.ap_tool.specs.Reading.{Flaw, TooLong, OfDictionary, OfCompiled, OfRules, status_of_flaw}
 use Rattle.ap_tool.specs.Stream.{Always, Flows}
 use Rattle.ap_tool.specs.Compiling.{StoresOrStops}
 use Rattle.ap_tool.specs.Answer.{IsRun, IsCommandAnswer, IsAnswer}
@@ -44,6 +44,7 @@ not-flaw : {A : Type 0} (status : Status) (file : ℕ) (flaw : Flaw) → status 
 not-flaw status file TooLong e f = let x : WriteFault ≡ Limit 0 6 file = sym e ∙ f in cc
 not-flaw status file (OfDictionary number line) e f = let x : WriteFault ≡ BadDictionary file number line = sym e ∙ f in cc
 not-flaw status file (OfCompiled number line) e f = let x : WriteFault ≡ BadCompiled file number line = sym e ∙ f in cc
+not-flaw status file (OfRules number line) e f = let x : WriteFault ≡ BadRules file number line = sym e ∙ f in cc
 
 module _ (words : List (List ℕ)) (command : Command) (before after : Outside) where
   -- a refusal of a file is no failed put

@@ -50,6 +50,31 @@ const F2: &str =
 const F3: &str =
     "<dictionary>\n<section id=\"m\" type=\"standard\">\n<e w=\"1\"><i>b</i></e>\n</section>\n</dictionary>\n";
 
+/// A bilingual dictionary, and one with two words for one.
+const BI: &str =
+    "<dictionary>\n<sdefs><sdef n=\"n\"/><sdef n=\"m\"/><sdef n=\"det\"/><sdef n=\"adj\"/>\n<sdef n=\"pr\"/><sdef n=\"sent\"/></sdefs>\n<section id=\"main\" type=\"standard\">\n<e><p><l>dog<s n=\"n\"/></l><r>perro<s n=\"n\"/><s n=\"m\"/></r></p></e>\n<e><p><l>cat<s n=\"n\"/></l><r>gato<s n=\"n\"/><s n=\"m\"/></r></p></e>\n<e><p><l>the<s n=\"det\"/></l><r>el<s n=\"det\"/></r></p></e>\n<e><p><l>black<s n=\"adj\"/></l><r>negro<s n=\"adj\"/></r></p></e>\n<e><p><l>of<s n=\"pr\"/></l><r>de<s n=\"pr\"/></r></p></e>\n<e><i>.<s n=\"sent\"/></i></e>\n</section>\n</dictionary>\n";
+
+const V: &str =
+    "<dictionary>\n<sdefs><sdef n=\"n\"/></sdefs>\n<section id=\"main\" type=\"standard\">\n<e><p><l>dog<s n=\"n\"/></l><r>perro<s n=\"n\"/></r></p></e>\n<e><p><l>dog<s n=\"n\"/></l><r>can<s n=\"n\"/></r></p></e>\n</section>\n</dictionary>\n";
+
+/// A dictionary of post-generation.
+const POST: &str =
+    "<dictionary>\n<section id=\"main\" type=\"standard\">\n<e><p><l><a/>de<b/>el</l><r>del</r></p></e>\n</section>\n</dictionary>\n";
+
+/// Rule files: an undefined name, no rules at all, and one fault each.
+const FR: &str =
+    "<interchunk>\n<section-rules><rule>\n<pattern><pattern-item n=\"nope\"/></pattern>\n<action></action>\n</rule></section-rules>\n</interchunk>\n";
+
+const T2: &str = "<interchunk></interchunk>";
+
+const G1: &str =
+    "<interchunk><section-rules><rule><pattern></pattern><action></action></rule></section-rules></interchunk>";
+
+const G2: &str =
+    "<transfer default=\"lu\"><section-def-attrs><def-attr n=\"lem\"></def-attr></section-def-attrs></transfer>";
+
+const G3: &str = "<postchunk><section-rules><rule weight=\"2\"></rule></section-rules></postchunk>";
+
 /// A compiled file: one word, with its tag.
 const C: &str =
     "LTC1\nalphabet 65 66 97 98\nsection standard 3 2 1\n0 L97 L97 1\n1 - Tn 2\n2\nsection inconditional 1 0 0\nsection postblank 1 0 0\nsection preblank 1 0 0\nend\n";
@@ -109,6 +134,14 @@ pub(super) fn files_of(alloc: Global, number: u64) -> Result<MemFiles, Fail> {
         ("F3", F3),
         ("N", N),
         ("R", R),
+        ("BI", BI),
+        ("V", V),
+        ("POST", POST),
+        ("FR", FR),
+        ("T2", T2),
+        ("G1", G1),
+        ("G2", G2),
+        ("G3", G3),
         ("B", B),
         ("C", C),
         ("C1", C1),

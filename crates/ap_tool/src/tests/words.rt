@@ -13,7 +13,8 @@ fn other_words_are_no_command(rt: HostRuntime) -> Result<(), Fail> {
         "lt-proc -a -a P",
         "lt-proc -c -c P",
         "lt-proc -a -g M",
-        "lt-proc -g M",
+        "lt-proc -p -p M",
+        "lt-proc -b -g M",
         "lt-proc -e M",
         "lt-proc -a -c -a P",
         "lt-proc -a --help",
@@ -21,6 +22,11 @@ fn other_words_are_no_command(rt: HostRuntime) -> Result<(), Fail> {
         "work 0",
         "lt-expand",
         "lt-expand P Q",
+        "first P",
+        "pretransfer -a",
+        "transfer P",
+        "interchunk P P",
+        "postchunk -a",
     ] {
         let row = case(words, "saw", NONE, Status::Usage, "", "apertium: usage\n");
         check(&rt, rt.alloc(), &row, 4)?;
