@@ -10,6 +10,7 @@ mod gathering;
 mod laws;
 mod paradigms;
 mod sections;
+mod small;
 #[cfg(test)]
 mod tests;
 
