@@ -1,0 +1,21 @@
+-- Bytes of a word that are as they are written.
+use Rattle.std.specs.Prelude.{◌≡◌, ℕ, suc, Bool, true, false, cond, eqb, ◌||◌, List, [], ◌∷◌, Some, slice_get}
+use Rattle.ap_symbol.specs.declared.symbol.Symbol.{Symbol}
+use Rattle.ap_symbol.specs.Rendering.{rendering}
+use Rattle.ap_symbol.specs.Words.{AreProper}
+
+-- the / or $ that ends a word, and what begins another spelling: a backslash, or white space but the space
+abbrev pub is_stop : ℕ → Bool
+is_stop b = eqb b 47 || (eqb b 36 || (eqb b 92 || (eqb b 9 || (eqb b 10 || eqb b 13))))
+
+-- how many bytes stand before the first of these
+unfoldable pub plain_size : List ℕ → ℕ
+plain_size [] = 0
+plain_size (b ∷ bs) = cond (is_stop b) 0 (suc (plain_size bs))
+
+-- there is a word at this place, and these are its bytes
+pub record IsRendered (words : List (List Symbol)) (at : ℕ) (bytes : List ℕ) : Type 0 where
+  pub word : List Symbol
+  pub stands : slice_get words at ≡ Some word
+  pub rendered : bytes ≡ rendering word
+  pub proper : AreProper word
