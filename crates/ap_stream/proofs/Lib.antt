@@ -6,6 +6,7 @@ pub mod UnitWords
 pub mod PlainBytes
 pub mod Proper
 pub mod PlainWords
+pub mod SpelledUnits
 pub mod Back
 pub mod BareSpells
 pub mod EachLaws

@@ -1,7 +1,7 @@
 -- Bytes of a word that are as they are written.
-use Rattle.std.specs.Prelude.{◌≡◌, ℕ, zero, suc, ◌+◌, ◌-◌, ◌<◌, ◌≤◌, pred, List, [], ◌∷◌, ◌++◌, drop, take, length, get_or, Bool, true, false, cond, eqb, ltb, leb, ◌&&◌, ◌||◌, ◌⊎◌, not, refl, encode_utf8}
-use Rattle.std.specs.List.{flat_map, list_any}
-use Rattle.std.proofs.Common.{arith, ap, sym, subst, ◌∙◌, append_assoc, length-append, drop-drop, inl, inr}
+use Rattle.std.specs.Prelude.{◌≡◌, ℕ, zero, suc, ◌+◌, ◌<◌, ◌≤◌, pred, List, [], ◌∷◌, ◌++◌, drop, take, length, get_or, Bool, true, false, cond, eqb, ltb, ◌&&◌, ◌||◌, ◌⊎◌, not, refl, encode_utf8}
+use Rattle.std.specs.List.{list_any}
+use Rattle.std.proofs.Common.{arith, ap, sym, subst, ◌∙◌, append_assoc, drop-drop, inl, inr}
 use Rattle.std.proofs.lemmas.List.{append-nil, length-drop, drop_all}
 use Rattle.std.proofs.lemmas.List.Folds.{list_any-append}
 use Rattle.std.proofs.lemmas.Grind.{flat_map-append}
@@ -11,13 +11,13 @@ use Rattle.std.proofs.lemmas.Str.{encode_ascii}
 use Rattle.std.proofs.Math.Seq.{take-add, drop-cons}
 use Rattle.ap_symbol.specs.declared.symbol.Symbol.{Symbol}
 use Rattle.ap_symbol.specs.declared.symbol.Symbol.TheVariants as symbol
-use Rattle.ap_symbol.specs.Rendering.{is_escaped_lem, symbol_bytes, rendering}
+use Rattle.ap_symbol.specs.Rendering.{symbol_bytes, rendering}
 use Rattle.ap_symbol.specs.Words.{is_white}
 use Rattle.ap_symbol.specs.TagNames.{is_reserved_lem}
 use Rattle.ap_symbol.specs.TextWord.{bare_symbol}
 use Rattle.ap_stream.specs.declared.fault.MalformedKind.TheVariants.{Stray, BadTag}
 use Rattle.ap_stream.specs.Chars.{Front, Part, NotChar, Char, char_at, tail2, tail3, tail4, is_tail, is_second, Fits, char_fits}
-use Rattle.ap_stream.specs.Units.{Form, Name, Runs, Breaks, Stops, name, name_by, behind_name, Sign, Awaits, Bars, Reads, Slash, Dollar, sign, of_bare, of_name, bare_of, is_barred, begins_tag, in_surface, Rest, Lacks, Wrong, Ends, rest, longer, longer_longer, longer_zero}
+use Rattle.ap_stream.specs.Units.{Form, Name, Runs, Breaks, Stops, name, name_by, behind_name, Sign, Awaits, Bars, Reads, Slash, Dollar, sign, of_bare, of_name, bare_of, is_barred, begins_tag, in_surface, rest, longer, longer_longer, longer_zero}
 use Rattle.ap_stream.specs.PlainBytes.{is_stop, plain_size}
 use Rattle.ap_stream.specs.Signs.{Barren}
 use Rattle.ap_stream.proofs.Encoding.{tail_range, second_parts, char_encodes, Encodes}

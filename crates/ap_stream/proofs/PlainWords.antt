@@ -1,13 +1,10 @@
 -- The words of a unit whose bytes are as they are written.
 use Rattle.std.specs.Prelude.{◌≡◌, ℕ, suc, ◌+◌, ◌-◌, ◌<◌, ◌≤◌, List, [], ◌∷◌, ◌++◌, drop, take, length, get_or, Bool, true, false, ◌&&◌, eqb, Some, slice_get, refl}
-use Rattle.std.proofs.Common.{arith, ap, sym, subst, ◌∙◌, drop-drop, length-append}
+use Rattle.std.proofs.Common.{arith, ap, sym, ◌∙◌, drop-drop, length-append}
 use Rattle.std.proofs.Math.Seq.{drop-cons}
-use Rattle.std.proofs.lemmas.List.{length-drop}
 use Rattle.ap_symbol.specs.declared.symbol.Symbol.{Symbol}
-use Rattle.ap_symbol.specs.Rendering.{rendering}
 use Rattle.ap_stream.specs.declared.dialect.Dialect.{Dialect}
 use Rattle.ap_stream.specs.Units.{Form, form_of, Slash, Dollar, sign, in_surface, is_none, rest, longer, longer_longer}
-use Rattle.ap_stream.specs.InUnits.{surface_in}
 use Rattle.ap_stream.specs.UnitBytes.{UnitOf, unit_words}
 use Rattle.ap_stream.specs.Chars.{char_at}
 use Rattle.ap_stream.specs.PlainBytes.{plain_size, IsRendered}

@@ -1,15 +1,14 @@
 -- The symbols of a word that is read are those that words hold.
-use Rattle.std.specs.Prelude.{◌≡◌, ℕ, zero, suc, ◌<◌, List, [], ◌∷◌, ◌++◌, take, length, Bool, true, false, eqb, ◌&&◌, ◌||◌, not, Option, Some, None, slice_get, refl, encode_utf8, IsTrue}
+use Rattle.std.specs.Prelude.{◌≡◌, ℕ, zero, suc, ◌<◌, List, [], ◌∷◌, ◌++◌, length, Bool, true, false, eqb, Option, Some, None, slice_get, refl, encode_utf8}
 use Rattle.std.specs.List.{list_any, list_all}
 use Rattle.std.specs.Str.{encode_utf8_all}
 use Rattle.std.proofs.Common.{arith, ap, sym, subst, ◌∙◌}
-use Rattle.std.proofs.lemmas.List.{append-nil}
 use Rattle.std.proofs.lemmas.List.Folds.{list_any-append}
 use Rattle.std.proofs.lemmas.Bool.Decides.{nat_tests}
 use Rattle.std.proofs.Math.Seq.{take-append_seam}
 use Rattle.ap_symbol.specs.declared.symbol.Symbol.{Symbol}
 use Rattle.ap_symbol.specs.declared.symbol.Symbol.TheVariants as symbol
-use Rattle.ap_symbol.specs.Words.{is_white, is_proper, AreProper}
+use Rattle.ap_symbol.specs.Words.{is_proper, AreProper}
 use Rattle.ap_symbol.specs.Coded.{AreNamed}
 use Rattle.ap_symbol.specs.TagNames.{is_reserved_lem, is_tag_name}
 use Rattle.ap_stream.specs.declared.dialect.Dialect.{Dialect}

@@ -1,5 +1,5 @@
 -- What a unit holds.
-use Rattle.std.specs.Prelude.{◌≡◌, ℕ, ◌<◌, List, length}
+use Rattle.std.specs.Prelude.{◌<◌, List, length}
 use Rattle.ap_symbol.specs.declared.symbol.Symbol.{Symbol}
 use Rattle.ap_stream.specs.declared.unit.Held.{Held}
 use Rattle.ap_stream.specs.declared.unit.Held.TheVariants as held

@@ -1,7 +1,9 @@
 ghost use Rattle.std.specs.Prelude.{◌≡◌, ◌&&◌, eqb, ◌+◌, ◌<◌, ◌≤◌, List, drop, length, true, IfSome, slice_index};
+ghost use Rattle.std.specs.List.{list_any};
 ghost use Rattle.ap_symbol.specs.declared.symbol.Symbol.{Symbol};
 ghost use Rattle.ap_stream.specs.InUnits.{surface_in};
-ghost use Rattle.ap_stream.specs.PlainBytes.{IsRendered, is_stop as stop_test, plain_size as plain_count};
+ghost use Rattle.ap_stream.specs.PlainBytes.{IsRendered, is_odd, is_stop as stop_test, plain_size as plain_count};
+ghost use Rattle.ap_stream.specs.Spelling.{unit_bytes};
 ghost use Rattle.ap_stream.specs.UnitBytes.{UnitOf, unit_words};
 
 use crate::dialect::Dialect;
@@ -84,4 +86,22 @@ pub(crate) fn plain_at(dialect: Dialect, held: &[u8], wanted: usize) -> Option<&
         return Some(&held[from..end]);
     }
     None
+}
+
+/// Whether some byte begins another spelling than the one that is written.
+fn has_odd(bytes: &[u8]) -> bool
+    ensures { result ≡ list_any is_odd bytes.now }
+{
+    bytes
+        .iter()
+        .any(|byte| matches!(*byte, b'\\' | b'\t' | b'\n' | b'\r'))
+}
+
+/// Whether the unit that these bytes are is written as they are, for certain: they have no backslash,
+/// no tab and no line break, and its first word is no surface.
+pub(crate) fn is_spelled(dialect: Dialect, held: &[u8]) -> bool
+    requires { (words : List (List Symbol)) × UnitOf dialect held.now words }
+    ensures { result ≡ true → held.now ≡ unit_bytes (unit_words dialect held.now) }
+{
+    !is_surfaced(dialect) && !has_odd(held)
 }

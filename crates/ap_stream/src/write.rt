@@ -57,6 +57,9 @@ fn append_joined(words: &[Word], text: &mut Bytes) -> Result<(), Memory>
 fn append_unit(alloc: Global, unit: &Unit, text: &mut Bytes) -> Result<(), Memory>
     ensures { OnOk result (text.new ≡ text.old ++ unit_bytes unit.now) }
 {
+    if let Some(bytes) = unit.spelled() {
+        return text.extend(bytes);
+    }
     let words = unit.words(&mut Names::new(alloc))?;
     text.extend(b"^")?;
     append_joined(words.as_slice(), text)?;
@@ -102,6 +105,9 @@ pub fn write_item(alloc: Global, item: &Item, into: &mut Bytes) -> Result<(), Me
         Item::Plain(character) => write_character(alloc, *character, into),
         Item::Blank(blank) => into.extend(blank.as_slice()),
         Item::Unit(unit) => {
+            if let Some(bytes) = unit.spelled() {
+                return into.extend(bytes);
+            }
             let mut text = Bytes::new(alloc);
             append_unit(alloc, unit, &mut text)?;
             into.extend(text.as_slice())

@@ -7,7 +7,8 @@ use crate::item::Item;
 use crate::names::Names;
 use crate::reader::{Fed, Reader};
 use crate::tests::reading::read_pieces;
-use ap_symbol::{Memory, Word};
+use crate::write::write_item;
+use ap_symbol::{Bytes, Memory, Word};
 use std::alloc::Global;
 
 #[test]
@@ -123,6 +124,64 @@ fn tells_the_words_of_a_unit(rt: HostRuntime) -> Result<(), Memory> {
         let got = told_at(alloc, dialect, text, at)?;
         assert_eq!(rt; got.as_str(), want);
     }
+    Ok(())
+}
+
+/// What is written of the first unit of a text.
+fn written(alloc: Global, dialect: Dialect, text: &[u8]) -> Result<Bytes, Memory>
+    requires { chunks_test dialect ≡ false }
+{
+    let mut out = Bytes::new(alloc);
+    let mut reader = Reader::new(alloc, dialect);
+    if let Ok(
+        Fed {
+            item: Some(read),
+            ..
+        },
+    ) = reader.feed(text)
+    {
+        write_item(alloc, &read.item, &mut out)?;
+    }
+    Ok(out)
+}
+
+#[test]
+fn writes_a_unit_that_was_read(rt: HostRuntime) -> Result<(), Memory> {
+    let alloc = rt.alloc();
+    let table: [(Dialect, &[u8], &[u8]); 5] = [
+        (Dialect::Lexical, b"^a+<n>$", b"^a+<n>$"),
+        (Dialect::Lexical, b"^\\a\\+$", b"^a\\+$"),
+        (Dialect::Bilingual, b"^a<n>/b/$", b"^a<n>/b/$"),
+        (Dialect::Bilingual, b"^a\tb/c$", b"^a b/c$"),
+        (Dialect::Analysed, b"^*a/*a$", b"^\\*a/*a$"),
+    ];
+    for (dialect, text, want) in table {
+        let got = written(alloc, dialect, text)?;
+        assert_eq!(rt; got.as_slice(), want);
+    }
+    Ok(())
+}
+
+#[test]
+fn appends_to_a_unit_that_was_read(rt: HostRuntime) -> Result<(), Memory> {
+    let alloc = rt.alloc();
+    let mut out = Bytes::new(alloc);
+    let mut reader = Reader::new(alloc, Dialect::Bilingual);
+    if let Ok(
+        Fed {
+            item: Some(read),
+            ..
+        },
+    ) = reader.feed(b"^a/b$")
+    {
+        if let Item::Unit(mut unit) = read.item {
+            let mut word = Word::new(alloc);
+            unit.first(&mut Names::new(alloc), &mut word)?;
+            unit.push(word)?;
+            write_item(alloc, &Item::Unit(unit), &mut out)?;
+        }
+    }
+    assert_eq!(rt; out.as_slice(), b"^a/b/a$".as_slice());
     Ok(())
 }
 

@@ -1,4 +1,4 @@
-use Rattle.std.proofs.Common.{◌≡◌, ◌&&◌, ◌∙◌, sym, refl, true, false, eqb, arith}
+use Rattle.std.proofs.Common.{◌≡◌, ◌&&◌, ◌∙◌, sym, refl, false, eqb, arith}
 use Rattle.ap_stream.specs.Units.{form_of}
 use Rattle.ap_stream.proofs.PlainWords.{behind_next, slash_rendered, dollar_rendered, no_surface}
 use Rattle.ap_stream.proofs.plain.plain_at.Goals as goal

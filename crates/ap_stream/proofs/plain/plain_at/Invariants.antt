@@ -1,4 +1,4 @@
-use Rattle.std.proofs.Common.{◌≡◌, ◌+◌, ◌-◌, ◌≤◌, length}
+use Rattle.std.proofs.Common.{◌-◌, ◌≤◌, length}
 use Rattle.ap_stream.proofs.PlainWords.{Behind}
 use Rattle.ap_stream.proofs.plain.plain_at.Given as goal
 

@@ -1,8 +1,7 @@
-use Rattle.std.proofs.Common.{arith, ap, sym, subst, ◌∙◌, refl, ◌≡◌, ℕ, ◌+◌, ◌-◌, ◌<◌, ◌≤◌, List, [], ◌∷◌, ◌++◌, length, take, drop, true, false, eqb, Some, None, slice_get}
+use Rattle.std.proofs.Common.{arith, ap, sym, subst, ◌∙◌, refl, ◌≡◌, ◌<◌, [], ◌∷◌, ◌++◌, length, drop, true, false, eqb, slice_get}
 use Rattle.std.proofs.lemmas.List.{length-drop}
 use Rattle.std.proofs.Common.{length-append, Bool}
 use Rattle.std.proofs.lemmas.Bool.Decides.{nat_tests}
-use Rattle.ap_symbol.specs.declared.symbol.Symbol.{Symbol}
 use Rattle.std.proofs.lemmas.Bool.{eqb-true}
 use Rattle.ap_stream.specs.Units.{sign, in_surface, form_of, Dollar}
 use Rattle.ap_stream.specs.UnitBytes.{IsAt, unit_words}
