@@ -5,3 +5,4 @@ pub mod Staying
 pub mod Whole
 pub mod ReadAgain
 pub mod Kept
+pub mod WordBytes

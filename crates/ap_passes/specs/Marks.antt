@@ -1,5 +1,5 @@
 -- Which symbols matter where a word is taken apart, and where the first of them stands.
-use Rattle.std.specs.Prelude.{ℕ, zero, suc, Bool, true, false, ◌||◌, List, [], ◌∷◌, if◌then◌else◌}
+use Rattle.std.specs.Prelude.{ℕ, eqb, suc, Bool, true, false, ◌||◌, List, [], ◌∷◌, if◌then◌else◌}
 use Rattle.ap_symbol.specs.declared.symbol.Symbol.{Symbol}
 use Rattle.ap_symbol.specs.declared.symbol.Symbol.TheVariants.{Tag, Join, Queue, Star, At}
 
@@ -32,6 +32,10 @@ is_end x = is_tag x || is_join x
 -- a word without a Join and without a Queue stays as it is
 abbrev pub is_seam : Symbol → Bool
 is_seam x = is_join x || is_queue x
+
+-- the bytes of a Join and of a Queue
+abbrev pub is_seam_byte : ℕ → Bool
+is_seam_byte b = eqb b 43 || eqb b 35
 
 -- how many symbols stand before the first that passes the test: all of them, where none does
 abbrev pub until : (Symbol → Bool) → List Symbol → ℕ

@@ -5,29 +5,35 @@ ghost use Rattle.ap_stream.specs.Rest.{rest_of, held_of, rest_at_fault, rest_at_
 ghost use Rattle.ap_stream.specs.declared.dialect.Dialect.TheVariants.{Analysed};
 ghost use Rattle.ap_passes.specs.Passes.{first_reading, first_pass, first_work};
 
-use crate::units::write_one;
+use crate::units::write_filled;
 use ap_stream::{
-    Dialect, Each, Finish, Handler, Pipe, Read, Stage, StageFault, Staged, Turn, Unit, UnitWriter,
+    Dialect, Each, Finish, Handler, Names, Pipe, Read, Stage, StageFault, Staged, Turn, Unit,
+    UnitWriter,
 };
-use ap_symbol::{Bytes, Memory};
+use ap_symbol::{Bytes, Memory, Word};
 use std::alloc::Global;
 use std::marker::Model;
 
 /// Writes the first reading of a unit.
 #[derive(Drop)]
-struct FirstWriter;
+struct FirstWriter {
+    /// The names of tags that were read last.
+    names: Names,
+    /// Room for a reading that was spelled in another way than it is written.
+    reading: Word,
+}
 
 impl UnitWriter for FirstWriter {
     ghost given = { λ _ words. first_reading words };
 
     fn write(&mut self, unit: &Unit, into: &mut Bytes) -> Result<(), Memory> {
-        match unit.get(1) {
-            None => Ok(()),
-            Some(reading) => {
-                if reading.is_empty() {
-                    return Ok(());
+        match unit.bytes_at(1) {
+            Some(bytes) => write_filled(bytes, into),
+            None => {
+                if unit.word_at(&mut self.names, 1, &mut self.reading)? {
+                    return write_filled(self.reading.rendered(), into);
                 }
-                write_one(reading, into)
+                Ok(())
             }
         }
     }
@@ -54,8 +60,12 @@ impl FirstWork {
         ensures item { result.item ≡ None }
         ensures finished { result.finished ≡ false }
     {
+        let writer = FirstWriter {
+            names: Names::new(alloc),
+            reading: Word::new(alloc),
+        };
         FirstWork {
-            each: Each::new(alloc, Dialect::Analysed, FirstWriter),
+            each: Each::new(alloc, Dialect::Analysed, writer),
         }
     }
 }

@@ -6,8 +6,10 @@ ghost use Rattle.ap_stream.specs.declared.dialect.Dialect.TheVariants.{Lexical};
 ghost use Rattle.ap_passes.specs.Passes.{split_unit, split_pass, split_work};
 
 use crate::splitting::write_split;
+use crate::units::write_whole;
 use ap_stream::{
-    Dialect, Each, Finish, Handler, Pipe, Read, Stage, StageFault, Staged, Turn, Unit, UnitWriter,
+    Dialect, Each, Finish, Handler, Names, Pipe, Read, Stage, StageFault, Staged, Turn, Unit,
+    UnitWriter,
 };
 use ap_symbol::{Bytes, Memory, Word};
 use std::alloc::Global;
@@ -17,6 +19,10 @@ use std::marker::Model;
 #[derive(Drop)]
 struct PretransferWriter {
     alloc: Global,
+    /// The names of tags that were read last.
+    names: Names,
+    /// Room for the word of a unit.
+    word: Word,
     /// Room for a word whose invariable part is moved.
     whole: Word,
     /// Room for a part of a word.
@@ -27,9 +33,17 @@ impl UnitWriter for PretransferWriter {
     ghost given = { λ _ words. split_unit words };
 
     fn write(&mut self, unit: &Unit, into: &mut Bytes) -> Result<(), Memory> {
+        let copied = match unit.bytes_at(0) {
+            Some(bytes) => write_whole(bytes, into)?,
+            None => false,
+        };
+        if copied {
+            return Ok(());
+        }
+        unit.first(&mut self.names, &mut self.word)?;
         write_split(
             self.alloc,
-            unit.first(),
+            &self.word,
             &mut self.whole,
             &mut self.part,
             into,
@@ -60,6 +74,8 @@ impl PretransferWork {
     {
         let writer = PretransferWriter {
             alloc,
+            names: Names::new(alloc),
+            word: Word::new(alloc),
             whole: Word::new(alloc),
             part: Word::new(alloc),
         };

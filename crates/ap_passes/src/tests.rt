@@ -52,6 +52,7 @@ fn first_readings_are_kept(rt: HostRuntime) -> Result<(), Fail> {
             "^saw<n><sg>$ ^*s$",
         ),
         ("^a/$[<b>]^b/$c", "[<b>]c"),
+        ("^a\\/b/\\c<n>/d$ ^e/\tf/g$", "^c<n>$ ^ f$"),
     ] {
         for size in [1, 7, 64] {
             let out = run(alloc, &mut First::new(alloc), text.as_bytes(), size)?;

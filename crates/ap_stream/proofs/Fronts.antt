@@ -13,7 +13,8 @@ use Rattle.ap_stream.specs.declared.item.Item.TheVariants as item
 use Rattle.ap_stream.specs.Blanks.{Run, Open, Inside, BadChar, Done, Close, Within, Bad, Closed, closing, longer, is_white, blank}
 use Rattle.ap_stream.specs.Chars.{Front, Part, NotChar, Char, char_at}
 use Rattle.ap_stream.specs.Dialects.{is_refused, has_words}
-use Rattle.ap_stream.specs.InUnits.{UnitOf, unit_always}
+use Rattle.ap_stream.specs.InUnits.{unit_always}
+use Rattle.ap_stream.specs.UnitBytes.{UnitOf}
 use Rattle.ap_stream.specs.Pieces.{HaveSameSuperblanks, HasSuperblanks, nothing, piece, IsPiece, plain, white, superblank, unit, IsPlain, IsUnit, IsToBracket, closed, bare, escaped, is_bare}
 use Rattle.ap_stream.specs.declared.fault.MalformedKind.TheVariants.{Stray}
 use Rattle.ap_stream.specs.Reading.{First, Needs, Whole, Faulty, Bad as OfKind, first, begins_blank, begins_unit, of_run, of_escaped, of_char, of_unit, plain as plain_item}

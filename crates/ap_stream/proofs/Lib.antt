@@ -2,6 +2,11 @@ pub mod Stop
 pub mod Encoding
 pub mod WordSteps
 pub mod SignLaws
+pub mod UnitWords
+pub mod PlainBytes
+pub mod Proper
+pub mod PlainWords
+pub mod SpelledUnits
 pub mod Back
 pub mod BareSpells
 pub mod EachLaws

@@ -5,6 +5,9 @@ pub mod Chars
 pub mod Seen
 pub mod Blanks
 pub mod Units
+pub mod UnitBytes
+pub mod UnitHeld
+pub mod PlainBytes
 pub mod Reading
 pub mod Signs
 pub mod InUnits

@@ -18,7 +18,8 @@ use Rattle.ap_stream.specs.declared.examine.Seen.TheVariants as seen
 use Rattle.ap_stream.specs.Reading.{First, Needs, Whole, Faulty, Kind, Bad, Past, first, limited, past, at_limit, plain}
 use Rattle.ap_stream.specs.Stands.{Stands, Always, InBlank, blank_ends}
 use Rattle.ap_stream.specs.Step.{Stood, Sees}
-use Rattle.ap_stream.specs.InUnits.{UnitOf, unit_always}
+use Rattle.ap_stream.specs.InUnits.{unit_always}
+use Rattle.ap_stream.specs.UnitBytes.{UnitOf}
 use Rattle.ap_stream.specs.AtEnd.{Begins, begun, begun_blank}
 
 abbrev pub IsDecided : First → Type 0

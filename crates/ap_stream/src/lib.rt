@@ -13,6 +13,7 @@ mod item;
 mod laws;
 mod names;
 mod pipe;
+mod plain;
 mod queue;
 mod reader;
 mod stage;
@@ -33,6 +34,7 @@ pub use laws::{
     superblanks_are_kept_twice, superblanks_are_scanned, superblanks_of_texts_joined,
     units_are_words, units_read_back, words_are_spelt,
 };
+pub use names::Names;
 pub use pipe::Pipe;
 pub use queue::Queue;
 pub use reader::{Fed, Reader};

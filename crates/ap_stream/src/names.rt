@@ -5,10 +5,10 @@ ghost use Rattle.ap_stream.specs.Signs.{Heads};
 use ap_symbol::{Memory, TagName};
 use std::alloc::Global;
 
-/// The names of tags that were read last, each at a place that its bytes tell. They are a hint
-/// alone: a name that is read again shares the text of the one before, and takes no memory.
+/// The names of tags that were read last, each at a place that its bytes tell: at most 64. They are a
+/// hint alone: a name that is read again shares the text of the one before, and takes no memory.
 #[derive(Drop)]
-pub(crate) struct Names {
+pub struct Names {
     places: Vec<Option<TagName>>,
 }
 
@@ -56,7 +56,7 @@ impl Names {
     }
 
     /// The kept name that these bytes begin with, before a `>`.
-    pub fn find(&self, bytes: &[u8]) -> Result<Option<TagName>, Memory>
+    pub(crate) fn find(&self, bytes: &[u8]) -> Result<Option<TagName>, Memory>
         ensures { IfOk result (λ found. IfSome found (Heads bytes.now)) }
     {
         let place = match self.places.get(place_of(bytes)) {
@@ -76,7 +76,7 @@ impl Names {
     }
 
     /// Keeps a name, if there is memory for it.
-    pub fn keep(&mut self, name: &TagName) {
+    pub(crate) fn keep(&mut self, name: &TagName) {
         if self.places.is_empty() {
             for _ in 0..NAMES_MAX {
                 if self.places.push(None).is_err() {

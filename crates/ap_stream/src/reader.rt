@@ -12,8 +12,7 @@ use crate::dialect::Dialect;
 use crate::examine::{Mode, Seen, look};
 use crate::fault::{LimitKind, MalformedKind, StreamFault};
 use crate::item::{Item, Read};
-use crate::names::Names;
-use crate::words::unit_of;
+use crate::unit::Unit;
 use ap_symbol::Memory;
 use std::alloc::Global;
 use std::marker::Model;
@@ -39,8 +38,6 @@ pub struct Reader {
     looked: bool,
     place: u64,
     fault: Option<StreamFault>,
-    /// The names of tags that were read last.
-    names: Names,
 }
 
 impl Model for Reader {
@@ -58,6 +55,9 @@ impl Model for Reader {
 
 /// How far ahead the next byte of a superblank or a word that needs a look is sought at once.
 const CROSSED_AT_ONCE: usize = 256;
+
+/// The bytes of a unit for which room is made at once.
+const UNIT_ROOM: usize = 64;
 
 fn place_after(place: u64, size: u64) -> u64
     ensures { result ≡ counted (place + size) }
@@ -95,6 +95,16 @@ fn cut(alloc: Global, held: &mut Vec<u8>, at: usize) -> Result<Vec<u8>, Memory>
     Ok(next)
 }
 
+/// Takes all bytes out. There is room for the bytes of most units then.
+fn all_out(alloc: Global, held: &mut Vec<u8>) -> Result<Vec<u8>, Memory>
+    ensures bytes { IfOk result (λ bytes. bytes.items ≡ held.old.items) }
+    ensures left { OnOk result (held.new.items ≡ []) }
+    ensures same { OnErr result (held.new.items ≡ held.old.items) }
+{
+    let next = Vec::with_capacity(alloc, UNIT_ROOM)?;
+    Ok(mem::replace(held, next))
+}
+
 impl Reader {
     /// A reader at the start of a text. Chunks aren't read yet, so the dialect is one that has none.
     pub fn new(alloc: Global, dialect: Dialect) -> Reader
@@ -114,7 +124,6 @@ impl Reader {
             looked: true,
             place: 0,
             fault: None,
-            names: Names::new(alloc),
         }
     }
 
@@ -270,25 +279,19 @@ impl Reader {
                 Ok(Some(read))
             }
             Seen::UnitEnds => {
-                let unit = match unit_of(
-                    self.alloc,
-                    &mut self.names,
-                    self.dialect,
-                    self.held.as_slice(),
-                ) {
-                    Ok(unit) => unit,
+                let bytes = match all_out(self.alloc, &mut self.held) {
+                    Ok(bytes) => bytes,
                     Err(_) => {
                         self.fault = Some(StreamFault::Memory);
                         return Err(StreamFault::Memory);
                     }
                 };
                 let read = Read {
-                    item: Item::Unit(unit),
+                    size: bytes.len() as u64,
+                    item: Item::Unit(Unit::from_bytes(self.alloc, self.dialect, bytes)),
                     place: self.place,
-                    size: self.held.len() as u64,
                 };
                 self.place = place_after(self.place, read.size);
-                self.held.clear();
                 self.mode = Mode::Start;
                 self.done = 0;
                 self.looked = true;

@@ -1,17 +1,19 @@
-ghost use Rattle.std.specs.Prelude.{◌≡◌, ◌&&◌, ◌+◌, ◌<◌, List, [], length, IfOk, IsTrue, false};
+ghost use Rattle.std.specs.Prelude.{◌≡◌, ◌&&◌, eqb, ◌+◌, ◌<◌, List, [], length, IfOk, IsTrue, false};
 ghost use Rattle.ap_symbol.specs.Words.{is_word_symbol};
 ghost use Rattle.ap_symbol.specs.declared.symbol.Symbol.{Symbol};
 ghost use Rattle.ap_stream.specs.Chars.{char_at};
 ghost use Rattle.ap_stream.specs.Units.{sign, of_bare, of_escape, of_name, name, is_none as none_before};
-ghost use Rattle.ap_stream.specs.InUnits.{UnitOf, surface_in};
+ghost use Rattle.ap_stream.specs.InUnits.{surface_in};
+ghost use Rattle.ap_stream.specs.UnitBytes.{UnitOf, unit_words, IsAt};
 ghost use Rattle.ap_stream.specs.Signs.{IsName, Signs, bare_of_test};
 
 use crate::decode::{Decoded, decode};
 use crate::dialect::Dialect;
 use crate::examine::is_barred;
 use crate::names::Names;
-use crate::unit::Unit;
-use ap_symbol::{Memory, Symbol, TagName, Word, bare_symbol, escaped_symbol, is_reserved_in_tag};
+use ap_symbol::{
+    Memory, Symbol, TagName, Word, Words, bare_symbol, escaped_symbol, is_reserved_in_tag,
+};
 use std::alloc::Global;
 use std::mem;
 
@@ -148,7 +150,7 @@ fn sign_at(alloc: Global, names: &mut Names, surface: bool, bytes: &[u8]) -> Res
     }
 }
 
-fn is_surfaced(dialect: Dialect) -> bool
+pub(crate) fn is_surfaced(dialect: Dialect) -> bool
     ensures { result ≡ surface_in dialect }
 {
     matches!(dialect, Dialect::Analysed)
@@ -161,6 +163,13 @@ fn begins_surface(surfaced: bool, words: &[Word]) -> bool
     surfaced && words.is_empty()
 }
 
+/// Whether a word behind so many words is a surface.
+fn is_surface_behind(surfaced: bool, behind: usize) -> bool
+    ensures { result ≡ (surfaced && eqb behind 0) }
+{
+    surfaced && behind == 0
+}
+
 /// A word without symbols, with room for the first of so many bytes.
 fn empty_word(alloc: Global, bytes: usize) -> Result<Word, Memory>
     ensures { IfOk result (λ word. word ≡ []) }
@@ -168,18 +177,18 @@ fn empty_word(alloc: Global, bytes: usize) -> Result<Word, Memory>
     Word::with_capacity(alloc, bytes.min(16), bytes.min(32))
 }
 
-/// The unit that these bytes are. Names of its tags are taken from those that are kept, and kept.
-pub(crate) fn unit_of(
+/// The words of the unit that these bytes are. Names of its tags are taken from those that are kept, and kept.
+pub(crate) fn words_of(
     alloc: Global,
     names: &mut Names,
     dialect: Dialect,
     held: &[u8],
-) -> Result<Unit, Memory>
+) -> Result<Words, Memory>
     requires { (words : List (List Symbol)) × UnitOf dialect held.now words }
-    ensures { IfOk result (UnitOf dialect held.now) }
+    ensures { IfOk result (λ words. words ≡ unit_words dialect held.now) }
 {
     let surfaced = is_surfaced(dialect);
-    let mut words = Vec::new(alloc);
+    let mut words = Words::new(alloc);
     let mut word = empty_word(alloc, held.len())?;
     let mut at = 1;
     while at < held.len() {
@@ -200,8 +209,51 @@ pub(crate) fn unit_of(
             }
             Signed::Dollar => {
                 words.push(word)?;
-                return Ok(Unit::from_vec(words));
+                return Ok(words);
             }
+            Signed::Nothing => unreachable!(),
+        }
+    }
+    unreachable!()
+}
+
+/// Puts the word at a place of the unit that these bytes are into `into`, and answers whether there is one. Names of
+/// tags are taken from those that are kept, and kept.
+pub(crate) fn read_word(
+    alloc: Global,
+    names: &mut Names,
+    dialect: Dialect,
+    held: &[u8],
+    wanted: usize,
+    into: &mut Word,
+) -> Result<bool, Memory>
+    requires { (words : List (List Symbol)) × UnitOf dialect held.now words }
+    ensures { IfOk result (λ found. IsAt (unit_words dialect held.now) wanted found into.new) }
+{
+    let surfaced = is_surfaced(dialect);
+    into.clear();
+    let mut behind = 0;
+    let mut at = 1;
+    while at < held.len() {
+        match sign_at(
+            alloc,
+            names,
+            is_surface_behind(surfaced, behind),
+            &held[at..],
+        )? {
+            Signed::Reads(symbol, size) => {
+                into.push(symbol)?;
+                at += size;
+            }
+            Signed::Slash => {
+                if behind == wanted {
+                    return Ok(true);
+                }
+                into.clear();
+                behind += 1;
+                at += 1;
+            }
+            Signed::Dollar => return Ok(behind == wanted),
             Signed::Nothing => unreachable!(),
         }
     }

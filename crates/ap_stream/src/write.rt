@@ -4,6 +4,7 @@ ghost use Rattle.ap_symbol.specs.Rendering.{rendering};
 ghost use Rattle.ap_stream.specs.Spelling.{spelled, joined, slashed, unit_bytes, inner_bytes, chunk_bytes, character_bytes};
 
 use crate::item::{Character, Chunk, Inner, Item};
+use crate::names::Names;
 use crate::unit::Unit;
 use ap_symbol::{Bytes, Memory, Word};
 use std::alloc::Global;
@@ -53,39 +54,43 @@ fn append_joined(words: &[Word], text: &mut Bytes) -> Result<(), Memory>
     }
 }
 
-fn append_unit(unit: &Unit, text: &mut Bytes) -> Result<(), Memory>
+fn append_unit(alloc: Global, unit: &Unit, text: &mut Bytes) -> Result<(), Memory>
     ensures { OnOk result (text.new ≡ text.old ++ unit_bytes unit.now) }
 {
+    if let Some(bytes) = unit.spelled() {
+        return text.extend(bytes);
+    }
+    let words = unit.words(&mut Names::new(alloc))?;
     text.extend(b"^")?;
-    append_joined(unit.as_slice(), text)?;
+    append_joined(words.as_slice(), text)?;
     text.extend(b"$")
 }
 
-fn append_inner(part: &Inner, text: &mut Bytes) -> Result<(), Memory>
+fn append_inner(alloc: Global, part: &Inner, text: &mut Bytes) -> Result<(), Memory>
     ensures { OnOk result (text.new ≡ text.old ++ inner_bytes part.now) }
 {
     match part {
-        Inner::Unit(unit) => append_unit(unit, text),
+        Inner::Unit(unit) => append_unit(alloc, unit, text),
         Inner::Blank(blank) => text.extend(blank.as_slice()),
     }
 }
 
-fn append_content(parts: &[Inner], text: &mut Bytes) -> Result<(), Memory>
+fn append_content(alloc: Global, parts: &[Inner], text: &mut Bytes) -> Result<(), Memory>
     ensures { OnOk result (text.new ≡ text.old ++ flat_map inner_bytes parts.now) }
 {
     for part in parts {
-        append_inner(part, text)?;
+        append_inner(alloc, part, text)?;
     }
     Ok(())
 }
 
-fn append_chunk(chunk: &Chunk, text: &mut Bytes) -> Result<(), Memory>
+fn append_chunk(alloc: Global, chunk: &Chunk, text: &mut Bytes) -> Result<(), Memory>
     ensures { OnOk result (text.new ≡ text.old ++ chunk_bytes chunk.now.name chunk.now.content) }
 {
     text.extend(b"^")?;
     text.extend(chunk.name.rendered())?;
     text.extend(b"{")?;
-    append_content(chunk.content.as_slice(), text)?;
+    append_content(alloc, chunk.content.as_slice(), text)?;
     text.extend(b"}$")
 }
 
@@ -100,13 +105,16 @@ pub fn write_item(alloc: Global, item: &Item, into: &mut Bytes) -> Result<(), Me
         Item::Plain(character) => write_character(alloc, *character, into),
         Item::Blank(blank) => into.extend(blank.as_slice()),
         Item::Unit(unit) => {
+            if let Some(bytes) = unit.spelled() {
+                return into.extend(bytes);
+            }
             let mut text = Bytes::new(alloc);
-            append_unit(unit, &mut text)?;
+            append_unit(alloc, unit, &mut text)?;
             into.extend(text.as_slice())
         }
         Item::Chunk(chunk) => {
             let mut text = Bytes::new(alloc);
-            append_chunk(chunk, &mut text)?;
+            append_chunk(alloc, chunk, &mut text)?;
             into.extend(text.as_slice())
         }
     }

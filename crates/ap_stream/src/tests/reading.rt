@@ -5,25 +5,29 @@ use crate::UNIT_MAX;
 use crate::dialect::Dialect;
 use crate::fault::StreamFault;
 use crate::item::{Item, Read};
+use crate::names::Names;
 use crate::reader::{Fed, Reader};
-use std::alloc::{AllocError, Global};
+use ap_symbol::Memory;
+use std::alloc::Global;
 
 /// Its place, its size and, of a unit, how many symbols each word has.
-fn note_item(alloc: Global, log: &mut String, read: &Read) -> Result<(), AllocError> {
+fn note_item(alloc: Global, log: &mut String, read: &Read) -> Result<(), Memory> {
     let text = format!(in alloc; "{}+{}", read.place, read.size)?;
     log.push_str(text.as_str())?;
     if let Item::Unit(unit) = &read.item {
-        for word in unit.as_slice() {
+        for word in unit.words(&mut Names::new(alloc))?.as_slice() {
             let count = format!(in alloc; ":{}", word.len())?;
             log.push_str(count.as_str())?;
         }
     }
-    log.push_str(" ")
+    log.push_str(" ")?;
+    Ok(())
 }
 
-fn note_fault(alloc: Global, log: &mut String, fault: StreamFault) -> Result<(), AllocError> {
+fn note_fault(alloc: Global, log: &mut String, fault: StreamFault) -> Result<(), Memory> {
     let text = format!(in alloc; "{fault:?}")?;
-    log.push_str(text.as_str())
+    log.push_str(text.as_str())?;
+    Ok(())
 }
 
 /// Reads one piece, and answers whether a fault came.
@@ -32,7 +36,7 @@ fn read_piece(
     reader: &mut Reader,
     piece: &[u8],
     log: &mut String,
-) -> Result<bool, AllocError> {
+) -> Result<bool, Memory> {
     let mut rest = piece;
     for _ in 0..100_000 {
         match reader.feed(rest) {
@@ -60,11 +64,14 @@ fn read_piece(
     Ok(false)
 }
 
-fn read_end(alloc: Global, reader: &mut Reader, log: &mut String) -> Result<(), AllocError> {
+fn read_end(alloc: Global, reader: &mut Reader, log: &mut String) -> Result<(), Memory> {
     for _ in 0..3 {
         match reader.end() {
             Ok(Some(read)) => note_item(alloc, log, &read)?,
-            Ok(None) => return log.push_str("end"),
+            Ok(None) => {
+                log.push_str("end")?;
+                return Ok(());
+            }
             Err(fault) => return note_fault(alloc, log, fault),
         }
     }
@@ -72,12 +79,7 @@ fn read_end(alloc: Global, reader: &mut Reader, log: &mut String) -> Result<(), 
 }
 
 /// The items of the text, read in two pieces.
-fn read_two(
-    alloc: Global,
-    dialect: Dialect,
-    front: &[u8],
-    back: &[u8],
-) -> Result<String, AllocError>
+fn read_two(alloc: Global, dialect: Dialect, front: &[u8], back: &[u8]) -> Result<String, Memory>
     requires { chunks_test dialect ≡ false }
 {
     let mut log = String::new(alloc);
@@ -98,7 +100,7 @@ pub fn read_pieces(
     dialect: Dialect,
     text: &[u8],
     size: usize,
-) -> Result<String, AllocError>
+) -> Result<String, Memory>
     requires known { chunks_test dialect ≡ false }
     requires some { 0 < size }
 {
@@ -114,7 +116,7 @@ pub fn read_pieces(
 }
 
 #[test]
-fn reads_raw_text_in_any_pieces(rt: HostRuntime) -> Result<(), AllocError> {
+fn reads_raw_text_in_any_pieces(rt: HostRuntime) -> Result<(), Memory> {
     let alloc = rt.alloc();
     let table: [(&[u8], &str); 16] = [
         (b"", "end"),
@@ -152,7 +154,7 @@ fn reads_raw_text_in_any_pieces(rt: HostRuntime) -> Result<(), AllocError> {
 }
 
 #[test]
-fn reads_generated_text(rt: HostRuntime) -> Result<(), AllocError> {
+fn reads_generated_text(rt: HostRuntime) -> Result<(), Memory> {
     let alloc = rt.alloc();
     let got = read_pieces(alloc, Dialect::Generated, b"~a/<@ ^", 1)?;
     assert_eq!(rt;
@@ -163,7 +165,7 @@ fn reads_generated_text(rt: HostRuntime) -> Result<(), AllocError> {
 }
 
 /// So many bytes of superblanks and white space, and then these.
-fn blanks(alloc: Global, count: usize, end: &[u8]) -> Result<Vec<u8>, AllocError> {
+fn blanks(alloc: Global, count: usize, end: &[u8]) -> Result<Vec<u8>, Memory> {
     let mut text = Vec::new(alloc);
     for _ in 0..count / 8 {
         text.extend_from_slice(b"[abcd] \n")?;
@@ -173,7 +175,7 @@ fn blanks(alloc: Global, count: usize, end: &[u8]) -> Result<Vec<u8>, AllocError
 }
 
 #[test]
-fn bounds_an_item(rt: HostRuntime) -> Result<(), AllocError> {
+fn bounds_an_item(rt: HostRuntime) -> Result<(), Memory> {
     let alloc = rt.alloc();
     let table: [(&[u8], &str); 4] = [
         (b"", "0+4194304 end"),
@@ -190,7 +192,7 @@ fn bounds_an_item(rt: HostRuntime) -> Result<(), AllocError> {
 }
 
 #[test]
-fn reads_a_megabyte_in_small_pieces(rt: HostRuntime) -> Result<(), AllocError> {
+fn reads_a_megabyte_in_small_pieces(rt: HostRuntime) -> Result<(), Memory> {
     let alloc = rt.alloc();
     let text = blanks(alloc, 1_048_576, b"a")?;
     for size in [1, 7] {
@@ -205,7 +207,7 @@ fn reads_a_megabyte_in_small_pieces(rt: HostRuntime) -> Result<(), AllocError> {
 }
 
 #[test]
-fn bounds_a_superblank(rt: HostRuntime) -> Result<(), AllocError> {
+fn bounds_a_superblank(rt: HostRuntime) -> Result<(), Memory> {
     let alloc = rt.alloc();
     let mut text = Vec::new(alloc);
     text.push(b'[')?;

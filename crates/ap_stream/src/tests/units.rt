@@ -1,10 +1,18 @@
+ghost use Rattle.std.specs.Prelude.{◌≡◌, false};
+ghost use Rattle.ap_stream.specs.Dialects.{has_chunks as chunks_test};
+
 use crate::UNIT_MAX;
 use crate::dialect::Dialect;
+use crate::item::Item;
+use crate::names::Names;
+use crate::reader::{Fed, Reader};
 use crate::tests::reading::read_pieces;
-use std::alloc::{AllocError, Global};
+use crate::write::write_item;
+use ap_symbol::{Bytes, Memory, Word};
+use std::alloc::Global;
 
 #[test]
-fn reads_lexical_units(rt: HostRuntime) -> Result<(), AllocError> {
+fn reads_lexical_units(rt: HostRuntime) -> Result<(), Memory> {
     let alloc = rt.alloc();
     let table: [(&[u8], &str); 12] = [
         (b"^house<n><pl>$ ^b<n>$", "0+14:7 14+1 15+6:2 end"),
@@ -30,7 +38,7 @@ fn reads_lexical_units(rt: HostRuntime) -> Result<(), AllocError> {
 }
 
 #[test]
-fn reads_analysed_units(rt: HostRuntime) -> Result<(), AllocError> {
+fn reads_analysed_units(rt: HostRuntime) -> Result<(), Memory> {
     let alloc = rt.alloc();
     let table: [(&[u8], &str); 6] = [
         (
@@ -53,7 +61,7 @@ fn reads_analysed_units(rt: HostRuntime) -> Result<(), AllocError> {
 }
 
 #[test]
-fn reads_bilingual_units(rt: HostRuntime) -> Result<(), AllocError> {
+fn reads_bilingual_units(rt: HostRuntime) -> Result<(), Memory> {
     let alloc = rt.alloc();
     let table: [(&[u8], &str); 3] = [
         (b"^dog<n><sg>/perro<n><m><sg>$", "0+28:5:8 end"),
@@ -69,8 +77,116 @@ fn reads_bilingual_units(rt: HostRuntime) -> Result<(), AllocError> {
     Ok(())
 }
 
+/// What the first unit of a text tells of the word at a place: its bytes where they are as they are
+/// written, and its number of symbols.
+fn told_at(alloc: Global, dialect: Dialect, text: &[u8], at: usize) -> Result<String, Memory>
+    requires { chunks_test dialect ≡ false }
+{
+    let mut told = String::new(alloc);
+    let mut word = Word::new(alloc);
+    let mut reader = Reader::new(alloc, dialect);
+    if let Ok(
+        Fed {
+            item: Some(read),
+            ..
+        },
+    ) = reader.feed(text)
+    {
+        if let Item::Unit(unit) = read.item {
+            match unit.bytes_at(at) {
+                Some(bytes) => told.push_str(format!(in alloc; "{} ", bytes.len())?.as_str())?,
+                None => told.push_str("- ")?,
+            }
+            match unit.word_at(&mut Names::new(alloc), at, &mut word)? {
+                true => told.push_str(format!(in alloc; "{}", word.len())?.as_str())?,
+                false => told.push_str("-")?,
+            }
+        }
+    }
+    Ok(told)
+}
+
+#[test]
+fn tells_the_words_of_a_unit(rt: HostRuntime) -> Result<(), Memory> {
+    let alloc = rt.alloc();
+    let table: [(Dialect, &[u8], usize, &str); 9] = [
+        (Dialect::Lexical, b"^house<n>$", 0, "8 6"),
+        (Dialect::Lexical, b"^house<n>$", 1, "- -"),
+        (Dialect::Lexical, b"^*\\x y+z$", 0, "- 6"),
+        (Dialect::Lexical, b"^a\tb$", 0, "- 3"),
+        (Dialect::Analysed, b"^saw/saw<n>/*s$", 0, "- 3"),
+        (Dialect::Analysed, b"^saw/saw<n>/*s$", 1, "6 4"),
+        (Dialect::Analysed, b"^saw/saw<n>/*s$", 2, "2 2"),
+        (Dialect::Bilingual, b"^a//$", 1, "0 0"),
+        (Dialect::Bilingual, b"^a/b$", 0, "1 1"),
+    ];
+    for (dialect, text, at, want) in table {
+        let got = told_at(alloc, dialect, text, at)?;
+        assert_eq!(rt; got.as_str(), want);
+    }
+    Ok(())
+}
+
+/// What is written of the first unit of a text.
+fn written(alloc: Global, dialect: Dialect, text: &[u8]) -> Result<Bytes, Memory>
+    requires { chunks_test dialect ≡ false }
+{
+    let mut out = Bytes::new(alloc);
+    let mut reader = Reader::new(alloc, dialect);
+    if let Ok(
+        Fed {
+            item: Some(read),
+            ..
+        },
+    ) = reader.feed(text)
+    {
+        write_item(alloc, &read.item, &mut out)?;
+    }
+    Ok(out)
+}
+
+#[test]
+fn writes_a_unit_that_was_read(rt: HostRuntime) -> Result<(), Memory> {
+    let alloc = rt.alloc();
+    let table: [(Dialect, &[u8], &[u8]); 5] = [
+        (Dialect::Lexical, b"^a+<n>$", b"^a+<n>$"),
+        (Dialect::Lexical, b"^\\a\\+$", b"^a\\+$"),
+        (Dialect::Bilingual, b"^a<n>/b/$", b"^a<n>/b/$"),
+        (Dialect::Bilingual, b"^a\tb/c$", b"^a b/c$"),
+        (Dialect::Analysed, b"^*a/*a$", b"^\\*a/*a$"),
+    ];
+    for (dialect, text, want) in table {
+        let got = written(alloc, dialect, text)?;
+        assert_eq!(rt; got.as_slice(), want);
+    }
+    Ok(())
+}
+
+#[test]
+fn appends_to_a_unit_that_was_read(rt: HostRuntime) -> Result<(), Memory> {
+    let alloc = rt.alloc();
+    let mut out = Bytes::new(alloc);
+    let mut reader = Reader::new(alloc, Dialect::Bilingual);
+    if let Ok(
+        Fed {
+            item: Some(read),
+            ..
+        },
+    ) = reader.feed(b"^a/b$")
+    {
+        if let Item::Unit(mut unit) = read.item {
+            let mut word = Word::new(alloc);
+            unit.first(&mut Names::new(alloc), &mut word)?;
+            unit.push(word)?;
+            write_item(alloc, &Item::Unit(unit), &mut out)?;
+        }
+    }
+    assert_eq!(rt; out.as_slice(), b"^a/b/a$".as_slice());
+    Ok(())
+}
+
 /// A unit of one word with so many letters.
-fn long_unit(alloc: Global, count: usize) -> Result<Vec<u8>, AllocError> {
+fn long_unit(alloc: Global, count: usize) -> Result<Vec<u8>, Memory> {
     let mut text = Vec::new(alloc);
     text.push(b'^')?;
     for _ in 0..count {
@@ -81,7 +197,7 @@ fn long_unit(alloc: Global, count: usize) -> Result<Vec<u8>, AllocError> {
 }
 
 #[test]
-fn bounds_a_unit(rt: HostRuntime) -> Result<(), AllocError> {
+fn bounds_a_unit(rt: HostRuntime) -> Result<(), Memory> {
     let alloc = rt.alloc();
     let whole = long_unit(alloc, UNIT_MAX - 2)?;
     let got = read_pieces(alloc, Dialect::Lexical, whole.as_slice(), 65_536)?;
