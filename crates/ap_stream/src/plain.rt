@@ -97,8 +97,8 @@ fn has_odd(bytes: &[u8]) -> bool
         .any(|byte| matches!(*byte, b'\\' | b'\t' | b'\n' | b'\r'))
 }
 
-/// Whether the unit that these bytes are is written as they are, for certain: they have no backslash,
-/// no tab and no line break, and its first word is no surface.
+/// Whether the unit that these bytes are is written as they are, for certain: they have no
+/// backslash, no tab and no line break, and its first word is no surface.
 pub(crate) fn is_spelled(dialect: Dialect, held: &[u8]) -> bool
     requires { (words : List (List Symbol)) × UnitOf dialect held.now words }
     ensures { result ≡ true → held.now ≡ unit_bytes (unit_words dialect held.now) }

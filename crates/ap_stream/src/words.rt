@@ -177,7 +177,8 @@ fn empty_word(alloc: Global, bytes: usize) -> Result<Word, Memory>
     Word::with_capacity(alloc, bytes.min(16), bytes.min(32))
 }
 
-/// The words of the unit that these bytes are. Names of its tags are taken from those that are kept, and kept.
+/// The words of the unit that these bytes are. Names of its tags are taken from those that are
+/// kept, and kept.
 pub(crate) fn words_of(
     alloc: Global,
     names: &mut Names,
@@ -217,8 +218,8 @@ pub(crate) fn words_of(
     unreachable!()
 }
 
-/// Puts the word at a place of the unit that these bytes are into `into`, and answers whether there is one. Names of
-/// tags are taken from those that are kept, and kept.
+/// Puts the word at a place of the unit that these bytes are into `into`, and answers whether there
+/// is one. Names of tags are taken from those that are kept, and kept.
 pub(crate) fn read_word(
     alloc: Global,
     names: &mut Names,
