@@ -1,0 +1,3 @@
+pub mod Categories
+pub mod Tests
+pub mod Tried
