@@ -1,3 +1,6 @@
 pub mod Categories
 pub mod Tests
 pub mod Tried
+pub mod Patterns
+pub mod Choice
+pub mod Live

@@ -2,7 +2,13 @@
 #![tactic(auto)]
 
 mod categories;
+mod choice;
+mod choosing;
+mod keeping;
+mod patterns;
 mod tags;
 mod words;
 
 pub use categories::{row, takes};
+pub use choice::{Choice, Found};
+pub use choosing::Choosing;
