@@ -1,10 +1,10 @@
 -- What is chosen, with one more unit and where no rule is live.
-use Rattle.std.proofs.Common.{◌≡◌, ◌⊎◌, ℕ, zero, suc, ◌+◌, ◌<◌, ◌≤◌, Bool, true, false, ◌&&◌, ◌||◌, List, [], ◌∷◌, ◌++◌, length, take, drop, map, slice_get, Vec, Global, Option, Some, None, refl, ap, sym, ◌∙◌, arith, inl, inr, subst, length-append}
+use Rattle.std.proofs.Common.{◌≡◌, ◌⊎◌, ℕ, zero, suc, ◌+◌, ◌<◌, ◌≤◌, Bool, true, false, ◌&&◌, ◌||◌, List, [], ◌∷◌, ◌++◌, length, get_or, take, drop, map, slice_get, Vec, Global, Option, Some, None, refl, ap, sym, ◌∙◌, arith, inl, inr, subst, length-append}
 use Rattle.std.proofs.lemmas.Bool.{false≢true, and_parts, and_from, cases_lt}
-use Rattle.std.proofs.lemmas.List.{take-append-le, take_all}
+use Rattle.std.proofs.lemmas.List.{take-append-le, take_all, take_more}
 use Rattle.ap_chunk.specs.declared.choice.Choice.{Choice}
 use Rattle.ap_chunk.specs.Choice.{fits, RuleFits, IsBest, IsChosen, opens, SomeOpens, IsSpan, unit_of, units_of}
-use Rattle.ap_chunk.specs.Live.{goes_on, ends, of_rule, is_live, is_over, IsLeast, SomeLive}
+use Rattle.ap_chunk.specs.Live.{goes_on, ends, of_rule, is_live, is_over, IsLeast, SomeLive, Standing, Stands}
 
 -- one pattern
 fits_ends : (p : List ℕ) (units : List (ℕ → Bool)) → fits p units ≡ true → length p ≡ length units → ends p units ≡ true
@@ -199,3 +199,44 @@ rows_parts (suc n) (r ∷ rows) = ap (λ l. unit_of r.items ∷ l) (rows_parts n
 pub rows_more : (rows : List (Vec Bool Global)) (r : Vec Bool Global) → units_of (rows ++ r ∷ []) ≡ units_of rows ++ unit_of r.items ∷ []
 rows_more [] r = refl
 rows_more (x ∷ rows) r = ap (λ l. unit_of x.items ∷ l) (rows_more rows r)
+
+-- from how far a choice has come
+pub none_more : (s : Standing) (before : Option Choice) → s.over ≡ None → (units : List (ℕ → Bool)) (u : ℕ → Bool) → Stands s (units ++ u ∷ []) → IsChosen s.patterns units before → IsChosen s.patterns (units ++ u ∷ []) before
+none_more s before e units u stands h =
+    let P : Option ℕ → Type 0 = λ o. IsLeast (is_over s.patterns (units ++ u ∷ [])) o in
+    choice_not_over s.patterns units u before (subst P e stands.least) h
+
+pub none_first : (s : Standing) (before : Option Choice) → s.over ≡ None → before ≡ None → Stands s [] → IsChosen s.patterns [] before
+none_first s before e b stands =
+    let P : Option ℕ → Type 0 = λ o. IsLeast (is_over s.patterns []) o in
+    let Q : Option Choice → Type 0 = λ o. IsChosen s.patterns [] o in
+    subst Q (sym b) (choice_none s.patterns (subst P e stands.least))
+
+pub some_chosen : (s : Standing) (rule count : ℕ) → s.over ≡ Some rule → s.count ≡ count → (units : List (ℕ → Bool)) → Stands s units → IsChosen s.patterns units (Some (record { rule = rule; size = count }))
+some_chosen s rule count e n units stands =
+    let P : Option ℕ → Type 0 = λ o. IsLeast (is_over s.patterns units) o in
+    choice_over s.patterns units rule count (sym n ∙ stands.counted) (subst P e stands.least)
+
+pub live_wider : (s : Standing) (count : ℕ) → s.count ≡ count → (units : List (ℕ → Bool)) → Stands s units → SomeLive s.patterns units → IsSpan s.patterns units count
+live_wider s count n units stands live = span_all s.patterns units count (sym n ∙ stands.counted) (live_opens s.patterns units live)
+
+pub over_wider : (s : Standing) (rule count : ℕ) → s.over ≡ Some rule → s.count ≡ count → (units : List (ℕ → Bool)) → Stands s units → IsSpan s.patterns units count
+over_wider s rule count e n units stands =
+    let P : Option ℕ → Type 0 = λ o. IsLeast (is_over s.patterns units) o in
+    let least = subst P e stands.least in
+    span_all s.patterns units count (sym n ∙ stands.counted) (over_opens s.patterns units rule least.0)
+
+pub none_wider : (s : Standing) (before : ℕ) → s.over ≡ None → (units : List (ℕ → Bool)) (u : ℕ → Bool) → Stands s (units ++ u ∷ []) → (SomeLive s.patterns (units ++ u ∷ []) → ⊥) → IsSpan s.patterns units before
+  → IsSpan s.patterns (units ++ u ∷ []) before
+none_wider s before e units u stands dead h =
+    let P : Option ℕ → Type 0 = λ o. IsLeast (is_over s.patterns (units ++ u ∷ [])) o in
+    span_over s.patterns units u before dead (subst P e stands.least) h
+
+-- the rows of one more unit
+pub one_row_more : (rows : List (Vec Bool Global)) (at : ℕ) (r : Vec Bool Global) (row : List Bool) → at < length rows → r ≡ get_or rows at r → row ≡ r.items → units_of (take at rows) ++ unit_of row ∷ [] ≡ units_of (take (at + 1) rows)
+one_row_more rows at r row h is e = ap (λ l. units_of (take at rows) ++ unit_of l ∷ []) e ∙ sym (rows_more (take at rows) r) ∙ ap units_of (ap (λ v. take at rows ++ v ∷ []) is ∙ sym (take_more rows at r h))
+
+pub rows_length : (rows : List (Vec Bool Global)) (at : ℕ) → length (units_of (take at rows)) ≤ at
+rows_length rows zero = omega arith
+rows_length [] (suc at) = omega arith
+rows_length (r ∷ rows) (suc at) = let le = rows_length rows at in omega (arith, le)

@@ -5,3 +5,5 @@ pub mod Truths
 pub mod Indexing
 pub mod Lives
 pub mod Chosen
+pub mod Going
+pub mod Tried

@@ -4,3 +4,4 @@ pub mod Tried
 pub mod Patterns
 pub mod Choice
 pub mod Live
+pub mod Going
