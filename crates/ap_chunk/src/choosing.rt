@@ -1,5 +1,6 @@
 ghost use Rattle.std.specs.Prelude.{◌≡◌, ◌↔◌, ◌++◌, ◌∷◌, [], ℕ, ◌+◌, ◌<◌, ◌^◌, List, Bool, length, IsTrue, IfOk, OnOk, None};
 ghost use Rattle.ap_chunk.specs.Choice.{unit_of, units_of, IsChosen, IsSpan};
+ghost use Rattle.ap_chunk.specs.Going.{chosen_of};
 ghost use Rattle.ap_chunk.specs.Live.{Stands, SomeLive};
 ghost use Rattle.ap_chunk.specs.Patterns.{patterns_of};
 
@@ -143,6 +144,7 @@ impl Choosing {
     pub fn choose(&mut self, rows: &[Vec<bool>]) -> Result<Found, Memory>
         ensures patterns { self.new.patterns ≡ self.old.patterns }
         ensures choice { IfOk result (λ found. IsChosen self.old.patterns (units_of rows.now) found.choice) }
+        ensures exact { IfOk result (λ found. found.choice ≡ chosen_of self.old.patterns (units_of rows.now)) }
         ensures span { IfOk result (λ found. IsSpan self.old.patterns (units_of rows.now) found.span) }
     {
         self.begin();
