@@ -1,10 +1,10 @@
 -- What is chosen, with one more unit and where no rule is live.
-use Rattle.std.proofs.Common.{◌≡◌, ◌⊎◌, ℕ, zero, suc, ◌+◌, ◌<◌, ◌≤◌, Bool, true, false, ◌&&◌, ◌||◌, List, [], ◌∷◌, ◌++◌, length, get_or, take, drop, map, slice_get, Vec, Global, Option, Some, None, refl, ap, sym, ◌∙◌, arith, inl, inr, subst, length-append}
+use Rattle.std.proofs.Common.{◌≡◌, ◌⊎◌, ℕ, zero, suc, ◌+◌, ◌<◌, ◌≤◌, Bool, true, List, [], ◌∷◌, ◌++◌, length, get_or, take, drop, slice_get, Vec, Global, Option, Some, None, refl, ap, sym, ◌∙◌, arith, inl, inr, subst, length-append}
 use Rattle.std.proofs.lemmas.Bool.{false≢true, and_parts, and_from, cases_lt}
 use Rattle.std.proofs.lemmas.List.{take-append-le, take_all, take_more}
 use Rattle.ap_chunk.specs.declared.choice.Choice.{Choice}
-use Rattle.ap_chunk.specs.Choice.{fits, RuleFits, IsBest, IsChosen, opens, SomeOpens, IsSpan, unit_of, units_of}
-use Rattle.ap_chunk.specs.Live.{goes_on, ends, of_rule, is_live, is_over, IsLeast, SomeLive, Standing, Stands}
+use Rattle.ap_chunk.specs.Choice.{fits, RuleFits, IsChosen, opens, SomeOpens, IsSpan, unit_of, units_of}
+use Rattle.ap_chunk.specs.Live.{goes_on, ends, of_rule, is_over, IsLeast, SomeLive, Standing, Stands}
 
 -- one pattern
 fits_ends : (p : List ℕ) (units : List (ℕ → Bool)) → fits p units ≡ true → length p ≡ length units → ends p units ≡ true
@@ -99,7 +99,7 @@ fits_live patterns rule units more n f lt =
 
 -- the choice
 choice_stays : (patterns : List (List ℕ)) (units more : List (ℕ → Bool)) (choice : Option Choice) → IsChosen patterns units choice
-  → ((rule n : ℕ) → RuleFits patterns rule (units ++ more) n → n ≤ length units) → IsChosen patterns (units ++ more) choice
+    → ((rule n : ℕ) → RuleFits patterns rule (units ++ more) n → n ≤ length units) → IsChosen patterns (units ++ more) choice
 choice_stays patterns units more None h k = λ rule n f. h rule n (shorter patterns rule units more n (k rule n f) f)
 choice_stays patterns units more (Some c) h k = record {
   fitting = longer patterns c.rule units more c.size h.fitting;
@@ -119,8 +119,8 @@ choice_not_over patterns units u choice none h = choice_stays patterns units (u 
     let le : n ≤ length (units ++ u ∷ []) = within patterns rule (units ++ u ∷ []) n f in
     let more : length (units ++ u ∷ []) ≡ length units + 1 = length-append units (u ∷ []) in
     elim (cases_lt (length units) n) [
-    | inl lt ↦ absurd (false≢true (sym (none rule) ∙ fits_over patterns rule (units ++ u ∷ []) n f (omega (arith, le, more, lt))))
-    | inr k ↦ k
+      | inl lt ↦ absurd (false≢true (sym (none rule) ∙ fits_over patterns rule (units ++ u ∷ []) n f (omega (arith, le, more, lt))))
+      | inr k ↦ k
     ])
 
 pub choice_none : (patterns : List (List ℕ)) → IsLeast (is_over patterns []) None → IsChosen patterns [] None
@@ -136,7 +136,7 @@ choice_dead patterns units more choice dead h = choice_stays patterns units more
 
 -- the span
 span_stays : (patterns : List (List ℕ)) (units more : List (ℕ → Bool)) (n : ℕ) → IsSpan patterns units n → ((m : ℕ) → m ≤ length (units ++ more) → SomeOpens patterns (take m (units ++ more)) → m ≤ length units)
-  → IsSpan patterns (units ++ more) n
+    → IsSpan patterns (units ++ more) n
 span_stays patterns units more n h k =
     let le : n ≤ length units = h.within in
     let P : List (ℕ → Bool) → Type 0 = λ us. SomeOpens patterns us in
@@ -175,13 +175,13 @@ opens_none patterns units dead none s = elim (opens_parts s.pattern units s.fit)
 ]
 
 pub span_over : (patterns : List (List ℕ)) (units : List (ℕ → Bool)) (u : ℕ → Bool) (n : ℕ) → (SomeLive patterns (units ++ u ∷ []) → ⊥) → IsLeast (is_over patterns (units ++ u ∷ [])) None → IsSpan patterns units n
-  → IsSpan patterns (units ++ u ∷ []) n
+    → IsSpan patterns (units ++ u ∷ []) n
 span_over patterns units u n dead none h = span_stays patterns units (u ∷ []) n h (λ m l s.
     let more : length (units ++ u ∷ []) ≡ length units + 1 = length-append units (u ∷ []) in
     let P : List (ℕ → Bool) → Type 0 = λ us. SomeOpens patterns us in
     elim (cases_lt (length units) m) [
-    | inl lt ↦ absurd (opens_none patterns (units ++ u ∷ []) dead none (subst P (take_all m (units ++ u ∷ []) (omega (arith, lt, more))) s))
-    | inr k ↦ k
+      | inl lt ↦ absurd (opens_none patterns (units ++ u ∷ []) dead none (subst P (take_all m (units ++ u ∷ []) (omega (arith, lt, more))) s))
+      | inr k ↦ k
     ])
 
 pub span_dead : (patterns : List (List ℕ)) (units more : List (ℕ → Bool)) (n : ℕ) → (SomeLive patterns units → ⊥) → IsSpan patterns units n → IsSpan patterns (units ++ more) n
@@ -227,7 +227,7 @@ over_wider s rule count e n units stands =
     span_all s.patterns units count (sym n ∙ stands.counted) (over_opens s.patterns units rule least.0)
 
 pub none_wider : (s : Standing) (before : ℕ) → s.over ≡ None → (units : List (ℕ → Bool)) (u : ℕ → Bool) → Stands s (units ++ u ∷ []) → (SomeLive s.patterns (units ++ u ∷ []) → ⊥) → IsSpan s.patterns units before
-  → IsSpan s.patterns (units ++ u ∷ []) before
+    → IsSpan s.patterns (units ++ u ∷ []) before
 none_wider s before e units u stands dead h =
     let P : Option ℕ → Type 0 = λ o. IsLeast (is_over s.patterns (units ++ u ∷ [])) o in
     span_over s.patterns units u before dead (subst P e stands.least) h

@@ -1,12 +1,12 @@
 -- A word as its lemma and its tags.
-use Rattle.std.proofs.Common.{◌≡◌, ℕ, zero, suc, ◌+◌, ◌<◌, ◌≤◌, Bool, true, false, ◌&&◌, ◌||◌, cond, List, [], ◌∷◌, ◌++◌, length, get_or, take, drop, Option, Some, None, refl, ap, sym, ◌∙◌, arith}
+use Rattle.std.proofs.Common.{◌≡◌, ℕ, suc, ◌+◌, ◌<◌, ◌≤◌, Bool, true, false, ◌&&◌, cond, List, [], ◌∷◌, ◌++◌, length, get_or, take, drop, refl, ap, sym, ◌∙◌, arith}
 use Rattle.std.specs.List.{list_all, list_any}
 use Rattle.std.proofs.lemmas.Bool.{false≢true, and_parts, or_parts, or_from}
 use Rattle.std.proofs.lemmas.List.{at_drop_more, at_drop_all}
 use Rattle.ap_symbol.specs.declared.symbol.Symbol.{Symbol}
 use Rattle.ap_symbol.specs.Fitting.{fits_lem, lists_fit}
-use Rattle.ap_chunk.specs.Categories.{is_tag, is_marked, IsDivided}
-use Rattle.ap_chunk.specs.Tests.{first_tag, division}
+use Rattle.ap_chunk.specs.Categories.{is_tag}
+use Rattle.ap_chunk.specs.Tests.{first_tag}
 
 pub first_tag_more : (word : List Symbol) (at : ℕ) (x : Symbol) → at < length word → x ≡ get_or word at x → is_tag x ≡ false → first_tag (drop at word) ≡ suc (first_tag (drop (at + 1) word))
 first_tag_more word at x h is f = at_drop_more first_tag word at x h
@@ -21,7 +21,7 @@ first_tag_end word at h = at_drop_all first_tag word at h
 
 -- the lists fit from one place on where the symbols there fit and the lists do from the next place on
 pub fit_more : (item word : List Symbol) (at : ℕ) (a x : Symbol) → at < length item → at < length word → a ≡ get_or item at a → x ≡ get_or word at x
-  → lists_fit false (drop at item) (drop at word) ≡ (fits_lem false a x && lists_fit false (drop (at + 1) item) (drop (at + 1) word))
+    → lists_fit false (drop at item) (drop at word) ≡ (fits_lem false a x && lists_fit false (drop (at + 1) item) (drop (at + 1) word))
 fit_more item word at a x h k ea ex =
     at_drop_more (λ l. lists_fit false l (drop at word)) item at a h ∙ at_drop_more (λ l. lists_fit false (get_or item at a ∷ drop (at + 1) item) l) word at x k
     ∙ ap (λ s. fits_lem false s (get_or word at x) && lists_fit false (drop (at + 1) item) (drop (at + 1) word)) (sym ea)

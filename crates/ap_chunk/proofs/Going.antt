@@ -1,6 +1,5 @@
 -- Going on unit by unit chooses what trying every rule chooses.
-use Rattle.std.proofs.Common.{◌≡◌, ℕ, zero, suc, ◌+◌, ◌<◌, ◌≤◌, List, [], ◌∷◌, length, Bool, true, false, ◌&&◌, cond, if◌then◌else◌, nat_le, Option, Some, None, refl, ap, sym, ◌∙◌, arith, inl, inr}
-use Rattle.std.proofs.lemmas.Bool.{cases_Bool}
+use Rattle.std.proofs.Common.{◌≡◌, ℕ, suc, ◌+◌, ◌<◌, ◌≤◌, List, [], ◌∷◌, length, Bool, true, false, ◌&&◌, cond, nat_le, Option, Some, None, refl, ap, sym, ◌∙◌, arith}
 use Rattle.std.proofs.lemmas.Bool.Decides.{nat_tests}
 use Rattle.ap_chunk.specs.declared.choice.Choice.{Choice}
 use Rattle.ap_chunk.specs.Choice.{fits}
@@ -69,7 +68,7 @@ longer_else n rule size None d hd le = first_stays rule size n d hd le
 longer_else n rule size (Some b) d hd le = elim (nat_le b.size size) as (λ t. cond t (of_size rule size) (Some b) ≡ or_else (cond t (of_size rule size) (Some b)) d) [ true ↦ refl | false ↦ refl ]
 
 go_one : (b t : Bool) (n rule : ℕ) (cs : List ℕ) (m d : Option Choice) → AtMost n d
-  → longer (cond (b && t) (of_size rule (n + suc (length cs))) None) (or_else m d) ≡ or_else (cond b (longer (cond t (of_size rule (n + 1 + length cs)) None) m) m) d
+    → longer (cond (b && t) (of_size rule (n + suc (length cs))) None) (or_else m d) ≡ or_else (cond b (longer (cond t (of_size rule (n + 1 + length cs)) None) m) m) d
 go_one false t n rule cs m d hd = refl
 go_one true false n rule cs m d hd = refl
 go_one true true n rule cs m d hd =
@@ -81,7 +80,7 @@ chosen_cond true n p places units = refl
 chosen_cond false n p places units = refl
 
 step_one : (n rule : ℕ) (rest : List ℕ) (u : ℕ → Bool) (units : List (ℕ → Bool)) (more : List Place) (d : Option Choice) → AtMost n d
-  → longer (cond (fits rest (u ∷ units)) (of_size rule (n + length rest)) None) (or_else (chosen (n + 1) more units) d) ≡ or_else (chosen (n + 1) (stepped_one u rule rest more) units) (done_one n rule rest d)
+    → longer (cond (fits rest (u ∷ units)) (of_size rule (n + length rest)) None) (or_else (chosen (n + 1) more units) d) ≡ or_else (chosen (n + 1) (stepped_one u rule rest more) units) (done_one n rule rest d)
 step_one n rule [] u units more d hd = over_one n rule (chosen (n + 1) more units) d (chosen_at_least (n + 1) more units) hd
 step_one n rule (c ∷ cs) u units more d hd =
     go_one (u c) (fits cs units) n rule cs (chosen (n + 1) more units) d hd

@@ -1,10 +1,10 @@
 -- What is kept beside patterns.
-use Rattle.std.proofs.Common.{◌≡◌, ◌≢◌, ℕ, zero, suc, ◌+◌, ◌<◌, ◌≤◌, ◌==◌, Bool, true, false, not, ◌&&◌, ◌||◌, cond, List, [], ◌∷◌, ◌++◌, length, get_or, take, drop, set, map, slice_get, Vec, Global, Option, Some, None, refl, ap, sym, ◌∙◌, arith, inl, inr, ltb}
+use Rattle.std.proofs.Common.{◌≡◌, ℕ, zero, suc, ◌+◌, ◌<◌, ◌≤◌, ◌==◌, Bool, true, false, not, ◌&&◌, ◌||◌, cond, List, [], ◌∷◌, ◌++◌, length, get_or, take, set, Vec, Global, Some, None, refl, ap, sym, ◌∙◌, arith, inl, inr}
 use Rattle.std.specs.List.{list_any}
-use Rattle.std.proofs.lemmas.Bool.{false≢true, eqb-true, eq-eqb, ne_eqb, cases_eq, cases_order, or_cases, or_left, or_right, or_parts, cases_Bool}
-use Rattle.std.proofs.lemmas.List.{take_more, length-map, length-take}
-use Rattle.ap_chunk.specs.Patterns.{lists, list_of, list_at, has, begins_with, is_filled, first_empty, IsIndex}
-use Rattle.ap_chunk.specs.Live.{ends, goes_on, of_rule, is_over, is_live, IsLeast, SomeLive}
+use Rattle.std.proofs.lemmas.Bool.{false≢true, eq-eqb, ne_eqb, cases_eq, cases_order, or_cases, or_left, or_right, cases_Bool}
+use Rattle.std.proofs.lemmas.List.{take_more}
+use Rattle.ap_chunk.specs.Patterns.{lists, list_at, has, begins_with, is_filled, first_empty, IsIndex}
+use Rattle.ap_chunk.specs.Live.{ends, goes_on, is_over, is_live, IsLeast, SomeLive}
 use Rattle.ap_chunk.proofs.Truths.{or_false, has_append}
 
 -- one more list
@@ -63,7 +63,7 @@ and_true false d e = absurd (false≢true e)
 
 -- after a rule is appended to the list of a category
 pub added : (old mid : List (Vec ℕ Global)) (category rule : ℕ) (was now : Vec ℕ Global) → ((n : ℕ) → list_at (lists mid) n ≡ list_at (lists old) n) → category < length mid → was ≡ get_or mid category was → now.items ≡ was.items ++ rule ∷ []
-  → (c r : ℕ) → has (list_at (lists (set mid category now)) c) r ≡ (has (list_at (lists old) c) r || ((category == c) && (rule == r)))
+    → (c r : ℕ) → has (list_at (lists (set mid category now)) c) r ≡ (has (list_at (lists old) c) r || ((category == c) && (rule == r)))
 added old mid category rule was now same within is e c r = elim (cases_eq category c) [
   | inl k ↦ ap (λ n. has (list_at (lists (set mid category now)) n) r) (sym k) ∙ ap (λ l. has l r) (set_here mid category now within ∙ e) ∙ has_append was.items (rule ∷ []) r
       ∙ ap (λ v. has (v.items) r || ((rule == r) || false)) is ∙ ap (λ l. has l r || ((rule == r) || false)) (sym (get_list mid category was within) ∙ same category)
@@ -83,7 +83,7 @@ and_true_right false d e = refl
 
 -- with one more pattern
 one_more : (patterns : List (List ℕ)) (p : List ℕ) (n c r : ℕ) → n ≡ length patterns
-  → (begins_with c (list_at patterns r) || (begins_with c p && (n == r))) ≡ begins_with c (list_at (patterns ++ p ∷ []) r)
+    → (begins_with c (list_at patterns r) || (begins_with c p && (n == r))) ≡ begins_with c (list_at (patterns ++ p ∷ []) r)
 one_more patterns p n c r e = elim (cases_order r n) [
   | inl k ↦ ap (λ b. begins_with c (list_at patterns r) || b) (and_true_right (begins_with c p) (n == r) (eq-eqb n r (sym k)))
       ∙ ap (λ l. begins_with c l || begins_with c p) (past patterns r (omega (arith, k, e))) ∙ ap (begins_with c) (sym (here patterns p)) ∙ ap (λ i. begins_with c (list_at (patterns ++ p ∷ []) i)) (sym e ∙ sym k)
@@ -110,7 +110,7 @@ taken (suc n) [] h = absurd (omega (arith, h))
 taken (suc n) (x ∷ xs) h = ap suc (taken n xs (omega (arith, h)))
 
 pub index_more : (patterns : List (Vec ℕ Global)) (at : ℕ) (v : Vec ℕ Global) (old new : List (List ℕ)) → at < length patterns → v ≡ get_or patterns at v → IsIndex (lists (take at patterns)) old
-  → ((c r : ℕ) → has (list_at new c) r ≡ (has (list_at old c) r || (begins_with c v.items && (at == r)))) → IsIndex (lists (take (at + 1) patterns)) new
+    → ((c r : ℕ) → has (list_at new c) r ≡ (has (list_at old c) r || (begins_with c v.items && (at == r)))) → IsIndex (lists (take (at + 1) patterns)) new
 index_more patterns at v old new h is index on = λ c r.
     on c r ∙ ap (λ b. b || (begins_with c v.items && (at == r))) (index c r)
     ∙ one_more (lists (take at patterns)) v.items at c r (sym (length_lists (take at patterns) ∙ taken at patterns (omega (arith, h))))
@@ -122,7 +122,7 @@ over_if [] = refl
 over_if (c ∷ cs) = refl
 
 first_at : (p : List ℕ) (patterns : List (List ℕ)) → cond (is_filled p) (suc (first_empty patterns)) 0 < suc (length patterns) → (first_empty patterns < length patterns → is_over patterns [] (first_empty patterns) ≡ true)
-  → is_over (p ∷ patterns) [] (cond (is_filled p) (suc (first_empty patterns)) 0) ≡ true
+    → is_over (p ∷ patterns) [] (cond (is_filled p) (suc (first_empty patterns)) 0) ≡ true
 first_at [] patterns h on = refl
 first_at (c ∷ cs) patterns h on = on (omega (arith, h))
 
@@ -149,9 +149,10 @@ over_within (p ∷ patterns) zero h = omega arith
 over_within (p ∷ patterns) (suc r) h = omega (arith, over_within patterns r h)
 
 pub least_empty : (vs : List (Vec ℕ Global)) (empty : ℕ) → empty ≡ first_empty (lists vs) → empty < length vs → IsLeast (is_over (lists vs) []) (Some empty)
-least_empty vs empty e h =
-    ( ap (is_over (lists vs) []) e ∙ first_is_over (lists vs) (omega (arith, e, h, length_lists vs))
-    , λ r k. omega (arith, e, first_is_least (lists vs) r k))
+least_empty vs empty e h = (
+  ap (is_over (lists vs) []) e ∙ first_is_over (lists vs) (omega (arith, e, h, length_lists vs)),
+  λ r k. omega (arith, e, first_is_least (lists vs) r k),
+)
 
 pub no_empty : (vs : List (Vec ℕ Global)) (empty : ℕ) → empty ≡ first_empty (lists vs) → length vs ≤ empty → IsLeast (is_over (lists vs) []) None
 no_empty vs empty e h = λ r. elim (cases_Bool (is_over (lists vs) [] r)) [

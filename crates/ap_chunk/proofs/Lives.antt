@@ -1,10 +1,10 @@
 -- Going on by one unit.
 use Rattle.std.proofs.Common.{◌≡◌, ℕ, zero, suc, ◌+◌, ◌<◌, ◌≤◌, ◌==◌, Bool, true, false, ◌&&◌, ◌||◌, cond, nat_lt, List, [], ◌∷◌, ◌++◌, length, get_or, drop, slice_get, Option, Some, None, Result, Ok, Err, OnOk, IfOk, min, refl, ap, sym, ◌∙◌, arith, inl, inr, subst}
 use Rattle.std.specs.List.{filter}
-use Rattle.std.proofs.lemmas.Bool.{false≢true, eqb-true, eq-eqb, ne_eqb, cases_order, lt-ltb, le-ltb, cases_Bool}
+use Rattle.std.proofs.lemmas.Bool.{false≢true, eq-eqb, ne_eqb, cases_order, lt-ltb, le-ltb}
 use Rattle.ap_chunk.specs.Patterns.{list_of, list_at, has, begins_with, is_filled}
-use Rattle.ap_chunk.specs.Choice.{truth, unit_of}
-use Rattle.ap_chunk.specs.Live.{goes_on, ends, of_rule, is_live, is_over, IsLeast, AreLive, met_of, is_on, is_end, stays, finishes, lesser, least_from, starts, begun, Standing, Stands}
+use Rattle.ap_chunk.specs.Choice.{unit_of}
+use Rattle.ap_chunk.specs.Live.{goes_on, ends, of_rule, is_live, is_over, IsLeast, AreLive, met_of, is_on, is_end, stays, finishes, least_from, starts, begun, Standing, Stands}
 use Rattle.ap_chunk.specs.declared.keeping.Met.{Met}
 use Rattle.ap_chunk.specs.declared.keeping.Met.TheVariants as met
 use Rattle.ap_chunk.proofs.Truths.{or_false, or_and, and_assoc, has_filter, has_append, least_same, least_of}
@@ -47,29 +47,29 @@ over_more patterns units u r = over_by (slice_get patterns r) units u
 
 -- behind the first unit
 pub kept_on : (patterns : List (List ℕ)) (count : ℕ) (u : ℕ → Bool) (live kept room : List ℕ) → room ≡ [] → kept ≡ room ++ filter (stays patterns count u) live → (count ≡ 0 → ⊥)
-  → (units : List (ℕ → Bool)) → count ≡ length units → AreLive patterns units live → AreLive patterns (units ++ u ∷ []) kept
+    → (units : List (ℕ → Bool)) → count ≡ length units → AreLive patterns units live → AreLive patterns (units ++ u ∷ []) kept
 kept_on patterns count u live kept room e k ne units n are = λ some r.
     let was : has live r ≡ is_live patterns units r = are (omega (arith, n, ne)) r in
     ap (λ l. has l r) (k ∙ ap (λ l. l ++ filter (stays patterns count u) live) e) ∙ has_filter (stays patterns count u) live r
     ∙ ap (λ b. b && stays patterns count u r) was ∙ ap (λ i. is_live patterns units r && stays patterns i u r) n ∙ sym (live_more patterns units u r)
 
 pub least_on : (patterns : List (List ℕ)) (count : ℕ) (u : ℕ → Bool) (live : List ℕ) (least : Option ℕ) → least ≡ least_from None (filter (finishes patterns count u) live) → (count ≡ 0 → ⊥)
-  → (units : List (ℕ → Bool)) → count ≡ length units → AreLive patterns units live → IsLeast (is_over patterns (units ++ u ∷ [])) least
+    → (units : List (ℕ → Bool)) → count ≡ length units → AreLive patterns units live → IsLeast (is_over patterns (units ++ u ∷ [])) least
 least_on patterns count u live least k ne units n are =
     let P : Option ℕ → Type 0 = λ o. IsLeast (is_over patterns (units ++ u ∷ [])) o in
     subst P (sym k) (least_same (λ r. false || has (filter (finishes patterns count u) live) r) (is_over patterns (units ++ u ∷ [])) (least_from None (filter (finishes patterns count u) live))
-      (λ r. let was : has live r ≡ is_live patterns units r = are (omega (arith, n, ne)) r in
-        has_filter (finishes patterns count u) live r ∙ ap (λ b. b && finishes patterns count u r) was ∙ ap (λ i. is_live patterns units r && finishes patterns i u r) n ∙ sym (over_more patterns units u r))
-      (least_of (λ r. false) None (filter (finishes patterns count u) live) (λ r. refl)))
+    (λ r. let was : has live r ≡ is_live patterns units r = are (omega (arith, n, ne)) r in
+    has_filter (finishes patterns count u) live r ∙ ap (λ b. b && finishes patterns count u r) was ∙ ap (λ i. is_live patterns units r && finishes patterns i u r) n ∙ sym (over_more patterns units u r))
+    (least_of (λ r. false) None (filter (finishes patterns count u) live) (λ r. refl)))
 
 -- the first unit
 pub kept_first : (patterns : List (List ℕ)) (u : ℕ → Bool) (live kept : List ℕ) → ((r : ℕ) → has kept r ≡ is_live patterns (u ∷ []) r)
-  → (units : List (ℕ → Bool)) → 0 ≡ length units → AreLive patterns units live → AreLive patterns (units ++ u ∷ []) kept
+    → (units : List (ℕ → Bool)) → 0 ≡ length units → AreLive patterns units live → AreLive patterns (units ++ u ∷ []) kept
 kept_first patterns u live kept h [] n are = λ some r. h r
 kept_first patterns u live kept h (v ∷ units) n are = absurd (omega (arith, n))
 
 pub least_first : (patterns : List (List ℕ)) (u : ℕ → Bool) (live : List ℕ) (least : Option ℕ) → IsLeast (is_over patterns (u ∷ [])) least
-  → (units : List (ℕ → Bool)) → 0 ≡ length units → AreLive patterns units live → IsLeast (is_over patterns (units ++ u ∷ [])) least
+    → (units : List (ℕ → Bool)) → 0 ≡ length units → AreLive patterns units live → IsLeast (is_over patterns (units ++ u ∷ [])) least
 least_first patterns u live least h [] n are = h
 least_first patterns u live least h (v ∷ units) n are = absurd (omega (arith, n))
 
@@ -121,19 +121,19 @@ starts_none u [] = refl
 starts_none u (c ∷ cs) = ap (λ t. t && u c) (le-ltb c 0 (omega arith))
 
 pub first_kept : (patterns : List (List ℕ)) (u : ℕ → Bool) (n : ℕ) (rules old new : List ℕ) (test : ℕ → Bool) → u n ≡ true → ((r : ℕ) → has rules r ≡ begins_with n (list_at patterns r)) → new ≡ old ++ filter test rules
-  → ((r : ℕ) → has old r ≡ begun u n patterns test r) → (r : ℕ) → has new r ≡ begun u (n + 1) patterns test r
+    → ((r : ℕ) → has old r ≡ begun u n patterns test r) → (r : ℕ) → has new r ≡ begun u (n + 1) patterns test r
 first_kept patterns u n rules old new test h beg e was r =
     ap (λ l. has l r) e ∙ has_append old (filter test rules) r ∙ ap (λ b. b || has (filter test rules) r) (was r) ∙ ap (λ b. begun u n patterns test r || b) (has_filter test rules r ∙ ap (λ b. b && test r) (beg r))
     ∙ or_and (starts u n (list_at patterns r)) (begins_with n (list_at patterns r)) (test r) ∙ ap (λ b. b && test r) (sym (starts_with u n (list_at patterns r) h))
 
 pub first_least : (patterns : List (List ℕ)) (u : ℕ → Bool) (n : ℕ) (rules : List ℕ) (old new : Option ℕ) (test : ℕ → Bool) → u n ≡ true → ((r : ℕ) → has rules r ≡ begins_with n (list_at patterns r)) → new ≡ least_from old (filter test rules)
-  → IsLeast (begun u n patterns test) old → IsLeast (begun u (n + 1) patterns test) new
+    → IsLeast (begun u n patterns test) old → IsLeast (begun u (n + 1) patterns test) new
 first_least patterns u n rules old new test h beg e was =
     let P : Option ℕ → Type 0 = λ o. IsLeast (begun u (n + 1) patterns test) o in
     subst P (sym e) (least_same (λ r. begun u n patterns test r || has (filter test rules) r) (begun u (n + 1) patterns test) (least_from old (filter test rules))
-      (λ r. ap (λ b. begun u n patterns test r || b) (has_filter test rules r ∙ ap (λ b. b && test r) (beg r))
-        ∙ or_and (starts u n (list_at patterns r)) (begins_with n (list_at patterns r)) (test r) ∙ ap (λ b. b && test r) (sym (starts_with u n (list_at patterns r) h)))
-      (least_of (begun u n patterns test) old (filter test rules) was))
+    (λ r. ap (λ b. begun u n patterns test r || b) (has_filter test rules r ∙ ap (λ b. b && test r) (beg r))
+    ∙ or_and (starts u n (list_at patterns r)) (begins_with n (list_at patterns r)) (test r) ∙ ap (λ b. b && test r) (sym (starts_with u n (list_at patterns r) h)))
+    (least_of (begun u n patterns test) old (filter test rules) was))
 
 pub passed_kept : (patterns : List (List ℕ)) (u : ℕ → Bool) (n : ℕ) (test : ℕ → Bool) (old new : List ℕ) → u n ≡ false → new ≡ old → ((r : ℕ) → has old r ≡ begun u n patterns test r) → (r : ℕ) → has new r ≡ begun u (n + 1) patterns test r
 passed_kept patterns u n test old new h e was r = ap (λ l. has l r) e ∙ was r ∙ ap (λ b. b && test r) (sym (starts_without u n (list_at patterns r) h))
@@ -156,8 +156,8 @@ all_by row n is (c ∷ cs) le f = at (unit_of row c) refl
     at : (b : Bool) → unit_of row c ≡ b → ((nat_lt c n && unit_of row c) && is (cond (unit_of row c) (cond (is_filled cs) met.GoesOn met.Ends) met.Fails)) ≡ is (cond (unit_of row c) (cond (is_filled cs) met.GoesOn met.Ends) met.Fails)
     at true e = ap (λ t. (t && unit_of row c) && is (cond (unit_of row c) (cond (is_filled cs) met.GoesOn met.Ends) met.Fails)) (lt-ltb c n (omega (arith, le, unit_within row c e))) ∙ ap (λ t. t && is (cond (unit_of row c) (cond (is_filled cs) met.GoesOn met.Ends) met.Fails)) e
     at false e =
-      let k : is (cond (unit_of row c) (cond (is_filled cs) met.GoesOn met.Ends) met.Fails) ≡ false = ap (λ t. is (cond t (cond (is_filled cs) met.GoesOn met.Ends) met.Fails)) e ∙ f in
-      ap (λ t. (nat_lt c n && unit_of row c) && t) k ∙ and_none (nat_lt c n && unit_of row c) ∙ sym k
+        let k : is (cond (unit_of row c) (cond (is_filled cs) met.GoesOn met.Ends) met.Fails) ≡ false = ap (λ t. is (cond t (cond (is_filled cs) met.GoesOn met.Ends) met.Fails)) e ∙ f in
+        ap (λ t. (nat_lt c n && unit_of row c) && t) k ∙ and_none (nat_lt c n && unit_of row c) ∙ sym k
 
 first_on : (p : List ℕ) (u : ℕ → Bool) → goes_on p (u ∷ []) ≡ is_on (met_of u p)
 first_on [] u = refl
@@ -176,14 +176,14 @@ over_one None u = refl
 over_one (Some p) u = first_end p u
 
 pub all_kept : (patterns : List (List ℕ)) (row : List Bool) (n : ℕ) (kept : List ℕ) → length row ≤ n → ((r : ℕ) → has kept r ≡ begun (unit_of row) n patterns (stays patterns 0 (unit_of row)) r)
-  → (r : ℕ) → has kept r ≡ is_live patterns (unit_of row ∷ []) r
+    → (r : ℕ) → has kept r ≡ is_live patterns (unit_of row ∷ []) r
 all_kept patterns row n kept le h r = h r ∙ all_by row n is_on (list_at patterns r) le refl ∙ sym (live_one (slice_get patterns r) (unit_of row))
 
 pub all_least : (patterns : List (List ℕ)) (row : List Bool) (n : ℕ) (least : Option ℕ) → length row ≤ n → IsLeast (begun (unit_of row) n patterns (finishes patterns 0 (unit_of row))) least
-  → IsLeast (is_over patterns (unit_of row ∷ [])) least
+    → IsLeast (is_over patterns (unit_of row ∷ [])) least
 all_least patterns row n least le h =
     least_same (begun (unit_of row) n patterns (finishes patterns 0 (unit_of row))) (is_over patterns (unit_of row ∷ [])) least
-      (λ r. all_by row n is_end (list_at patterns r) le refl ∙ sym (over_one (slice_get patterns r) (unit_of row))) h
+    (λ r. all_by row n is_end (list_at patterns r) le refl ∙ sym (over_one (slice_get patterns r) (unit_of row))) h
 
 pub on_ok : {T E : Type 0} (r : Result T E) (P Q : Type 0) → (P → Q) → OnOk r P → OnOk r Q
 on_ok (Ok x) P Q f h = f h
@@ -199,9 +199,9 @@ more_units (v ∷ units) u = let e : length (units ++ u ∷ []) ≡ length units
 
 -- a step as a whole
 pub stepped : (s : Standing) (count : ℕ) (live : List ℕ) (over : Option ℕ) (u : ℕ → Bool) → count ≡ min (s.count + 1) 18446744073709551615
-  → ((units : List (ℕ → Bool)) → s.count ≡ length units → AreLive s.patterns units s.live → AreLive s.patterns (units ++ u ∷ []) live)
-  → ((units : List (ℕ → Bool)) → s.count ≡ length units → AreLive s.patterns units s.live → IsLeast (is_over s.patterns (units ++ u ∷ [])) over)
-  → (units : List (ℕ → Bool)) → length units + 1 < 18446744073709551616 → Stands s units → Stands (record { patterns = s.patterns; count = count; live = live; over = over }) (units ++ u ∷ [])
+    → ((units : List (ℕ → Bool)) → s.count ≡ length units → AreLive s.patterns units s.live → AreLive s.patterns (units ++ u ∷ []) live)
+    → ((units : List (ℕ → Bool)) → s.count ≡ length units → AreLive s.patterns units s.live → IsLeast (is_over s.patterns (units ++ u ∷ [])) over)
+    → (units : List (ℕ → Bool)) → length units + 1 < 18446744073709551616 → Stands s units → Stands (record { patterns = s.patterns; count = count; live = live; over = over }) (units ++ u ∷ [])
 stepped s count live over u e kept least units h stands =
     let n : s.count ≡ length units = stands.counted in
     record { counted = omega (arith, e, h, n, more_units units u); rules = kept units stands.counted stands.rules; least = least units stands.counted stands.rules }

@@ -1,11 +1,11 @@
 -- A category takes a word, as a relation and as a test.
-use Rattle.std.proofs.Common.{◌≡◌, ℕ, zero, suc, ◌+◌, ◌<◌, ◌≤◌, ◌⊎◌, Bool, true, false, not, ◌&&◌, ◌||◌, cond, List, [], ◌∷◌, ◌++◌, length, take, drop, Option, Some, None, refl, ap, sym, ◌∙◌, arith, inl, inr, subst, IsTrue, ◌↔◌}
+use Rattle.std.proofs.Common.{◌≡◌, ℕ, zero, suc, ◌<◌, Bool, true, false, cond, List, [], ◌∷◌, ◌++◌, length, take, drop, Option, Some, None, refl, ap, sym, ◌∙◌, arith, inl, inr}
 use Rattle.std.specs.List.{list_all, list_any}
-use Rattle.std.proofs.lemmas.Bool.{false≢true, and_parts, and_from, or_cases, or_left, or_right, cases_Bool}
+use Rattle.std.proofs.lemmas.Bool.{false≢true, and_parts, and_from, or_cases, or_left, or_right}
 use Rattle.std.proofs.lemmas.List.{take_at, drop_at}
 use Rattle.ap_symbol.specs.declared.symbol.Symbol.{Symbol}
 use Rattle.ap_symbol.specs.declared.symbol.Symbol.TheVariants.{Star}
-use Rattle.ap_symbol.specs.Fitting.{Fits, fits_lem, lists_fit}
+use Rattle.ap_symbol.specs.Fitting.{fits_lem}
 use Rattle.ap_symbol.specs.Lists.{IsIn}
 use Rattle.ap_symbol.proofs.FittingSymbols.{fits_is, fits_itself}
 use Rattle.ap_rules.specs.declared.rules.CatItem.{CatItem}
@@ -150,7 +150,7 @@ divided_at : (word lemma tags : List Symbol) → is_marked word ≡ false → Is
 divided_at word lemma tags m d =
     let e : first_tag word ≡ length lemma = ap first_tag d.whole ∙ first_behind lemma tags d.before d.behind in
     let all : list_all is_tag (drop (first_tag word) word) ≡ true =
-      ap (λ n. list_all is_tag (drop n word)) e ∙ ap (λ l. list_all is_tag (drop (length lemma) l)) d.whole ∙ ap (list_all is_tag) (drop_at lemma tags (length lemma) refl) ∙ d.behind in
+    ap (λ n. list_all is_tag (drop n word)) e ∙ ap (λ l. list_all is_tag (drop (length lemma) l)) d.whole ∙ ap (list_all is_tag) (drop_at lemma tags (length lemma) refl) ∙ d.behind in
     join (is_marked word) (list_all is_tag (drop (first_tag word) word)) (first_tag word) m all ∙ ap Some e
 
 from_at : (form : Form) (category : DefCat) (word : List Symbol) → Takes form category word → takes form category word ≡ true
@@ -159,7 +159,7 @@ from_at form category word t =
     let tags : drop (length t.lemma) word ≡ t.tags = ap (drop (length t.lemma)) t.divided.whole ∙ drop_at t.lemma t.tags (length t.lemma) refl in
     ap (takes_at form category word) (divided_at word t.lemma t.tags t.unmarked t.divided)
     ∙ from_some (λ item. item_takes form item (take (length t.lemma) word) (drop (length t.lemma) word)) category.items t.item t.«in»
-      (ap (λ l. item_takes form t.item l (drop (length t.lemma) word)) lemma ∙ ap (item_takes form t.item t.lemma) tags ∙ from_item form t.item t.lemma t.tags t.taken)
+    (ap (λ l. item_takes form t.item l (drop (length t.lemma) word)) lemma ∙ ap (item_takes form t.item t.lemma) tags ∙ from_item form t.item t.lemma t.tags t.taken)
 
 pub takes_exactly : (form : Form) (category : DefCat) (word : List Symbol) → (takes form category word ≡ true → Takes form category word) × (Takes form category word → takes form category word ≡ true)
 takes_exactly form category word = (to_at form category word (division word) refl, from_at form category word)

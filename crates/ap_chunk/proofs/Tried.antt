@@ -1,9 +1,9 @@
 -- Trying every rule chooses what the relation says, and that is one choice alone.
-use Rattle.std.proofs.Common.{◌≡◌, ℕ, zero, suc, ◌+◌, ◌<◌, ◌≤◌, Bool, true, false, cond, nat_le, List, [], ◌∷◌, length, slice_get, Option, Some, None, refl, ap, sym, ◌∙◌, arith, subst}
+use Rattle.std.proofs.Common.{◌≡◌, ℕ, zero, suc, ◌+◌, ◌<◌, ◌≤◌, Bool, true, false, cond, nat_le, List, [], ◌∷◌, length, Option, Some, None, refl, ap, sym, ◌∙◌, arith, subst}
 use Rattle.std.proofs.lemmas.Bool.{false≢true, leb-true, leb-false}
 use Rattle.ap_chunk.specs.declared.choice.Choice.{Choice}
-use Rattle.ap_chunk.specs.Choice.{fits, RuleFits, IsBest, IsChosen}
-use Rattle.ap_chunk.specs.Going.{Place, numbered, longer, fit, chosen, chosen_of}
+use Rattle.ap_chunk.specs.Choice.{fits, RuleFits, IsChosen}
+use Rattle.ap_chunk.specs.Going.{numbered, longer, chosen, chosen_of}
 
 -- the choice among rules that are numbered from k on
 record IsFirst (k : ℕ) (patterns : List (List ℕ)) (units : List (ℕ → Bool)) (c : Choice) : Type 0 where
@@ -50,13 +50,14 @@ pass k p patterns units (Some c) e h = record {
     longest : (j n : ℕ) → RuleFits (p ∷ patterns) j units n → n ≤ c.size
     longest zero n f = absurd (false≢true (sym e ∙ head_fits p patterns units n f))
     longest (suc j) n f = h.longest j n (further p patterns units j n f)
+
     first : (j : ℕ) → RuleFits (p ∷ patterns) j units c.size → suc h.place ≤ j
     first zero f = absurd (false≢true (sym e ∙ head_fits p patterns units c.size f))
     first (suc j) f = let le = h.first j (further p patterns units j c.size f) in omega (arith, le)
 
 -- it fits, and no later one is longer
 take_head : (k size : ℕ) (p : List ℕ) (patterns : List (List ℕ)) (units : List (ℕ → Bool)) → fits p units ≡ true → size ≡ length p → ((j n : ℕ) → RuleFits patterns j units n → n ≤ size)
-  → IsFirst k (p ∷ patterns) units (record { rule = k; size = size })
+    → IsFirst k (p ∷ patterns) units (record { rule = k; size = size })
 take_head k size p patterns units e s h = record {
   place = 0;
   number = omega arith;
@@ -82,17 +83,18 @@ take_later k size p patterns units c s lt h = record {
     longest : (j n : ℕ) → RuleFits (p ∷ patterns) j units n → n ≤ c.size
     longest zero n f = let m = head_size p patterns units n f in omega (arith, m, s, lt)
     longest (suc j) n f = h.longest j n (further p patterns units j n f)
+
     first : (j : ℕ) → RuleFits (p ∷ patterns) j units c.size → suc h.place ≤ j
     first zero f = let m = head_size p patterns units c.size f in absurd (omega (arith, m, s, lt))
     first (suc j) f = let le = h.first j (further p patterns units j c.size f) in omega (arith, le)
 
 longer_at : (b : Bool) (k size : ℕ) (p : List ℕ) (patterns : List (List ℕ)) (units : List (ℕ → Bool)) (c : Choice) → nat_le c.size size ≡ b → fits p units ≡ true → size ≡ length p → IsFirst (k + 1) patterns units c
-  → IsFrom k (p ∷ patterns) units (cond b (Some (record { rule = k; size = size })) (Some c))
+    → IsFrom k (p ∷ patterns) units (cond b (Some (record { rule = k; size = size })) (Some c))
 longer_at true k size p patterns units c e f s h = take_head k size p patterns units f s (λ j n g. (let le = h.longest j n g in omega (arith, le, leb-true c.size size e)))
 longer_at false k size p patterns units c e f s h = take_later k size p patterns units c s (leb-false c.size size e) h
 
 longer_from : (b : Bool) (k : ℕ) (p : List ℕ) (patterns : List (List ℕ)) (units : List (ℕ → Bool)) (o : Option Choice) → fits p units ≡ b → IsFrom (k + 1) patterns units o
-  → IsFrom k (p ∷ patterns) units (longer (cond b (Some (record { rule = k; size = 0 + length p })) None) o)
+    → IsFrom k (p ∷ patterns) units (longer (cond b (Some (record { rule = k; size = 0 + length p })) None) o)
 longer_from false k p patterns units o e h = pass k p patterns units o e h
 longer_from true k p patterns units None e h = take_head k (0 + length p) p patterns units e (omega arith) (λ j n f. absurd (h j n f))
 longer_from true k p patterns units (Some c) e h = longer_at (nat_le c.size (0 + length p)) k (0 + length p) p patterns units c refl e (omega arith) h

@@ -1,7 +1,7 @@
 -- Tests on numbers and on the numbers of a list.
-use Rattle.std.proofs.Common.{◌≡◌, ℕ, zero, suc, ◌+◌, ◌<◌, ◌≤◌, ◌==◌, Bool, true, false, ◌&&◌, ◌||◌, cond, nat_lt, List, [], ◌∷◌, ◌++◌, length, Option, Some, None, refl, ap, sym, ◌∙◌, arith, inl, inr}
+use Rattle.std.proofs.Common.{◌≡◌, ℕ, ◌≤◌, ◌==◌, Bool, true, false, ◌&&◌, ◌||◌, cond, nat_lt, List, [], ◌∷◌, ◌++◌, Option, Some, None, refl, ap, sym, ◌∙◌, arith, inl, inr}
 use Rattle.std.specs.List.{filter}
-use Rattle.std.proofs.lemmas.Bool.{false≢true, eqb-true, eq-eqb, ne_eqb, or_cases, or_left, or_right, or_parts, cases_Bool, ltb-true, ltb-false}
+use Rattle.std.proofs.lemmas.Bool.{false≢true, eqb-true, eq-eqb, or_cases, or_left, or_right, ltb-true, ltb-false}
 use Rattle.ap_chunk.specs.Patterns.{has}
 use Rattle.ap_chunk.specs.Live.{IsLeast, lesser, least_from}
 
@@ -56,20 +56,29 @@ itself : (n : ℕ) → (n == n) ≡ true
 itself n = eq-eqb n n refl
 
 lesser_at : (b : Bool) (test : ℕ → Bool) (m n : ℕ) → nat_lt n m ≡ b → IsLeast test (Some m) → IsLeast (λ r. test r || (n == r)) (cond b (Some n) (Some m))
-lesser_at true test m n e h = (or_right (test n) (n == n) (itself n), λ r k. elim (or_cases (test r) (n == r) k) [
-  | inl t ↦ let le : m ≤ r = h.1 r t in omega (arith, ltb-true n m e)
-  | inr t ↦ omega (arith, eqb-true n r t)
-])
-lesser_at false test m n e h = (or_left (test m) (n == m) h.0, λ r k. elim (or_cases (test r) (n == r) k) [
-  | inl t ↦ h.1 r t
-  | inr t ↦ omega (arith, eqb-true n r t, ltb-false n m e)
-])
+lesser_at true test m n e h = (
+  or_right (test n) (n == n) (itself n),
+  λ r k. elim (or_cases (test r) (n == r) k) [
+    | inl t ↦ let le : m ≤ r = h.1 r t in omega (arith, ltb-true n m e)
+    | inr t ↦ omega (arith, eqb-true n r t)
+  ],
+)
+lesser_at false test m n e h = (
+  or_left (test m) (n == m) h.0,
+  λ r k. elim (or_cases (test r) (n == r) k) [
+    | inl t ↦ h.1 r t
+    | inr t ↦ omega (arith, eqb-true n r t, ltb-false n m e)
+  ],
+)
 
 lesser_is : (test : ℕ → Bool) (least : Option ℕ) (n : ℕ) → IsLeast test least → IsLeast (λ r. test r || (n == r)) (lesser least n)
-lesser_is test None n h = (or_right (test n) (n == n) (itself n), λ r k. elim (or_cases (test r) (n == r) k) [
-  | inl t ↦ absurd (false≢true (sym (h r) ∙ t))
-  | inr t ↦ omega (arith, eqb-true n r t)
-])
+lesser_is test None n h = (
+  or_right (test n) (n == n) (itself n),
+  λ r k. elim (or_cases (test r) (n == r) k) [
+    | inl t ↦ absurd (false≢true (sym (h r) ∙ t))
+    | inr t ↦ omega (arith, eqb-true n r t)
+  ],
+)
 lesser_is test (Some m) n h = lesser_at (nat_lt n m) test m n refl h
 
 pub least_of : (test : ℕ → Bool) (least : Option ℕ) (ns : List ℕ) → IsLeast test least → IsLeast (λ r. test r || has ns r) (least_from least ns)

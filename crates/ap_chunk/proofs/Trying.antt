@@ -1,13 +1,12 @@
 -- Tags with stars, tried from the left.
-use Rattle.std.proofs.Common.{◌≡◌, ℕ, zero, suc, ◌+◌, ◌-◌, ◌*◌, ◌<◌, ◌≤◌, Bool, true, false, ◌&&◌, ◌||◌, cond, List, [], ◌∷◌, length, get_or, take, drop, Option, Some, None, refl, ap, sym, ◌∙◌, arith, inl, inr, subst, slice_get}
-use Rattle.std.proofs.lemmas.Bool.{false≢true, and_parts, or_parts, or_from, or_cases, or_left, or_right}
+use Rattle.std.proofs.Common.{◌≡◌, ℕ, zero, suc, ◌+◌, ◌-◌, ◌*◌, ◌<◌, ◌≤◌, Bool, true, false, ◌&&◌, ◌||◌, cond, List, [], ◌∷◌, length, get_or, drop, Option, Some, None, refl, ap, sym, ◌∙◌, arith, inl, inr, subst, slice_get}
+use Rattle.std.proofs.lemmas.Bool.{false≢true, and_parts, or_cases, or_left, or_right}
 use Rattle.std.proofs.lemmas.List.{drop_more, drop_all, at_drop_more}
 use Rattle.ap_symbol.specs.declared.symbol.Symbol.{Symbol}
 use Rattle.ap_symbol.specs.declared.symbol.Symbol.TheVariants.{Star}
 use Rattle.ap_symbol.specs.Fitting.{fits_lem}
 use Rattle.ap_chunk.specs.Tests.{some_later, one_and, is_none, take_tags}
 use Rattle.ap_chunk.specs.Tried.{IsTried, meeting_of, fits_later, tried_at, steps_left}
-use Rattle.ap_chunk.specs.declared.tags.Meeting.{Meeting}
 use Rattle.ap_chunk.specs.declared.tags.Meeting.TheVariants as meeting
 use Rattle.ap_chunk.specs.declared.tags.LastStar.{LastStar}
 use Rattle.ap_chunk.specs.declared.tags.Trial.{Trial}
@@ -146,8 +145,8 @@ fail_false p x parts tags e = and_false (fits_lem true p x) (take_tags parts tag
 
 -- the next tag is equal to the next part
 fit_step : (parts tags : List Symbol) (trial : Trial) (p x : Symbol) → drop trial.part parts ≡ p ∷ drop (trial.part + 1) parts → drop trial.tag tags ≡ x ∷ drop (trial.tag + 1) tags
-  → trial.tag < length tags → meeting_of (Some p) x ≡ meeting.Fits → IsTried parts tags trial
-  → IsTried parts tags (record { part = trial.part + 1; tag = trial.tag + 1; star = trial.star })
+    → trial.tag < length tags → meeting_of (Some p) x ≡ meeting.Fits → IsTried parts tags trial
+    → IsTried parts tags (record { part = trial.part + 1; tag = trial.tag + 1; star = trial.star })
 fit_step parts tags trial p x ep ex h e tried =
     let more = drop (trial.part + 1) parts in
     let rest = drop (trial.tag + 1) tags in
@@ -165,14 +164,14 @@ at_star part tag = record { part = part; tag = tag; star = Some (record { part =
 
 -- the next part is a star, which takes the next tag
 star_step : (parts tags : List Symbol) (trial : Trial) (x : Symbol) → drop trial.part parts ≡ Star ∷ drop (trial.part + 1) parts → drop trial.tag tags ≡ x ∷ drop (trial.tag + 1) tags
-  → trial.tag < length tags → IsTried parts tags trial → IsTried parts tags (at_star (trial.part + 1) (trial.tag + 1))
+    → trial.tag < length tags → IsTried parts tags trial → IsTried parts tags (at_star (trial.part + 1) (trial.tag + 1))
 star_step parts tags trial x ep ex h tried =
     let more = drop (trial.part + 1) parts in
     let rest = drop (trial.tag + 1) tags in
     let later = fits_later parts tags trial.star in
     record {
       whole = tried.whole ∙ ap (λ l. take_tags l (drop trial.tag tags) || later) ep ∙ ap (λ l. take_tags (Star ∷ more) l || later) ex
-        ∙ star_forgets (take_tags more) x rest later (λ l. sym (ap (λ k. some_later (take_tags k) (drop trial.tag tags)) ep ∙ ap (λ k. some_later (take_tags (Star ∷ more)) k) ex) ∙ tried.forgotten l);
+          ∙ star_forgets (take_tags more) x rest later (λ l. sym (ap (λ k. some_later (take_tags k) (drop trial.tag tags)) ep ∙ ap (λ k. some_later (take_tags (Star ∷ more)) k) ex) ∙ tried.forgotten l);
       forgotten = λ l. l;
       order = omega arith;
       within = omega (arith, h);
@@ -180,28 +179,28 @@ star_step parts tags trial x ep ex h tried =
 
 -- the last star takes one tag more
 back_step : (parts tags : List Symbol) (trial : Trial) (star : LastStar) → trial.star ≡ Some star → trial.tag < length tags → take_tags (drop trial.part parts) (drop trial.tag tags) ≡ false
-  → IsTried parts tags trial → IsTried parts tags (at_star star.part (star.tag + 1))
+    → IsTried parts tags trial → IsTried parts tags (at_star star.part (star.tag + 1))
 back_step parts tags trial star es h e tried =
     let order : star.tag ≤ trial.tag = let P : Option LastStar → Type 0 = λ s. tried_at s ≤ trial.tag in subst P es tried.order in
     let lt : star.tag < length tags = omega (arith, h, order) in
     let rest = drop (star.tag + 1) tags in
     record {
       whole = tried.whole ∙ ap (λ b. b || fits_later parts tags trial.star) e ∙ ap (fits_later parts tags) es
-        ∙ at_drop_more (some_later (take_tags (drop star.part parts))) tags star.tag Star lt;
+          ∙ at_drop_more (some_later (take_tags (drop star.part parts))) tags star.tag Star lt;
       forgotten = λ l. l;
       order = omega arith;
       within = omega (arith, lt);
     }
 
 pub back_falls : (parts tags : List Symbol) (trial : Trial) (star : LastStar) → trial.star ≡ Some star → trial.tag < length tags → IsTried parts tags trial
-  → steps_left (length tags) (at_star star.part (star.tag + 1)) < steps_left (length tags) trial
+    → steps_left (length tags) (at_star star.part (star.tag + 1)) < steps_left (length tags) trial
 back_falls parts tags trial star es h tried =
     let e : tried_at trial.star ≡ star.tag = ap tried_at es in
     let order : tried_at trial.star ≤ trial.tag = tried.order in
     less_left (length tags) (tried_at trial.star) (star.tag + 1) trial.tag (star.tag + 1) (omega arith) (omega arith)
 
 pub back_on : (parts tags : List Symbol) (trial : Trial) (star : LastStar) → trial.star ≡ Some star → trial.tag < length tags → take_tags (drop trial.part parts) (drop trial.tag tags) ≡ false
-  → IsTried parts tags trial → IsTried parts tags (at_star star.part (star.tag + 1)) × (steps_left (length tags) (at_star star.part (star.tag + 1)) < steps_left (length tags) trial)
+    → IsTried parts tags trial → IsTried parts tags (at_star star.part (star.tag + 1)) × (steps_left (length tags) (at_star star.part (star.tag + 1)) < steps_left (length tags) trial)
 back_on parts tags trial star es h e tried = (back_step parts tags trial star es h e tried, back_falls parts tags trial star es h tried)
 
 pub no_way_back : (parts tags : List Symbol) (trial : Trial) → trial.star ≡ None → take_tags (drop trial.part parts) (drop trial.tag tags) ≡ false → IsTried parts tags trial → take_tags parts tags ≡ false
@@ -209,12 +208,12 @@ no_way_back parts tags trial es e tried = tried.whole ∙ ap (λ b. b || fits_la
 
 -- a step, by what the next part is for the next tag
 many_by : (o : Option Symbol) (parts tags : List Symbol) (trial : Trial) (x : Symbol) → IsLeft parts trial.part o → drop trial.tag tags ≡ x ∷ drop (trial.tag + 1) tags → trial.tag < length tags
-  → IsTried parts tags trial → meeting_of o x ≡ meeting.Many → IsTried parts tags (at_star (trial.part + 1) (trial.tag + 1))
+    → IsTried parts tags trial → meeting_of o x ≡ meeting.Many → IsTried parts tags (at_star (trial.part + 1) (trial.tag + 1))
 many_by None parts tags trial x left ex h tried e = cc
 many_by (Some p) parts tags trial x left ex h tried e = star_step parts tags trial x (left.0 ∙ ap (λ s. s ∷ drop (trial.part + 1) parts) (is_star p x e)) ex h tried
 
 fits_by : (o : Option Symbol) (parts tags : List Symbol) (trial : Trial) (x : Symbol) → IsLeft parts trial.part o → drop trial.tag tags ≡ x ∷ drop (trial.tag + 1) tags → trial.tag < length tags
-  → IsTried parts tags trial → meeting_of o x ≡ meeting.Fits → IsTried parts tags (record { part = trial.part + 1; tag = trial.tag + 1; star = trial.star })
+    → IsTried parts tags trial → meeting_of o x ≡ meeting.Fits → IsTried parts tags (record { part = trial.part + 1; tag = trial.tag + 1; star = trial.star })
 fits_by None parts tags trial x left ex h tried e = cc
 fits_by (Some p) parts tags trial x left ex h tried e = fit_step parts tags trial p x left.0 ex h e tried
 
@@ -226,19 +225,21 @@ left_tags : (tags : List Symbol) (at : ℕ) (x : Symbol) → at < length tags �
 left_tags tags at x h is = drop_more tags at x h ∙ ap (λ s. s ∷ drop (at + 1) tags) (sym is)
 
 pub many_on : (parts tags : List Symbol) (trial : Trial) (x : Symbol) → trial.tag < length tags → x ≡ get_or tags trial.tag x → IsTried parts tags trial → meeting_of (slice_get parts trial.part) x ≡ meeting.Many
-  → IsTried parts tags (at_star (trial.part + 1) (trial.tag + 1)) × (steps_left (length tags) (at_star (trial.part + 1) (trial.tag + 1)) < steps_left (length tags) trial)
+    → IsTried parts tags (at_star (trial.part + 1) (trial.tag + 1)) × (steps_left (length tags) (at_star (trial.part + 1) (trial.tag + 1)) < steps_left (length tags) trial)
 many_on parts tags trial x h is tried e =
-    let order : tried_at trial.star ≤ trial.tag = tried.order in
-    ( many_by (slice_get parts trial.part) parts tags trial x (left_at parts trial.part) (left_tags tags trial.tag x h is) h tried e
-    , less_left (length tags) (tried_at trial.star) (trial.tag + 1) trial.tag (trial.tag + 1) (omega arith) (omega arith))
+    let order : tried_at trial.star ≤ trial.tag = tried.order in (
+      many_by (slice_get parts trial.part) parts tags trial x (left_at parts trial.part) (left_tags tags trial.tag x h is) h tried e,
+      less_left (length tags) (tried_at trial.star) (trial.tag + 1) trial.tag (trial.tag + 1) (omega arith) (omega arith),
+    )
 
 pub fits_on : (parts tags : List Symbol) (trial : Trial) (x : Symbol) → trial.tag < length tags → x ≡ get_or tags trial.tag x → IsTried parts tags trial → meeting_of (slice_get parts trial.part) x ≡ meeting.Fits
-  → IsTried parts tags (record { part = trial.part + 1; tag = trial.tag + 1; star = trial.star }) × (steps_left (length tags) (record { part = trial.part + 1; tag = trial.tag + 1; star = trial.star }) < steps_left (length tags) trial)
-fits_on parts tags trial x h is tried e =
-    ( fits_by (slice_get parts trial.part) parts tags trial x (left_at parts trial.part) (left_tags tags trial.tag x h is) h tried e
-    , omega (arith, h))
+    → IsTried parts tags (record { part = trial.part + 1; tag = trial.tag + 1; star = trial.star }) × (steps_left (length tags) (record { part = trial.part + 1; tag = trial.tag + 1; star = trial.star }) < steps_left (length tags) trial)
+fits_on parts tags trial x h is tried e = (
+  fits_by (slice_get parts trial.part) parts tags trial x (left_at parts trial.part) (left_tags tags trial.tag x h is) h tried e,
+  omega (arith, h),
+)
 
 pub fails_on : (parts tags : List Symbol) (trial : Trial) (x : Symbol) → trial.tag < length tags → x ≡ get_or tags trial.tag x → meeting_of (slice_get parts trial.part) x ≡ meeting.Fails
-  → take_tags (drop trial.part parts) (drop trial.tag tags) ≡ false
+    → take_tags (drop trial.part parts) (drop trial.tag tags) ≡ false
 fails_on parts tags trial x h is e =
     ap (take_tags (drop trial.part parts)) (left_tags tags trial.tag x h is) ∙ fails_by (slice_get parts trial.part) parts trial.part x (drop (trial.tag + 1) tags) (left_at parts trial.part) e

@@ -1,5 +1,5 @@
 -- Going on unit by unit: the rules that are live after so many units, and the least one whose pattern is over there.
-use Rattle.std.specs.Prelude.{◌≡◌, ℕ, ◌+◌, ◌<◌, ◌≤◌, Bool, true, false, ◌&&◌, List, [], ◌∷◌, ◌++◌, length, drop, Option, Some, None, slice_get, min, nat_lt, if◌then◌else◌}
+use Rattle.std.specs.Prelude.{◌≡◌, ℕ, ◌<◌, ◌≤◌, Bool, true, false, ◌&&◌, List, [], ◌∷◌, length, drop, Option, Some, None, slice_get, nat_lt, if◌then◌else◌}
 use Rattle.ap_chunk.specs.declared.keeping.Met.{Met}
 use Rattle.ap_chunk.specs.declared.keeping.Met.TheVariants as met
 use Rattle.ap_chunk.specs.Patterns.{list_at, has, is_filled}

@@ -37,9 +37,7 @@ fn item_takes(form: Form, item: &CatItem, lemma: &[Symbol], tags: &[Symbol]) -> 
 fn some_takes(form: Form, items: &[CatItem], lemma: &[Symbol], tags: &[Symbol]) -> bool
     ensures { result ≡ list_any (λ item. item_takes form item lemma.now tags.now) items.now }
 {
-    items
-        .iter()
-        .any(|item| item_takes(form, item, lemma, tags))
+    items.iter().any(|item| item_takes(form, item, lemma, tags))
 }
 
 /// Whether a category takes a word whose tags begin at this place, if any category may take it.

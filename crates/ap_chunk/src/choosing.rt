@@ -127,13 +127,7 @@ impl Choosing {
         ensures { (units : List (ℕ → Bool)) (u : ℕ → Bool) → Stands self.now (units ++ u ∷ []) → IsSpan self.now.patterns units before → IsSpan self.now.patterns (units ++ u ∷ []) result }
     {
         match self.over {
-            None => {
-                if self.goes_on() {
-                    self.count
-                } else {
-                    before
-                }
-            }
+            None => { if self.goes_on() { self.count } else { before } }
             Some(_) => self.count,
         }
     }

@@ -8,6 +8,8 @@ mod keeping;
 mod laws;
 mod patterns;
 mod tags;
+#[cfg(test)]
+mod tests;
 mod words;
 
 pub use categories::{row, takes};

@@ -1,4 +1,4 @@
-use Rattle.std.proofs.Common.{◌≡◌, ◌&&◌, ◌∙◌, ap, sym}
+use Rattle.std.proofs.Common.{◌&&◌, ◌∙◌, ap, sym}
 use Rattle.ap_chunk.specs.Choice.{unit_of}
 use Rattle.ap_chunk.specs.Live.{stays, finishes}
 use Rattle.ap_chunk.specs.Patterns.{has, list_at}

@@ -1,4 +1,4 @@
-use Rattle.std.proofs.Common.{◌≡◌, ℕ, ◌==◌, ◌&&◌, ◌||◌, ◌∙◌, ap}
+use Rattle.std.proofs.Common.{◌==◌, ◌&&◌, ◌||◌, ◌∙◌, ap}
 use Rattle.ap_chunk.specs.Patterns.{lists, list_at, has, begins_with}
 use Rattle.ap_chunk.proofs.Indexing.{index_more}
 use Rattle.ap_chunk.proofs.patterns.index.Goals as goal

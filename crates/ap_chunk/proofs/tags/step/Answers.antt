@@ -18,5 +18,5 @@ go_back-requires c = record {
   tried = c.requires.tried;
   within = c.requires.within;
   fails = fails_on c.args.parts.now c.args.tags.now c.args.trial c.index-tags-trial.result c.requires.within c.index-tags-trial.is
-    (ap (λ o. meeting_of o c.index-tags-trial.result) (sym c.part_at.ensures.value) ∙ sym c.compare.ensures ∙ c.in-Fails.is);
+      (ap (λ o. meeting_of o c.index-tags-trial.result) (sym c.part_at.ensures.value) ∙ sym c.compare.ensures ∙ c.in-Fails.is);
 }

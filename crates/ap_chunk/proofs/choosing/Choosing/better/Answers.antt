@@ -1,4 +1,4 @@
-use Rattle.std.proofs.Common.{◌≡◌, sym, ◌∙◌, ap, ◌++◌, ◌∷◌, []}
+use Rattle.std.proofs.Common.{sym, ◌∙◌, ap, ◌++◌, ◌∷◌, []}
 use Rattle.ap_chunk.specs.Live.{Standing}
 use Rattle.ap_chunk.proofs.Chosen.{none_more, none_first, some_chosen}
 use Rattle.ap_chunk.proofs.choosing.Choosing.better.Goals as goal

@@ -15,7 +15,7 @@ returns-then-not-goes_on-clause-choice c =
     let P : List (ℕ → Bool) → Type 0 = λ us. IsChosen c.units.self.patterns us c.units.choice in
     let Q : List (List ℕ) → Type 0 = λ ps. IsChosen ps (units_of rows) c.units.choice in
     subst Q c.units.invariant.patterns (subst P (rows_parts at rows) (choice_dead c.units.self.patterns (units_of (take at rows)) (units_of (drop at rows)) c.units.choice
-      (λ live. both_ways c.goes_on.result c.if-not-goes_on.true ((c.goes_on.ensures (units_of (take at rows)) c.units.invariant.stands).1 live)) c.units.invariant.choice))
+    (λ live. both_ways c.goes_on.result c.if-not-goes_on.true ((c.goes_on.ensures (units_of (take at rows)) c.units.invariant.stands).1 live)) c.units.invariant.choice))
 
 pub returns-then-not-goes_on-clause-exact : goal.returns-then-not-goes_on-clause-exact
 returns-then-not-goes_on-clause-exact c =
@@ -30,7 +30,7 @@ returns-then-not-goes_on-clause-span c =
     let P : List (ℕ → Bool) → Type 0 = λ us. IsSpan c.units.self.patterns us c.units.span in
     let Q : List (List ℕ) → Type 0 = λ ps. IsSpan ps (units_of rows) c.units.span in
     subst Q c.units.invariant.patterns (subst P (rows_parts at rows) (span_dead c.units.self.patterns (units_of (take at rows)) (units_of (drop at rows)) c.units.span
-      (λ live. both_ways c.goes_on.result c.if-not-goes_on.true ((c.goes_on.ensures (units_of (take at rows)) c.units.invariant.stands).1 live)) c.units.invariant.span))
+    (λ live. both_ways c.goes_on.result c.if-not-goes_on.true ((c.goes_on.ensures (units_of (take at rows)) c.units.invariant.stands).1 live)) c.units.invariant.span))
 
 pub units-preserved : goal.units-preserved
 units-preserved c =
@@ -61,4 +61,4 @@ returns-clause-exact c =
     let P : List (ℕ → Bool) → Type 0 = λ us. IsChosen c.units.self.patterns us c.units.choice in
     let Q : List (List ℕ) → Type 0 = λ qs. IsChosen qs (units_of rows) c.units.choice in
     one_choice ps (units_of rows) c.units.choice (chosen_of ps (units_of rows))
-      (subst Q c.units.invariant.patterns (subst P (ap units_of (take_all c.units.unit-index rows c.units-test.false)) c.units.invariant.choice)) (chosen_is ps (units_of rows))
+    (subst Q c.units.invariant.patterns (subst P (ap units_of (take_all c.units.unit-index rows c.units-test.false)) c.units.invariant.choice)) (chosen_is ps (units_of rows))

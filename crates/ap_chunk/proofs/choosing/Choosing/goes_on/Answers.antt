@@ -1,4 +1,4 @@
-use Rattle.std.proofs.Common.{◌≡◌, ◌==◌, ◌↔◌, ◌<◌, ℕ, Bool, true, false, not, List, [], ◌∷◌, length, IsTrue, refl, ap, sym, ◌∙◌, subst, arith}
+use Rattle.std.proofs.Common.{◌≡◌, ◌==◌, ◌↔◌, ◌<◌, ℕ, Bool, true, not, List, [], ◌∷◌, length, IsTrue, refl, ap, sym, ◌∙◌, subst, arith}
 use Rattle.std.proofs.lemmas.Bool.{eq-eqb, ne_eqb, or_left, false≢true}
 use Rattle.std.specs.List.{list_any}
 use Rattle.ap_chunk.specs.Live.{Standing, Stands, SomeLive}
@@ -21,9 +21,10 @@ has_some (x ∷ live) b r e h = ap not (e ∙ ne_eqb (length (x ∷ live)) 0 (λ
 behind : (s : Standing) (b : Bool) → (s.count ≡ 0 → ⊥) → b ≡ (length s.live == 0) → (units : List (ℕ → Bool)) → Stands s units → IsTrue (not b) ↔ SomeLive s.patterns units
 behind s b n e units stands =
     let k : s.count ≡ length units = stands.counted in
-    let some : 0 < length units = omega (arith, n, k) in
-    ( λ h. let w = some_has s.live b e h in record { rule = w.0; live = sym (stands.rules some w.0) ∙ w.1 }
-    , λ h. has_some s.live b h.rule e (stands.rules some h.rule ∙ h.live))
+    let some : 0 < length units = omega (arith, n, k) in (
+      λ h. let w = some_has s.live b e h in record { rule = w.0; live = sym (stands.rules some w.0) ∙ w.1 },
+      λ h. has_some s.live b h.rule e (stands.rules some h.rule ∙ h.live),
+    )
 
 pub returns-then-self-eq0 : goal.returns-then-self-eq0
 returns-then-self-eq0 c =

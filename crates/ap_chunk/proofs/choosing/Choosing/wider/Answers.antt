@@ -1,4 +1,4 @@
-use Rattle.std.proofs.Common.{◌≡◌, sym, ◌∙◌, ap, ◌++◌, ◌∷◌, []}
+use Rattle.std.proofs.Common.{sym, ◌∙◌, ap, ◌++◌, ◌∷◌, []}
 use Rattle.std.proofs.lemmas.Bool.{both_ways}
 use Rattle.ap_chunk.specs.Live.{Standing}
 use Rattle.ap_chunk.proofs.Chosen.{live_wider, over_wider, none_wider}
@@ -11,7 +11,7 @@ returns-then-goes_on c = λ units u stands was.
 pub returns-else-goes_on : goal.returns-else-goes_on
 returns-else-goes_on c = λ units u stands was.
     none_wider c.args.self.now c.args.before (sym (ap (λ (s : Standing). s.over) c.self.view_is) ∙ c.in-None.is) units u stands
-      (λ live. both_ways c.goes_on.result c.if-goes_on.false ((c.goes_on.ensures (units ++ u ∷ []) stands).1 live)) was
+    (λ live. both_ways c.goes_on.result c.if-goes_on.false ((c.goes_on.ensures (units ++ u ∷ []) stands).1 live)) was
 
 pub returns-in-Some : goal.returns-in-Some
 returns-in-Some c = λ units u stands was.

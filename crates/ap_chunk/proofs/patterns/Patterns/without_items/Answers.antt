@@ -1,4 +1,4 @@
-use Rattle.std.proofs.Common.{◌≡◌, ◌<◌, ◌≤◌, length, Option, Some, None, ℕ, List, subst, [], arith}
+use Rattle.std.proofs.Common.{Some, None, ℕ, List, subst, [], arith}
 use Rattle.ap_chunk.specs.Live.{IsLeast, is_over}
 use Rattle.ap_chunk.proofs.Indexing.{least_empty, no_empty}
 use Rattle.ap_chunk.proofs.patterns.Patterns.without_items.Goals as goal
