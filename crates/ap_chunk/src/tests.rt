@@ -13,27 +13,34 @@ const POSTCHUNK: &str =
 const CHOICE: &str =
     "<transfer><section-def-cats><def-cat n=\"a\"><cat-item tags=\"a\"/></def-cat><def-cat n=\"b\"><cat-item tags=\"b\"/></def-cat><def-cat n=\"c\"><cat-item tags=\"c\"/></def-cat></section-def-cats><section-rules><rule><pattern><pattern-item n=\"b\"/></pattern><action></action></rule><rule><pattern><pattern-item n=\"a\"/></pattern><action></action></rule><rule><pattern><pattern-item n=\"b\"/><pattern-item n=\"b\"/><pattern-item n=\"c\"/></pattern><action></action></rule><rule><pattern><pattern-item n=\"a\"/><pattern-item n=\"b\"/></pattern><action></action></rule><rule><pattern><pattern-item n=\"a\"/><pattern-item n=\"b\"/></pattern><action></action></rule><rule><pattern><pattern-item n=\"a\"/><pattern-item n=\"b\"/><pattern-item n=\"c\"/><pattern-item n=\"a\"/></pattern><action></action></rule></section-rules></transfer>";
 
-fn push_lemma(lemma: &str, into: &mut Vec<Symbol>) -> Result<(), Fail> {
-    for c in lemma.chars() {
-        into.push(match c {
-            '*' => Symbol::Star,
-            '@' => Symbol::At,
-            '#' => Symbol::Queue,
-            _ => Symbol::Letter(c),
-        })?;
+fn symbol(c: char) -> Symbol {
+    match c {
+        '*' => Symbol::Star,
+        '@' => Symbol::At,
+        '#' => Symbol::Queue,
+        _ => Symbol::Letter(c),
     }
-    Ok(())
 }
 
-/// A word of a lemma, of these tags and of what stands behind them.
-fn word(alloc: Global, lemma: &str, tags: &[&str], end: &str) -> Result<Vec<Symbol>, Fail> {
+/// The word that a text spells, as `casa<n><f>`.
+fn word(alloc: Global, text: &str) -> Result<Vec<Symbol>, Fail> {
     let mut made = Vec::new(alloc);
-    push_lemma(lemma, &mut made)?;
-    for tag in tags {
-        let name = TagName::new(alloc, tag)?.ok_or("no name of a tag")?;
-        made.push(Symbol::Tag(name))?;
+    let mut name = String::new(alloc);
+    let mut in_tag = false;
+    for c in text.chars() {
+        if c == '<' {
+            in_tag = true;
+            name.clear();
+        } else if c == '>' {
+            in_tag = false;
+            let tag = TagName::new(alloc, name.as_str())?.ok_or("no name of a tag")?;
+            made.push(Symbol::Tag(tag))?;
+        } else if in_tag {
+            name.push(c)?;
+        } else {
+            made.push(symbol(c))?;
+        }
     }
-    push_lemma(end, &mut made)?;
     Ok(made)
 }
 
@@ -45,34 +52,34 @@ fn shown(alloc: Global, row: &[bool]) -> Result<String, Fail> {
     Ok(text)
 }
 
+/// For each category of the rules, 1 where it takes the word and 0 where it doesn't.
+fn shown_row(alloc: Global, rules: &Rules, text: &str) -> Result<String, Fail> {
+    let mut row_of_word = Vec::new(alloc);
+    row(rules, word(alloc, text)?.as_slice(), &mut row_of_word)?;
+    shown(alloc, row_of_word.as_slice())
+}
+
 #[test]
 fn words_of_categories(rt: HostRuntime) -> Result<(), Fail> {
     let alloc = rt.alloc();
     let rules = read_rules(alloc, TRANSFER.as_bytes(), Form::Transfer)?;
-    let mut row_of_word = Vec::new(alloc);
-    let cases: [(&str, &[&str], &str, &str); 14] = [
-        ("a", &["adj", "f", "sg"], "", "10001"),
-        ("a", &["adj", "f", "sg", "sg"], "", "10001"),
-        ("a", &["adj", "sg"], "", "00001"),
-        ("a", &["adj", "f", "sg", "pl"], "", "00001"),
-        ("perro", &["n"], "", "01001"),
-        ("perro", &["n", "m", "sg"], "", "01001"),
-        ("cAsa", &["n", "f", "x", "pl"], "", "01101"),
-        ("CASA", &["n", "f", "x", "pl"], "", "01101"),
-        ("casa", &["n", "f", "x", "pl"], "", "01001"),
-        ("casa", &[], "", "00010"),
-        ("", &["n"], "", "01001"),
-        ("*casa", &[], "", "00000"),
-        ("@casa", &["n"], "", "00000"),
-        ("casa", &["n"], "#", "00000"),
-    ];
-    for (lemma, tags, end, want) in &cases {
-        row(
-            &rules,
-            word(alloc, lemma, tags, end)?.as_slice(),
-            &mut row_of_word,
-        )?;
-        assert_eq!(rt; shown(alloc, row_of_word.as_slice())?.as_str(), *want);
+    for (text, want) in [
+        ("a<adj><f><sg>", "10001"),
+        ("a<adj><f><sg><sg>", "10001"),
+        ("a<adj><sg>", "00001"),
+        ("a<adj><f><sg><pl>", "00001"),
+        ("perro<n>", "01001"),
+        ("perro<n><m><sg>", "01001"),
+        ("cAsa<n><f><x><pl>", "01101"),
+        ("CASA<n><f><x><pl>", "01101"),
+        ("casa<n><f><x><pl>", "01001"),
+        ("casa", "00010"),
+        ("<n>", "01001"),
+        ("*casa", "00000"),
+        ("@casa<n>", "00000"),
+        ("casa<n>#", "00000"),
+    ] {
+        assert_eq!(rt; shown_row(alloc, &rules, text)?.as_str(), want);
     }
     Ok(())
 }
@@ -81,21 +88,14 @@ fn words_of_categories(rt: HostRuntime) -> Result<(), Fail> {
 fn names_of_chunks(rt: HostRuntime) -> Result<(), Fail> {
     let alloc = rt.alloc();
     let rules = read_rules(alloc, POSTCHUNK.as_bytes(), Form::Postchunk)?;
-    let mut row_of_word = Vec::new(alloc);
-    let cases: [(&str, &[&str], &str, &str); 5] = [
-        ("sn", &["x", "y"], "", "10"),
-        ("SN", &[], "", "11"),
-        ("Sn", &["x"], "", "10"),
-        ("*sn", &[], "", "00"),
-        ("sn", &["x"], "#", "00"),
-    ];
-    for (lemma, tags, end, want) in &cases {
-        row(
-            &rules,
-            word(alloc, lemma, tags, end)?.as_slice(),
-            &mut row_of_word,
-        )?;
-        assert_eq!(rt; shown(alloc, row_of_word.as_slice())?.as_str(), *want);
+    for (text, want) in [
+        ("sn<x><y>", "10"),
+        ("SN", "11"),
+        ("Sn<x>", "10"),
+        ("*sn", "00"),
+        ("sn<x>#", "00"),
+    ] {
+        assert_eq!(rt; shown_row(alloc, &rules, text)?.as_str(), want);
     }
     Ok(())
 }
