@@ -7,3 +7,4 @@ pub mod Lives
 pub mod Chosen
 pub mod Going
 pub mod Tried
+pub mod RowLaws

@@ -5,3 +5,4 @@ pub mod Patterns
 pub mod Choice
 pub mod Live
 pub mod Going
+pub mod Rows

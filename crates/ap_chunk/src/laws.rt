@@ -1,4 +1,5 @@
 ghost use Rattle.ap_chunk.specs.Going.{GoesOnAlike, OneIsChosen, TriesAll};
+ghost use Rattle.ap_chunk.specs.Rows.{RowsTell};
 
 /// The law that going on unit by unit, from the places in patterns that fit so far, chooses what
 /// trying every rule on the whole list chooses. It is a statement alone and does nothing.
@@ -16,4 +17,10 @@ pub fn trying_all_chooses()
 /// The law that one choice alone is so. It is a statement alone and does nothing.
 pub fn one_is_chosen()
     ensures { OneIsChosen }
+{}
+
+/// The law that a unit with the row of a word is of those categories that take the word, and of no
+/// others. It is a statement alone and does nothing.
+pub fn rows_tell()
+    ensures { RowsTell }
 {}

@@ -15,4 +15,4 @@ mod words;
 pub use categories::{row, takes};
 pub use choice::{Choice, Found};
 pub use choosing::Choosing;
-pub use laws::{going_on_chooses, one_is_chosen, trying_all_chooses};
+pub use laws::{going_on_chooses, one_is_chosen, rows_tell, trying_all_chooses};
