@@ -1,0 +1,10 @@
+pub mod Dividing
+pub mod Trying
+pub mod Taking
+pub mod Truths
+pub mod Indexing
+pub mod Lives
+pub mod Chosen
+pub mod Going
+pub mod Tried
+pub mod RowLaws

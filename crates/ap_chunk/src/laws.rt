@@ -1,0 +1,26 @@
+ghost use Rattle.ap_chunk.specs.Going.{GoesOnAlike, OneIsChosen, TriesAll};
+ghost use Rattle.ap_chunk.specs.Rows.{RowsTell};
+
+/// The law that going on unit by unit, from the places in patterns that fit so far, chooses what
+/// trying every rule on the whole list chooses. It is a statement alone and does nothing.
+pub fn going_on_chooses()
+    ensures { GoesOnAlike }
+{}
+
+/// The law that trying every rule on the whole list chooses the rule with the longest pattern that
+/// fits, and among equally long ones the one earlier in the file. It is a statement alone and does
+/// nothing.
+pub fn trying_all_chooses()
+    ensures { TriesAll }
+{}
+
+/// The law that one choice alone is so. It is a statement alone and does nothing.
+pub fn one_is_chosen()
+    ensures { OneIsChosen }
+{}
+
+/// The law that a unit with the row of a word is of those categories that take the word, and of no
+/// others. It is a statement alone and does nothing.
+pub fn rows_tell()
+    ensures { RowsTell }
+{}
