@@ -1,0 +1,12 @@
+pub mod Results
+pub mod Units
+pub mod Held
+pub mod Parts
+pub mod Comparing
+pub mod Values
+pub mod Conditions
+pub mod Writing
+pub mod Pieces
+pub mod Running
+pub mod Acting
+pub mod States
