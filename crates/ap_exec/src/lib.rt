@@ -2,12 +2,16 @@
 #![tactic(auto)]
 
 mod comparing;
+mod filling;
 mod lent;
 mod matched;
 mod refusal;
 mod state;
 mod template;
+mod vars;
 
+pub use filling::fill;
 pub use matched::{Matched, MatchedUnit, MatchedUnits};
 pub use refusal::ExecRefusal;
 pub use template::{Atom, Atoms, Blanks, Piece, Template};
+pub use vars::Vars;

@@ -1,0 +1,57 @@
+ghost use Rattle.std.specs.Prelude.{◌≡◌, IfOk, length, map, slice_get};
+ghost use Rattle.std.specs.Option.{option_copied};
+ghost use Rattle.ap_exec.specs.Starting.{start_of};
+
+use ap_rules::Rules;
+use ap_symbol::{Memory, Word};
+use std::alloc::Global;
+use std::marker::Model;
+
+/// What the variables of rules hold, each by its number, counted from 0. It is seen as the list of their words.
+#[derive(Debug, Drop)]
+pub struct Vars {
+    words: Vec<Word>,
+}
+
+impl Model for Vars {
+    ghost use Rattle.std.specs.Prelude.{List};
+    ghost use Rattle.ap_symbol.specs.declared.symbol.Symbol.{Symbol};
+
+    ghost Value = { List (List Symbol) };
+
+    ghost view = { λ v. v.words.items };
+}
+
+impl Vars {
+    /// What the variables hold at the start: the words that the rules state. The error means want of memory.
+    pub fn start(alloc: Global, rules: &Rules) -> Result<Vars, Memory>
+        ensures { IfOk result (λ vars. vars ≡ start_of rules.now) }
+    {
+        let mut words = Vec::with_capacity(alloc, rules.variables.len())?;
+        'variables: for variable in rules.variables.as_slice() {
+            words.push(variable.v.copy(alloc)?)?;
+        }
+        Ok(Vars { words })
+    }
+
+    /// The number of variables.
+    pub fn len(&self) -> usize
+        ensures { result ≡ length self.now }
+    {
+        self.words.len()
+    }
+
+    /// What the variable of this number holds, or none where there is no such variable.
+    pub fn get(&self, n: usize) -> Option<&Word>
+        ensures { option_copied result ≡ slice_get self.now n }
+    {
+        self.words.get(n)
+    }
+
+    /// The words in order.
+    pub fn as_slice(&self) -> &[Word]
+        ensures { result.now ≡ self.now }
+    {
+        self.words.as_slice()
+    }
+}
