@@ -12,3 +12,6 @@ pub mod Acting
 pub mod States
 pub mod Filling
 pub mod Starting
+pub mod Choosing
+pub mod Costs
+pub mod Stacks
