@@ -15,3 +15,4 @@ pub mod Starting
 pub mod Choosing
 pub mod Costs
 pub mod Stacks
+pub mod Beginning

@@ -1,6 +1,8 @@
 //! What a rule means: running the rules of a rule file on a match, and filling what they give.
 #![tactic(auto)]
 
+mod acting;
+mod beginning;
 mod comparing;
 mod filling;
 mod lent;
@@ -13,6 +15,7 @@ mod state;
 mod template;
 mod vars;
 
+pub use acting::act;
 pub use filling::fill;
 pub use matched::{Matched, MatchedUnit, MatchedUnits};
 pub use refusal::ExecRefusal;

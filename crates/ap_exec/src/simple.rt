@@ -1,5 +1,6 @@
 //! Stubs: to be the simple statements.
-ghost use Rattle.std.specs.Prelude.{◌≡◌, map};
+ghost use Rattle.std.specs.Prelude.{◌≡◌, ◌++◌, OnOk, map};
+ghost use Rattle.ap_symbol.specs.Words.{AreProper};
 ghost use Rattle.ap_rules.specs.Plain.{assign, append, out, modify_case};
 ghost use Rattle.ap_rules.specs.Views.{plain_condition, plain_value, plain_values, plain_piece};
 ghost use Rattle.ap_exec.specs.Conditions.{holds};
@@ -10,6 +11,7 @@ ghost use Rattle.ap_exec.specs.Units.{number_at};
 
 use crate::refusal::ExecRefusal;
 use crate::state::{State, View, World};
+use ap_symbol::{Memory, Symbol, Word};
 use ap_rules::{Append, Condition, Let, ModifyCase, Out};
 use std::alloc::Global;
 
@@ -73,4 +75,15 @@ pub(crate) fn modify_case(_alloc: Global, world: World<'_>, here: &[Option<usize
     ensures { Gives (λ _. now world.entry state.new) result (run (still world.entry) (called (still world.entry) 0) here.now (modify_case held.now.place (plain_value held.now.value)) (now world.entry state.old)) }
 {
     Err(ExecRefusal::Memory)
+}
+
+/// Appends symbols of a word.
+pub(crate) fn append_symbols(alloc: Global, symbols: &[Symbol], into: &mut Word) -> Result<(), Memory>
+    requires { AreProper symbols.now }
+    ensures { OnOk result (into.new ≡ into.old ++ symbols.now) }
+{
+    for symbol in symbols {
+        into.push(symbol.copy(alloc)?)?;
+    }
+    Ok(())
 }

@@ -1,6 +1,7 @@
 ghost use Rattle.std.specs.Prelude.{◌≡◌, IfOk, length, map, slice_get};
 ghost use Rattle.std.specs.Option.{option_copied};
-ghost use Rattle.ap_exec.specs.Starting.{start_of};
+ghost use Rattle.ap_exec.specs.Starting.{start_of, with_new};
+ghost use Rattle.ap_exec.specs.States.{overlaid};
 
 use ap_rules::Rules;
 use ap_symbol::{Memory, Word};
@@ -22,6 +23,27 @@ impl Model for Vars {
     ghost view = { λ v. v.words.items };
 }
 
+/// Puts in a new value, where there is one.
+fn put_one(words: &mut Vec<Word>, at: usize, new: Option<Word>)
+    ensures { words.new.items ≡ with_new words.old.items at new }
+{
+    if let Some(word) = new {
+        if at < words.len() {
+            words[at] = word;
+        }
+    }
+}
+
+/// Puts in new values, from the last one on.
+fn put_all(words: &mut Vec<Word>, fresh: Vec<Option<Word>>)
+    ensures { words.new.items ≡ overlaid words.old.items fresh.items }
+{
+    let mut rest = fresh;
+    'rest: while let Some(new) = rest.pop() {
+        put_one(words, rest.len(), new);
+    }
+}
+
 impl Vars {
     /// What the variables hold at the start: the words that the rules state. The error means want of memory.
     pub fn start(alloc: Global, rules: &Rules) -> Result<Vars, Memory>
@@ -32,6 +54,13 @@ impl Vars {
             words.push(variable.v.copy(alloc)?)?;
         }
         Ok(Vars { words })
+    }
+
+    /// Gives variables their new values. It takes no memory.
+    pub(crate) fn put(&mut self, fresh: Vec<Option<Word>>)
+        ensures { self.new ≡ overlaid self.old fresh.items }
+    {
+        put_all(&mut self.words, fresh);
     }
 
     /// The number of variables.
