@@ -10,3 +10,5 @@ pub mod Pieces
 pub mod Running
 pub mod Acting
 pub mod States
+pub mod Ranges
+pub mod Compounds

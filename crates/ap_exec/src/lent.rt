@@ -54,7 +54,7 @@ impl<'a> Lent<'a> {
         content: &'a [Inner],
     ) -> Lent<'a>
         requires { border ≤ length (word_in target) }
-        ensures { result ≡ record { source = word_in source; target = word_in target; border = border; content = content.now } }
+        ensures { result ≡ record { source = word_in source.entry; target = word_in target.entry; border = border; content = content.now } }
     {
         Lent {
             source,

@@ -1,12 +1,19 @@
-//! What a rule means: running the rules of a rule file on a match, and filling what they give.
+//! What a rule does to the units that it matches: its template, and the template with its slots filled.
 #![tactic(auto)]
 
+mod changes;
+mod clips;
 mod comparing;
+mod conditions;
 mod lent;
 mod matched;
+mod pieces;
 mod refusal;
+mod sizes;
 mod state;
 mod template;
+mod values;
+mod writing;
 
 pub use matched::{Matched, MatchedUnit, MatchedUnits};
 pub use refusal::ExecRefusal;

@@ -26,9 +26,9 @@ pub(crate) struct State<'a> {
 
 /// What values are read from. At each position stands the number of a unit, where there is one.
 #[derive(Clone, Copy)]
-pub(crate) struct View<'a> {
+pub(crate) struct View<'a, 'u> {
     pub(crate) world: World<'a>,
     pub(crate) here: &'a [Option<usize>],
-    pub(crate) units: &'a [Lent<'a>],
+    pub(crate) units: &'a [Lent<'u>],
     pub(crate) fresh: &'a [Option<Word>],
 }
