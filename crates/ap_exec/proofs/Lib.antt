@@ -1,3 +1,10 @@
+pub mod Proper
+pub mod Bounds
+pub mod Trees
+pub mod Joins
+pub mod SameLetters
+pub mod Overlays
+pub mod Compounds
 pub mod Fills
 pub mod Stacking
 pub mod Begins

@@ -10,6 +10,8 @@ pub mod Pieces
 pub mod Running
 pub mod Acting
 pub mod States
+pub mod Ranges
+pub mod Compounds
 pub mod Filling
 pub mod Starting
 pub mod Choosing

@@ -9,7 +9,7 @@ ghost use Rattle.ap_exec.specs.States.{still};
 
 use crate::lent::{Held, Lent};
 use crate::matched::{Matched, MatchedUnit};
-use crate::simple::append_symbols;
+use crate::values::append;
 use crate::state::World;
 use ap_rules::{Rules, Statement};
 use ap_symbol::{Memory, Word};
@@ -45,7 +45,7 @@ fn joined(alloc: Global, head: &Word, queue: &Word) -> Result<Word, Memory>
     ensures { IfOk result (λ made. made ≡ head.now ++ queue.now) }
 {
     let mut made = head.copy(alloc)?;
-    append_symbols(alloc, queue.symbols(), &mut made)?;
+    append(alloc, queue.symbols(), &mut made)?;
     Ok(made)
 }
 

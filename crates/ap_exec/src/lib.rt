@@ -1,19 +1,25 @@
-//! What a rule means: running the rules of a rule file on a match, and filling what they give.
+//! What a rule does to the units that it matches: its template, and the template with its slots filled.
 #![tactic(auto)]
 
 mod acting;
 mod beginning;
+mod changes;
+mod clips;
 mod comparing;
+mod conditions;
 mod filling;
 mod lent;
 mod matched;
+mod pieces;
 mod refusal;
 mod running;
-mod simple;
+mod sizes;
 mod stack;
 mod state;
 mod template;
+mod values;
 mod vars;
+mod writing;
 
 pub use acting::act;
 pub use filling::fill;

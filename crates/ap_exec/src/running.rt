@@ -10,7 +10,9 @@ ghost use Rattle.ap_exec.specs.Stacks.{left, rest_first, one_first, StandsOn, Is
 ghost use Rattle.ap_exec.specs.States.{body_in, now, still, sight};
 
 use crate::refusal::ExecRefusal;
-use crate::simple::{append, assign, holds, modify_case, number_at, put_out, view_of};
+use crate::changes::{append, assign, modify_case, put_out, view_of};
+use crate::clips::number_at;
+use crate::conditions::holds;
 use crate::stack::{Frame, Scope, Stack};
 use crate::state::{State, View, World};
 use ap_rules::{CallMacro, Choose, DefMacro, Statement, When};
