@@ -5,3 +5,5 @@ pub mod Joins
 pub mod SameLetters
 pub mod Overlays
 pub mod Compounds
+pub mod WordLaws
+pub mod Splices

@@ -12,3 +12,4 @@ pub mod Acting
 pub mod States
 pub mod Ranges
 pub mod Compounds
+pub mod WordLaws

@@ -13,8 +13,10 @@ mod sizes;
 mod state;
 mod template;
 mod values;
+mod word_laws;
 mod writing;
 
 pub use matched::{Matched, MatchedUnit, MatchedUnits};
 pub use refusal::ExecRefusal;
 pub use template::{Atom, Atoms, Blanks, Piece, Template};
+pub use word_laws::{words_are_compared, written_parts_are_read};

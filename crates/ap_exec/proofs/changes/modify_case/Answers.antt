@@ -1,4 +1,4 @@
-use Rattle.std.proofs.Common.{◌≡◌, ◌∙◌, ap, List}
+use Rattle.std.proofs.Common.{◌∙◌, ap, List}
 use Rattle.ap_symbol.specs.declared.symbol.Symbol.{Symbol}
 use Rattle.ap_rules.specs.Views.{plain_value}
 use Rattle.ap_exec.specs.Running.{sight_of, with_place, recased_at}
