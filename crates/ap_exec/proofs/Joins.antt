@@ -1,4 +1,4 @@
-use Rattle.std.proofs.Common.{◌≡◌, ℕ, ◌-◌, List, [], ◌++◌, length, ap, append_assoc, refl, Result, Ok, Err, nat_le, Bool, true, false, cond, subst}
+use Rattle.std.proofs.Common.{◌≡◌, ℕ, ◌-◌, List, [], ◌++◌, length, ap, sym, ◌∙◌, append_assoc, refl, Result, Ok, Err, nat_le, Bool, true, false, cond, subst}
 use Rattle.ap_symbol.specs.declared.symbol.Symbol.{Symbol}
 use Rattle.ap_symbol.specs.Rendering.{rendering}
 use Rattle.ap_exec.specs.Results.{Ran, ◌>>=◌, seen, Gives, Fails}
@@ -55,3 +55,12 @@ one_more old into (Ok w) (Ok ws) was =
 pub alone : (into : List Symbol) (part : Ran (List Symbol)) → seen (λ (w : List Symbol). [] ++ w) part ≡ Ok into → part ≡ Ok into
 alone into (Ok w) was = was
 alone into (Err e) was = cc
+
+-- a value was made, and then something was done with it
+pub after_value : {B : Type 0} (old : List Symbol) (part : Ran (List Symbol)) (made : List Symbol) (f : List Symbol → B) (s : B)
+    → seen (λ (w : List Symbol). old ++ w) part ≡ Ok made → old ≡ [] → s ≡ f made → (part >>= λ x. Ok (f x)) ≡ Ok s
+after_value old (Ok w) made f s was none is =
+    let whole : old ++ w ≡ made = cc in
+    let same : w ≡ made = ap (λ (o : List Symbol). o ++ w) (sym none) ∙ whole in
+    rw (same, is) refl
+after_value old (Err e) made f s was none is = cc

@@ -5,6 +5,8 @@ pub mod Joins
 pub mod SameLetters
 pub mod Overlays
 pub mod Compounds
+pub mod WordLaws
+pub mod Splices
 pub mod Fills
 pub mod Stacking
 pub mod Begins

@@ -1,5 +1,5 @@
 -- How words are compared, with all letters in lower case where case doesn't count.
-use Rattle.std.specs.Prelude.{ℕ, ◌-◌, Bool, true, false, ◌&&◌, ◌||◌, nat_le, List, [], ◌∷◌, length, drop}
+use Rattle.std.specs.Prelude.{◌-◌, Bool, true, false, ◌&&◌, ◌||◌, nat_le, List, [], ◌∷◌, length, drop}
 use Rattle.ap_symbol.specs.Case.{lower_lem}
 use Rattle.ap_symbol.specs.Fitting.{fits_lem}
 use Rattle.ap_symbol.specs.Recasing.{change_letter}

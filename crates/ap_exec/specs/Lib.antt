@@ -12,6 +12,7 @@ pub mod Acting
 pub mod States
 pub mod Ranges
 pub mod Compounds
+pub mod WordLaws
 pub mod Filling
 pub mod Starting
 pub mod Choosing

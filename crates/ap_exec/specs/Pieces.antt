@@ -6,7 +6,6 @@ use Rattle.ap_symbol.specs.Rendering.{rendering}
 use Rattle.ap_symbol.specs.declared.symbol.Symbol.{Symbol}
 use Rattle.ap_symbol.specs.declared.symbol.Symbol.TheVariants.{Join}
 use Rattle.ap_rules.specs.Plain.{PlainValue, clip, values_of, PlainUnit, PlainChunkPiece, chunk_unit, chunk_units, chunk_blank, PlainChunk, PlainPiece, blank, unit, units, chunk, value_chunk}
-use Rattle.ap_rules.specs.declared.value.Clip.{Clip}
 use Rattle.ap_rules.specs.declared.value.ClipPart.{ClipPart}
 use Rattle.ap_rules.specs.declared.value.ClipPart.TheVariants.{Whole, Content}
 use Rattle.ap_stream.specs.declared.item.Inner.{Inner}

@@ -1,12 +1,11 @@
 //! The single changes that statements make.
 ghost use Rattle.std.specs.Prelude.{◌≡◌, ◌<◌, ◌-◌, [], List, length, map, if◌then◌else◌, nat_le, OnOk, IfOk, Option, Some as something, None as nothing, vec_len};
 ghost use Rattle.ap_symbol.specs.declared.symbol.Symbol.{Symbol};
-ghost use Rattle.ap_symbol.specs.Recasing.{recase_lem};
 ghost use Rattle.ap_rules.specs.Plain.{assign, append, modify_case, out};
 ghost use Rattle.ap_rules.specs.Views.{plain_value, plain_values, plain_piece};
 ghost use Rattle.ap_exec.specs.Pieces.{unit_size, atom_size, atoms_size, piece_size};
 ghost use Rattle.ap_exec.specs.Results.{Gives};
-ghost use Rattle.ap_exec.specs.Running.{sight_of, with_var, with_part, with_place, held_at, placed, outs, run, called};
+ghost use Rattle.ap_exec.specs.Running.{sight_of, with_var, with_part, with_place, recased_at, placed, outs, run, called};
 ghost use Rattle.ap_exec.specs.States.{overlaid, sight, still, now};
 
 use crate::clips::{number_at, part_at};
@@ -17,24 +16,17 @@ use crate::template::{Atom, Piece};
 use crate::values::{append as append_symbols, append_to, push_value, var_at};
 use crate::writing::write_part;
 use ap_rules::{Append, Clip, Let, ModifyCase, Out, Piece as StatedPiece, Place};
-use ap_symbol::{Case, Memory, Symbol, Word, case_of, recase};
+use ap_symbol::{Memory, Word, case_of, recase};
 use std::alloc::Global;
 
 /// What values are read from.
 pub(crate) fn view_of<'a, 'u>(
-    world: &'a World<'_>,
+    world: World<'a>,
     here: &'a [Option<usize>],
     state: &'a State<'u>,
 ) -> View<'a, 'u>
-    ensures { sight result ≡ sight_of (still world.now) here.now (now world.now state.now) }
+    ensures { sight result ≡ sight_of (still world.entry) here.now (now world.entry state.now) }
 {
-    let world = World {
-        form: world.form,
-        attributes: world.attributes,
-        lists: world.lists,
-        macros: world.macros,
-        vars: world.vars,
-    };
     View {
         world,
         here,
@@ -111,14 +103,14 @@ fn set_place(
     }
 }
 
-/// What stands at a place, in a case.
+/// What stands at a place, in the case of a value.
 fn recased_at(
     alloc: Global,
     view: View<'_, '_>,
     place: &Place,
-    case: Case,
+    value: &Word,
 ) -> Result<Word, Memory>
-    ensures { IfOk result (λ word. word ≡ recase_lem case (held_at (sight view.entry) place.now)) }
+    ensures { IfOk result (λ word. word ≡ recased_at (sight view.entry) place.now value.now) }
 {
     let held = match place {
         Place::Clip(clip) => part_at(view, clip.pos, clip.part, clip.side, clip.queue),
@@ -126,7 +118,7 @@ fn recased_at(
     };
     let mut word = Word::new(alloc);
     append_symbols(alloc, held, &mut word)?;
-    recase(alloc, &word, case)
+    recase(alloc, &word, case_of(value))
 }
 
 /// `let`: a place is set to a value.
@@ -140,7 +132,7 @@ pub(crate) fn assign(
     ensures { Gives (λ _. now world.entry state.new) result (run (still world.entry) (called (still world.entry) 0) here.now (assign held.now.place (plain_value held.now.value)) (now world.entry state.old)) }
 {
     let mut value = Word::new(alloc);
-    push_value(alloc, view_of(&world, here, state), &held.value, &mut value)?;
+    push_value(alloc, view_of(world, here, state), &held.value, &mut value)?;
     set_place(alloc, world, here, &held.place, value, state)?;
     Ok(())
 }
@@ -156,9 +148,9 @@ pub(crate) fn modify_case(
     ensures { Gives (λ _. now world.entry state.new) result (run (still world.entry) (called (still world.entry) 0) here.now (modify_case held.now.place (plain_value held.now.value)) (now world.entry state.old)) }
 {
     let mut value = Word::new(alloc);
-    push_value(alloc, view_of(&world, here, state), &held.value, &mut value)?;
-    let view = view_of(&world, here, state);
-    let word = recased_at(alloc, view, &held.place, case_of(&value))?;
+    push_value(alloc, view_of(world, here, state), &held.value, &mut value)?;
+    let view = view_of(world, here, state);
+    let word = recased_at(alloc, view, &held.place, &value)?;
     set_place(alloc, world, here, &held.place, word, state)?;
     Ok(())
 }
@@ -173,7 +165,7 @@ pub(crate) fn append(
 ) -> Result<(), ExecRefusal>
     ensures { Gives (λ _. now world.entry state.new) result (run (still world.entry) (called (still world.entry) 0) here.now (append held.now.n (plain_values held.now.values.items)) (now world.entry state.old)) }
 {
-    let word = append_to(alloc, view_of(&world, here, state), held.n, &held.values)?;
+    let word = append_to(alloc, view_of(world, here, state), held.n, &held.values)?;
     set_var(world, held.n, word, state)?;
     Ok(())
 }
@@ -263,7 +255,7 @@ fn put_pieces(
     ensures { Gives (λ _. now world.entry state.new) result (outs (still world.entry) here.now (map plain_piece pieces.now) (now world.entry state.old)) }
 {
     'pieces: for piece in pieces {
-        let made = piece_of(alloc, view_of(&world, here, state), piece)?;
+        let made = piece_of(alloc, view_of(world, here, state), piece)?;
         place(world, made, state)?;
     }
     Ok(())

@@ -111,12 +111,7 @@ pub(crate) fn compared(way: Way, caseless: bool, word: &[Symbol], other: &[Symbo
 }
 
 /// Whether it does so with some item of a list.
-pub(crate) fn compared_some(
-    way: Way,
-    caseless: bool,
-    word: &[Symbol],
-    items: &[ListItem],
-) -> bool
+pub(crate) fn compared_some(way: Way, caseless: bool, word: &[Symbol], items: &[ListItem]) -> bool
     ensures { result ≡ compared_some way caseless word.now (map word_in items.now) }
 {
     for item in items {

@@ -19,6 +19,7 @@ mod state;
 mod template;
 mod values;
 mod vars;
+mod word_laws;
 mod writing;
 
 pub use acting::act;
@@ -27,3 +28,4 @@ pub use matched::{Matched, MatchedUnit, MatchedUnits};
 pub use refusal::ExecRefusal;
 pub use template::{Atom, Atoms, Blanks, Piece, Template};
 pub use vars::Vars;
+pub use word_laws::{words_are_compared, written_parts_are_read};

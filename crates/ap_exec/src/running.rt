@@ -5,12 +5,12 @@ ghost use Rattle.ap_rules.specs.Views.{plain_statement, plain_choose, plain_when
 ghost use Rattle.ap_exec.specs.Choosing.{chosen};
 ghost use Rattle.ap_exec.specs.Costs.{cost_one, macro_cost};
 ghost use Rattle.ap_exec.specs.Results.{Gives};
-ghost use Rattle.ap_exec.specs.Running.{Still, Now, run_all, called, places_of, body_at};
+ghost use Rattle.ap_exec.specs.Running.{Still, Now, run_all, called, places_of, body_at, sight_of};
 ghost use Rattle.ap_exec.specs.Stacks.{left, rest_first, one_first, StandsOn, IsScope, IsNested, Leads, stack_cost, rest_cost, between, body_of};
 ghost use Rattle.ap_exec.specs.States.{body_in, now, still, sight};
 
 use crate::refusal::ExecRefusal;
-use crate::changes::{append, assign, modify_case, put_out, view_of};
+use crate::changes::{append, assign, modify_case, put_out};
 use crate::clips::number_at;
 use crate::conditions::holds;
 use crate::stack::{Frame, Scope, Stack};
@@ -48,6 +48,29 @@ fn body_at(macros: &[DefMacro], n: usize) -> &[Statement]
     }
 }
 
+/// What values are read from, while a body is run.
+fn view_in<'a, 'u>(
+    world: &'a World<'_>,
+    here: &'a [Option<usize>],
+    state: &'a State<'u>,
+) -> View<'a, 'u>
+    ensures { sight result ≡ sight_of (still world.now) here.now (now world.now state.now) }
+{
+    let world = World {
+        form: world.form,
+        attributes: world.attributes,
+        lists: world.lists,
+        macros: world.macros,
+        vars: world.vars,
+    };
+    View {
+        world,
+        here,
+        units: &state.units,
+        fresh: &state.fresh,
+    }
+}
+
 /// The statements that a choice runs: those of the first `when` whose condition holds, or else the
 /// others.
 fn choice<'a>(
@@ -81,7 +104,7 @@ fn run_choose<'a>(
     ensures cost { OnOk result (stack_cost (still world.entry) stack.new < cost_one (macro_cost (still world.entry) scope.visible) (plain_choose held.now) + stack_cost (still world.entry) stack.old) }
 {
     let here = &stack.positions[scope.from..scope.to];
-    let view = view_of(&world, here, state);
+    let view = view_in(&world, here, state);
     let taken = choice(alloc, view, &held.whens, &held.otherwise)?;
     stack.push(taken, scope)?;
     Ok(())

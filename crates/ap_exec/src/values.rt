@@ -72,23 +72,13 @@ fn fresh_at<'a>(fresh: &'a [Option<Word>], n: usize) -> Option<&'a Word>
 }
 
 /// What a variable holds, of which some have new values.
-pub(crate) fn var_at<'a>(
-    vars: &'a [Word],
-    fresh: &'a [Option<Word>],
-    n: usize,
-) -> &'a [Symbol]
+pub(crate) fn var_at<'a>(vars: &'a [Word], fresh: &'a [Option<Word>], n: usize) -> &'a [Symbol]
     ensures value { result.now ≡ var_at (slice_get (overlaid vars.now fresh.now) n) }
     ensures proper { AreProper result.now }
 {
     match fresh_at(fresh, n) {
         None => old_var(vars, n),
-        Some(word) => {
-            if n < vars.len() {
-                word.symbols()
-            } else {
-                &[]
-            }
-        }
+        Some(word) => { if n < vars.len() { word.symbols() } else { &[] } }
     }
 }
 

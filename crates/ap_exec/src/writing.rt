@@ -72,13 +72,7 @@ fn replace(
         }
         Side::Target => {
             let made = spliced(alloc, range, value, unit.target())?;
-            let border = moved(
-                range,
-                value,
-                unit.border(),
-                unit.target().len(),
-                made.len(),
-            );
+            let border = moved(range, value, unit.border(), unit.target().len(), made.len());
             unit.set_target(made, border);
         }
     }

@@ -1,7 +1,7 @@
 use Rattle.ap_rules.specs.Plain.{values_of}
-use Rattle.ap_rules.specs.Views.{plain_value, plain_values}
+use Rattle.ap_rules.specs.Views.{plain_values}
 use Rattle.ap_exec.specs.States.{sight}
-use Rattle.ap_exec.specs.Values.{value_of, joined_of}
+use Rattle.ap_exec.specs.Values.{joined_of}
 use Rattle.ap_exec.proofs.Joins.{then_bounded}
 use Rattle.ap_exec.proofs.values.+push.Goals as goal
 
