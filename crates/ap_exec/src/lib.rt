@@ -17,6 +17,8 @@ mod sizes;
 mod stack;
 mod state;
 mod template;
+#[cfg(test)]
+mod tests;
 mod values;
 mod vars;
 mod word_laws;
