@@ -7,3 +7,4 @@ pub mod Overlays
 pub mod Compounds
 pub mod WordLaws
 pub mod Splices
+pub mod Borders
