@@ -8,3 +8,4 @@ pub mod Compounds
 pub mod WordLaws
 pub mod Splices
 pub mod Borders
+pub mod SizeLaws

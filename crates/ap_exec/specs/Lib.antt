@@ -13,3 +13,4 @@ pub mod States
 pub mod Ranges
 pub mod Compounds
 pub mod WordLaws
+pub mod SizeLaws

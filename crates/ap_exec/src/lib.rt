@@ -9,6 +9,7 @@ mod lent;
 mod matched;
 mod pieces;
 mod refusal;
+mod size_laws;
 mod sizes;
 mod state;
 mod template;
@@ -18,5 +19,6 @@ mod writing;
 
 pub use matched::{Matched, MatchedUnit, MatchedUnits};
 pub use refusal::ExecRefusal;
+pub use size_laws::pieces_are_counted;
 pub use template::{Atom, Atoms, Blanks, Piece, Template};
 pub use word_laws::{words_are_compared, written_parts_are_read};
