@@ -9,3 +9,6 @@ pub mod WordLaws
 pub mod Splices
 pub mod Borders
 pub mod SizeLaws
+pub mod Fills
+pub mod Stacking
+pub mod Begins

@@ -14,3 +14,9 @@ pub mod Ranges
 pub mod Compounds
 pub mod WordLaws
 pub mod SizeLaws
+pub mod Filling
+pub mod Starting
+pub mod Choosing
+pub mod Costs
+pub mod Stacks
+pub mod Beginning
