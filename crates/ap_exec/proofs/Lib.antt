@@ -12,3 +12,4 @@ pub mod SizeLaws
 pub mod Fills
 pub mod Stacking
 pub mod Begins
+pub mod TextSizes
