@@ -1,5 +1,5 @@
 -- The units of a match and their positions, one after another.
-use Rattle.std.proofs.Common.{◌≡◌, ℕ, zero, suc, ◌+◌, ◌<◌, List, [], ◌∷◌, ◌++◌, length, map, set, Bool, true, false, Option, Some, None, is_some, Ok, refl, ap, sym, ◌∙◌, arith}
+use Rattle.std.proofs.Common.{◌≡◌, ℕ, zero, suc, ◌+◌, ◌<◌, List, [], ◌∷◌, ◌++◌, length, map, set, Option, Some, None, is_some, Ok, refl, ap, sym, ◌∙◌, arith}
 use Rattle.ap_symbol.specs.declared.symbol.Symbol.{Symbol}
 use Rattle.ap_rules.specs.Plain.{PlainStatements, PlainRules}
 use Rattle.ap_rules.specs.Views.{plain_macro, plain_rules}

@@ -1,11 +1,11 @@
 -- Texts and slots that are written one after another.
-use Rattle.std.proofs.Common.{◌≡◌, ◌≢◌, ℕ, ◌+◌, ◌<◌, true, false, List, [], ◌∷◌, ◌++◌, length, Result, Ok, Err, refl, ap, sym, ◌∙◌, arith, append_assoc, append-nil, length-append}
+use Rattle.std.proofs.Common.{◌≡◌, ◌≢◌, ℕ, ◌+◌, ◌<◌, true, List, [], ◌∷◌, ◌++◌, length, Result, Ok, Err, refl, ap, sym, ◌∙◌, arith, append_assoc, append-nil, length-append}
 use Rattle.std.specs.List.{flat_map}
 use Rattle.std.proofs.lemmas.Bool.Decides.{nat_tests}
 use Rattle.ap_symbol.specs.declared.symbol.Symbol.{Symbol}
 use Rattle.ap_stream.specs.Limits.{span_max}
 use Rattle.ap_exec.specs.Filling.{Mark, text, gap, Appends, unit_marks, word_marks, left_over, filled, is_over, within_span, goes_on, Stops, Writes}
-use Rattle.ap_exec.specs.Results.{Fails, Gives}
+use Rattle.ap_exec.specs.Results.{Fails}
 use Rattle.ap_exec.specs.declared.filling.Filling.{Filling}
 use Rattle.ap_exec.specs.declared.refusal.ExecRefusal.{ExecRefusal}
 use Rattle.ap_exec.specs.declared.refusal.ExecRefusal.TheVariants.{ValueTooLong, OutputTooLong, Memory}

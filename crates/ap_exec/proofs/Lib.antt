@@ -7,6 +7,9 @@ pub mod Overlays
 pub mod Compounds
 pub mod WordLaws
 pub mod Splices
+pub mod Borders
+pub mod SizeLaws
 pub mod Fills
 pub mod Stacking
 pub mod Begins
+pub mod TextSizes

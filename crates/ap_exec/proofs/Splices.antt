@@ -15,7 +15,7 @@ behind zero word more h = refl
 behind (suc start) [] more h = absurd (omega arith)
 behind (suc start) (s ∷ word) more h = behind start word more (omega arith)
 
-further : (start n : ℕ) (word more : List Symbol) → start ≤ length word → drop (start + n) (take start word ++ more) ≡ drop n more
+pub further : (start n : ℕ) (word more : List Symbol) → start ≤ length word → drop (start + n) (take start word ++ more) ≡ drop n more
 further zero n word more h = ap (λ (k : ℕ). drop k more) (omega arith)
 further (suc start) n [] more h = absurd (omega arith)
 further (suc start) n (s ∷ word) more h =

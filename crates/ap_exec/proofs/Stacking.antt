@@ -1,6 +1,5 @@
 -- Stacks of frames: what is run first, where positions stand, and what it costs.
-use Rattle.std.proofs.Common.{◌≡◌, ◌≢◌, ℕ, zero, suc, ◌+◌, ◌-◌, ◌<◌, ◌≤◌, List, [], ◌∷◌, ◌++◌, length, take, drop, map, Option, Some, None, Result, Ok, Err, refl, ap, sym, ◌∙◌, arith, append_assoc, append-nil, length-append, nat_eq, cond, inl, inr, Bool, true, false, subst, Vec, Global, OnOk, get_or}
-use Rattle.std.specs.List.{slice_get}
+use Rattle.std.proofs.Common.{◌≡◌, ◌≢◌, ℕ, zero, suc, ◌+◌, ◌-◌, ◌<◌, ◌≤◌, List, [], ◌∷◌, ◌++◌, length, take, drop, map, Option, Result, Ok, Err, refl, ap, sym, ◌∙◌, arith, append_assoc, length-append, nat_eq, cond, inl, inr, Bool, true, false, subst, Vec, Global, OnOk, get_or}
 use Rattle.std.proofs.Math.Seq.{drop-append_seam}
 use Rattle.std.proofs.lemmas.List.{take-append-le, drop-take, map_more}
 use Rattle.std.proofs.lemmas.Bool.{cases_Bool}
@@ -127,7 +126,7 @@ pub unwound_same : (w : Still) (n : ℕ) (xs more : List (Option ℕ)) (low : �
 unwound_same w n xs more low [] s within h = refl
 unwound_same w n xs more low (f ∷ frames) s within h =
     ap (λ (here : List (Option ℕ)). unwound w (take n xs ++ more) frames s >>= run_all w (called w f.scope.visible) here (body_of f.rest.now))
-        (between_same f.scope.from f.scope.to n xs more h.1 (nested_low f.scope.to frames n h.2) within)
+    (between_same f.scope.from f.scope.to n xs more h.1 (nested_low f.scope.to frames n h.2) within)
     ∙ ap (λ (r : Ran Now). r >>= run_rest w xs f.scope f.rest.now) (unwound_same w n xs more f.scope.to frames s within h.2)
 
 -- costs
@@ -164,8 +163,8 @@ choice_runs w calls here no_whens otherwise s = refl
 choice_runs w calls here (then_when test statements more) otherwise s =
     sym (then_then (holds (sight_of w here s) test) (λ b. taken b statements (chosen (sight_of w here s) more otherwise)) (λ ss. run_all w calls here ss s)
     ∙ then_same (holds (sight_of w here s) test) (λ b. taken b statements (chosen (sight_of w here s) more otherwise) >>= λ ss. run_all w calls here ss s)
-        (λ b. either_of b (run_all w calls here statements s) (run_choice w calls here more (run_all w calls here otherwise) s))
-        (λ b. chosen_one w calls here s b statements (chosen (sight_of w here s) more otherwise) (run_choice w calls here more (run_all w calls here otherwise) s) (sym (choice_runs w calls here more otherwise s))))
+    (λ b. either_of b (run_all w calls here statements s) (run_choice w calls here more (run_all w calls here otherwise) s))
+    (λ b. chosen_one w calls here s b statements (chosen (sight_of w here s) more otherwise) (run_choice w calls here more (run_all w calls here otherwise) s) (sym (choice_runs w calls here more otherwise s))))
 
 -- a macro's positions stand behind its caller's
 module _ (w : Still) (xs ys places : List (Option ℕ)) (frames : List Frame) (scope : Scope) (n len : ℕ) (body : List Statement)
@@ -190,7 +189,7 @@ module _ (w : Still) (xs ys places : List (Option ℕ)) (frames : List Frame) (s
     call_leads s =
         ap (λ (r : Ran Now). r >>= unwound w ys frames) (inner_run s)
         ∙ then_same (called w scope.visible n places s) (unwound w ys frames) (unwound w xs frames)
-            (λ x. ap (λ (zs : List (Option ℕ)). unwound w zs frames x) behind ∙ unwound_same w scope.to xs places 0 frames x within below)
+        (λ x. ap (λ (zs : List (Option ℕ)). unwound w zs frames x) behind ∙ unwound_same w scope.to xs places 0 frames x within below)
 
     pub call_costs : rest_cost w inner body ≡ macro_cost w scope.visible n
     call_costs = ap (cost_all (macro_cost w n)) is ∙ sym (macro_cost_at w scope.visible n seen)
@@ -211,8 +210,8 @@ pub choice_costs : (calls : ℕ → ℕ) (sight : Sight) (whens : PlainWhens) (o
 choice_costs calls sight no_whens otherwise ss e = let same : otherwise ≡ ss = cc in subst (λ (x : PlainStatements). cost_all calls x ≤ 0 + cost_all calls otherwise) same (omega arith)
 choice_costs calls sight (then_when test first more) otherwise ss e =
     then_costs calls (holds sight test) (λ b. taken b first (chosen sight more otherwise)) ss (cost_all calls first + cost_whens calls more + cost_all calls otherwise)
-        (λ b h. taken_costs calls b first ss (chosen sight more otherwise) (cost_all calls first + cost_whens calls more + cost_all calls otherwise) 0 (omega arith)
-            (λ later. omega (arith, choice_costs calls sight more otherwise ss later)) h) e
+    (λ b h. taken_costs calls b first ss (chosen sight more otherwise) (cost_all calls first + cost_whens calls more + cost_all calls otherwise) 0 (omega arith)
+    (λ later. omega (arith, choice_costs calls sight more otherwise ss later)) h) e
 
 -- a choice
 

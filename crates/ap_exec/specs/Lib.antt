@@ -13,6 +13,7 @@ pub mod States
 pub mod Ranges
 pub mod Compounds
 pub mod WordLaws
+pub mod SizeLaws
 pub mod Filling
 pub mod Starting
 pub mod Choosing

@@ -1,5 +1,5 @@
 -- What the comparisons of words and the writing to a part come to.
-use Rattle.std.specs.Prelude.{◌≡◌, ◌+◌, ◌≤◌, Bool, true, false, List, ◌++◌, length, take, drop, IsTrue, ◌↔◌}
+use Rattle.std.specs.Prelude.{◌≡◌, ℕ, ◌+◌, ◌<◌, ◌≤◌, Bool, true, false, List, ◌++◌, length, take, drop, IsTrue, ◌↔◌}
 use Rattle.ap_symbol.specs.Case.{lower_lem}
 use Rattle.ap_symbol.specs.Lists.{IsIn}
 use Rattle.ap_symbol.specs.Recasing.{each_letter}
@@ -8,7 +8,7 @@ use Rattle.ap_exec.specs.declared.comparing.Way.{Way}
 use Rattle.ap_exec.specs.declared.comparing.Way.TheVariants.{Equals, Begins, Ends, Contains}
 use Rattle.ap_exec.specs.Comparing.{compared, compared_some}
 use Rattle.ap_exec.specs.Parts.{Span, cut}
-use Rattle.ap_exec.specs.Writing.{spliced}
+use Rattle.ap_exec.specs.Writing.{moved, spliced}
 
 -- a word as it is compared: itself, or with all its letters in lower case
 abbrev pub read_as : Bool → List Symbol → List Symbol
@@ -43,3 +43,10 @@ WrittenIsRead = (span : Span) (value word : List Symbol) → span.start + span.c
     → (cut (record { start = span.start; count = length value }) (spliced span value word) ≡ value)
     × (take span.start (spliced span value word) ≡ take span.start word)
     × (drop (span.start + length value) (spliced span value word) ≡ drop (span.start + span.count) word)
+
+-- Where a part is replaced that lies wholly in the head of a target, the queue behind the border is as it was; where one is
+-- that lies wholly in the queue, the head before the border is.
+abbrev pub OtherSideStays : Type 0
+OtherSideStays = (span : Span) (value word : List Symbol) (border : ℕ) → span.start + span.count ≤ length word → border ≤ length word
+    → (span.start + span.count ≤ border → drop (moved span (length value) border) (spliced span value word) ≡ drop border word)
+    × (border ≤ span.start → border < span.start + span.count → take (moved span (length value) border) (spliced span value word) ≡ take border word)

@@ -9,8 +9,8 @@ ghost use Rattle.ap_exec.specs.States.{still};
 
 use crate::lent::{Held, Lent};
 use crate::matched::{Matched, MatchedUnit};
-use crate::values::append;
 use crate::state::World;
+use crate::values::append;
 use ap_rules::{Rules, Statement};
 use ap_symbol::{Memory, Word};
 use std::alloc::Global;
@@ -74,7 +74,12 @@ fn lend<'a>(alloc: Global, unit: &'a MatchedUnit) -> Result<Lent<'a>, Memory>
 fn lend_chunk<'a>(alloc: Global, name: &'a Word) -> Lent<'a>
     ensures { result ≡ shown_chunk name.now }
 {
-    Lent::new(Held::Made(Word::new(alloc)), Held::Lent(name), name.len(), &[])
+    Lent::new(
+        Held::Made(Word::new(alloc)),
+        Held::Lent(name),
+        name.len(),
+        &[],
+    )
 }
 
 /// The chunk, where there is one.

@@ -9,10 +9,10 @@ ghost use Rattle.ap_exec.specs.Running.{Still, Now, run_all, called, places_of, 
 ghost use Rattle.ap_exec.specs.Stacks.{left, rest_first, one_first, StandsOn, IsScope, IsNested, Leads, stack_cost, rest_cost, between, body_of};
 ghost use Rattle.ap_exec.specs.States.{body_in, now, still, sight};
 
-use crate::refusal::ExecRefusal;
 use crate::changes::{append, assign, modify_case, put_out};
 use crate::clips::number_at;
 use crate::conditions::holds;
+use crate::refusal::ExecRefusal;
 use crate::stack::{Frame, Scope, Stack};
 use crate::state::{State, View, World};
 use ap_rules::{CallMacro, Choose, DefMacro, Statement, When};

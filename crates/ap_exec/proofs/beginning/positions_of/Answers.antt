@@ -1,4 +1,4 @@
-use Rattle.std.proofs.Common.{◌≡◌, ◌∙◌, ◌++◌, ◌∷◌, [], ap, sym, append_assoc, List, Option, Some, ℕ}
+use Rattle.std.proofs.Common.{◌∙◌, ◌++◌, ◌∷◌, [], ap, sym, append_assoc, List, Option, Some, ℕ}
 use Rattle.ap_exec.specs.Beginning.{lead_in, from_first}
 use Rattle.ap_exec.proofs.Begins.{from_next}
 use Rattle.ap_exec.proofs.beginning.positions_of.Goals as goal

@@ -1,4 +1,4 @@
-use Rattle.std.proofs.Common.{◌≡◌, ◌∙◌, ap, refl, get_or, List, Option, ℕ}
+use Rattle.std.proofs.Common.{◌∙◌, ap, refl, get_or, List, Option, ℕ}
 use Rattle.ap_exec.specs.Stacks.{between}
 use Rattle.ap_exec.specs.Units.{number_at}
 use Rattle.ap_exec.proofs.Stacking.{place_more}

@@ -1,6 +1,5 @@
-use Rattle.std.proofs.Common.{◌≡◌, ◌∙◌, ap, sym, arith, List}
-use Rattle.ap_exec.specs.Running.{Still, Now}
-use Rattle.ap_exec.specs.Stacks.{unwound, frames_cost, AreNested}
+use Rattle.std.proofs.Common.{◌∙◌, ap, arith, List}
+use Rattle.ap_exec.specs.Stacks.{unwound, frames_cost}
 use Rattle.ap_exec.specs.declared.stack.Frame.{Frame}
 use Rattle.ap_exec.proofs.Stacking.{unwound_more, nested_higher, nested_more, cost_more}
 use Rattle.ap_exec.proofs.stack.Stack.push.Goals as goal
