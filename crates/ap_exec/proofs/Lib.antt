@@ -1,0 +1,15 @@
+pub mod Proper
+pub mod Bounds
+pub mod Trees
+pub mod Joins
+pub mod SameLetters
+pub mod Overlays
+pub mod Compounds
+pub mod WordLaws
+pub mod Splices
+pub mod Borders
+pub mod SizeLaws
+pub mod Fills
+pub mod Stacking
+pub mod Begins
+pub mod TextSizes

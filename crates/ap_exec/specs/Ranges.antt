@@ -1,0 +1,5 @@
+use Rattle.ap_exec.specs.Parts.{Span}
+use Rattle.ap_exec.specs.declared.clips.Range.{Range}
+
+abbrev pub span : Range → Span
+span r = record { start = r.start; count = r.count }

@@ -1,0 +1,295 @@
+//! The parts of words, and what clips give.
+ghost use Rattle.std.specs.Prelude.{◌≡◌, ◌+◌, ◌≤◌, ◌<◌, ◌^◌, true, length, map, None, IfSome};
+ghost use Rattle.std.specs.List.{prefix_len};
+ghost use Rattle.std.specs.Option.{option_copied};
+ghost use Rattle.ap_symbol.specs.Words.{AreProper};
+ghost use Rattle.ap_exec.specs.Parts.{is_tag, is_queue, is_lemma, is_head, begins_with, longer, longest, sought, tags_in, items_of, span_of, cut, side_in, word_on, word_at, part_at, linked, clip_of, case_at};
+ghost use Rattle.ap_exec.specs.Ranges.{span};
+ghost use Rattle.ap_exec.specs.States.{sight};
+ghost use Rattle.ap_exec.specs.Units.{number_at, unit_at};
+
+use crate::lent::Lent;
+use crate::state::View;
+use ap_rules::{AttrItem, Clip, ClipPart, DefAttr, Form, Side};
+use ap_symbol::{Case, Symbol, Word, case_of_symbols, fits};
+
+/// A part of a word: where it begins and how many symbols it has.
+#[derive(Clone, Copy)]
+pub(crate) struct Range {
+    pub(crate) start: usize,
+    pub(crate) count: usize,
+}
+
+fn is_tag(symbol: &Symbol) -> bool
+    ensures { result ≡ is_tag symbol.now }
+{
+    matches!(symbol, Symbol::Tag(_))
+}
+
+fn is_queue(symbol: &Symbol) -> bool
+    ensures { result ≡ is_queue symbol.now }
+{
+    matches!(symbol, Symbol::Queue)
+}
+
+/// How many symbols stand before the first tag.
+fn lemma_len(word: &[Symbol]) -> usize
+    ensures value { result ≡ prefix_len is_lemma word.now }
+    ensures within { result ≤ length word.now }
+{
+    word.iter().take_while(|s| !is_tag(s)).count()
+}
+
+/// How many symbols stand before the first queue or tag.
+fn head_len(word: &[Symbol]) -> usize
+    ensures value { result ≡ prefix_len is_head word.now }
+    ensures within { result ≤ length word.now }
+{
+    word.iter()
+        .take_while(|s| !(is_tag(s) || is_queue(s)))
+        .count()
+}
+
+/// With how many tags the symbols begin.
+fn tags_len(word: &[Symbol]) -> usize
+    ensures value { result ≡ prefix_len is_tag word.now }
+    ensures within { result ≤ length word.now }
+{
+    word.iter().take_while(|s| is_tag(s)).count()
+}
+
+fn begins_with(item: &[Symbol], word: &[Symbol]) -> bool
+    ensures value { result ≡ begins_with item.now word.now }
+    ensures within { result ≡ true → length item.now ≤ length word.now }
+{
+    let mut word = word;
+    for s in item {
+        match word.split_first() {
+            None => return false,
+            Some((t, more)) => {
+                if !fits(s, t, true) {
+                    return false;
+                }
+                word = more;
+            }
+        }
+    }
+    true
+}
+
+fn longer(best: Option<usize>, len: usize) -> Option<usize>
+    ensures { result ≡ longer best len }
+{
+    match best {
+        None => Some(len),
+        Some(most) => Some(if most < len { len } else { most }),
+    }
+}
+
+/// The length of the longest item with which the word begins.
+fn longest(items: &[AttrItem], word: &[Symbol]) -> Option<usize>
+    ensures value { result ≡ longest None (map tags_in items.now) word.now }
+    ensures within { IfSome result (λ n. n ≤ length word.now) }
+{
+    let mut best = None;
+    for item in items {
+        if begins_with(item.tags.symbols(), word) {
+            best = longer(best, item.tags.len());
+        }
+    }
+    best
+}
+
+/// Where an item fits first, as long as the longest that fits there.
+fn sought(start: usize, items: &[AttrItem], word: &[Symbol]) -> Range
+    requires { start + length word.now < 2 ^ 64 }
+    ensures value { span result ≡ sought start (map tags_in items.now) word.now }
+    ensures within { result.start + result.count ≤ start + length word.now }
+{
+    let mut rest = word;
+    let mut at = start;
+    'places: while let Some((_, more)) = rest.split_first() {
+        if let Some(count) = longest(items, rest) {
+            return Range { start: at, count };
+        }
+        at += 1;
+        rest = more;
+    }
+    Range {
+        start: at,
+        count: 0,
+    }
+}
+
+fn attribute_span(attributes: &[DefAttr], n: usize, start: usize, word: &[Symbol]) -> Range
+    requires { start + length word.now < 2 ^ 64 }
+    ensures value { span result ≡ sought start (items_of attributes.now n) word.now }
+    ensures within { result.start + result.count ≤ start + length word.now }
+{
+    match attributes.get(n) {
+        None => sought(start, &[], word),
+        Some(attribute) => sought(start, attribute.items.as_slice(), word),
+    }
+}
+
+/// Where a part of a word stands.
+pub(crate) fn span_of(attributes: &[DefAttr], part: ClipPart, word: &[Symbol]) -> Range
+    ensures value { span result ≡ span_of attributes.now part word.now }
+    ensures within { result.start + result.count ≤ length word.now }
+{
+    match part {
+        ClipPart::Lem => Range {
+            start: 0,
+            count: lemma_len(word),
+        },
+        ClipPart::Lemh => Range {
+            start: 0,
+            count: head_len(word),
+        },
+        ClipPart::Lemq => {
+            let start = head_len(word);
+            Range {
+                start,
+                count: lemma_len(word).saturating_sub(start),
+            }
+        }
+        ClipPart::Tags => {
+            let start = lemma_len(word);
+            Range {
+                start,
+                count: tags_len(&word[start..]),
+            }
+        }
+        ClipPart::Whole => Range {
+            start: 0,
+            count: word.len(),
+        },
+        ClipPart::Content => Range { start: 0, count: 0 },
+        ClipPart::Attribute(n) => {
+            let start = lemma_len(word);
+            attribute_span(attributes, n, start, &word[start..])
+        }
+    }
+}
+
+/// The symbols of a word at a range, as far as there are any.
+fn cut(range: Range, word: &[Symbol]) -> &[Symbol]
+    requires { AreProper word.now }
+    ensures value { result.now ≡ cut (span range) word.now }
+    ensures proper { AreProper result.now }
+{
+    let start = range.start.min(word.len());
+    let rest = &word[start..];
+    let count = range.count.min(rest.len());
+    &rest[..count]
+}
+
+/// Outside of transfer there is one word, whatever the side.
+pub(crate) fn side_in(form: Form, side: Side) -> Side
+    ensures { result ≡ side_in form side }
+{
+    match form {
+        Form::Transfer => side,
+        Form::Interchunk | Form::Postchunk => Side::Target,
+    }
+}
+
+/// The word on a side of a unit, with its queue or without.
+#[tactic(auto, using(crate::proofs::Proper::proper_take))]
+pub(crate) fn word_on<'a>(side: Side, queue: bool, unit: &'a Lent<'_>) -> &'a [Symbol]
+    ensures value { result.now ≡ word_on side queue unit.now }
+    ensures within { length result.now ≤ length (word_on side true unit.now) }
+    ensures proper { AreProper result.now }
+{
+    match (side, queue) {
+        (Side::Source, _) => unit.source().symbols(),
+        (Side::Target, true) => unit.target().symbols(),
+        (Side::Target, false) => {
+            let target = unit.target().symbols();
+            &target[..unit.border().min(target.len())]
+        }
+    }
+}
+
+/// The number of the unit that stands at a position.
+pub(crate) fn number_at(here: &[Option<usize>], pos: usize) -> Option<usize>
+    ensures { result ≡ number_at here.now pos }
+{
+    match here.get(pos) {
+        None => None,
+        Some(unit) => *unit,
+    }
+}
+
+/// The unit that stands at a position.
+pub(crate) fn unit_at<'a, 'u>(
+    here: &[Option<usize>],
+    units: &'a [Lent<'u>],
+    pos: usize,
+) -> Option<&'a Lent<'u>>
+    ensures { option_copied result ≡ unit_at here.now units.now pos }
+{
+    match number_at(here, pos) {
+        None => None,
+        Some(n) => units.get(n),
+    }
+}
+
+/// The word at a position, which is empty where there is none.
+fn word_at<'a>(view: View<'a, '_>, pos: usize, side: Side, queue: bool) -> &'a [Symbol]
+    ensures value { result.now ≡ word_at (sight view.entry) pos side queue }
+    ensures proper { AreProper result.now }
+{
+    match unit_at(view.here, view.units, pos) {
+        None => &[],
+        Some(unit) => word_on(side_in(view.world.form, side), queue, unit),
+    }
+}
+
+/// A part of the word at a position.
+pub(crate) fn part_at<'a>(
+    view: View<'a, '_>,
+    pos: usize,
+    part: ClipPart,
+    side: Side,
+    queue: bool,
+) -> &'a [Symbol]
+    ensures value { result.now ≡ part_at (sight view.entry) pos part side queue }
+    ensures proper { AreProper result.now }
+{
+    let word = word_at(view, pos, side, queue);
+    cut(span_of(view.world.attributes, part, word), word)
+}
+
+fn linked<'a>(link: &'a Option<Word>, part: &'a [Symbol]) -> &'a [Symbol]
+    requires { AreProper part.now }
+    ensures value { result.now ≡ linked link.now part.now }
+    ensures proper { AreProper result.now }
+{
+    match link {
+        None => part,
+        Some(link) => {
+            if part.is_empty() {
+                part
+            } else {
+                link.symbols()
+            }
+        }
+    }
+}
+
+/// What a clip gives: a part of the word at a position, or the link in its place.
+pub(crate) fn clip_of<'a>(view: View<'a, '_>, clip: &'a Clip) -> &'a [Symbol]
+    ensures value { result.now ≡ clip_of (sight view.entry) clip.now }
+    ensures proper { AreProper result.now }
+{
+    let part = part_at(view, clip.pos, clip.part, clip.side, clip.queue);
+    linked(&clip.link_to, part)
+}
+
+/// The case of the lemma at a position.
+pub(crate) fn case_at(view: View<'_, '_>, pos: usize) -> Case
+    ensures { result ≡ case_at (sight view.entry) pos }
+{
+    case_of_symbols(part_at(view, pos, ClipPart::Lem, Side::Source, true))
+}

@@ -1,0 +1,107 @@
+ghost use Rattle.std.specs.Prelude.{◌≡◌, ◌≤◌, length};
+ghost use Rattle.ap_exec.specs.Held.{word_in};
+
+use ap_stream::Inner;
+use ap_symbol::Word;
+use std::marker::Model;
+
+/// A word of the match, or one that a rule made in its place.
+#[derive(Drop)]
+pub(crate) enum Held<'a> {
+    Lent(&'a Word),
+    Made(Word),
+}
+
+impl<'a> Held<'a> {
+    pub(crate) fn word(&self) -> &Word
+        ensures { result.now ≡ word_in self.now }
+    {
+        match self {
+            Held::Lent(word) => word,
+            Held::Made(word) => word,
+        }
+    }
+}
+
+/// A unit that a rule reads and may write to: its source, its target with the border between head
+/// and queue, and its content. Nothing of the match is copied before a part is written to.
+#[derive(Drop)]
+pub(crate) struct Lent<'a> {
+    source: Held<'a>,
+    target: Held<'a>,
+    border: usize,
+    content: &'a [Inner],
+}
+
+impl<'a> Model for Lent<'a> {
+    ghost use Rattle.std.specs.Prelude.{◌≤◌, length};
+    ghost use Rattle.ap_exec.specs.Held.{word_in};
+    ghost use Rattle.ap_exec.specs.Units.{Shown};
+
+    ghost Value = { Shown };
+
+    ghost view = { λ l. record { source = word_in l.source; target = word_in l.target; border = l.border; content = l.content.now } };
+
+    ghost invariant = { λ l. l.border ≤ length (word_in l.target) };
+}
+
+impl<'a> Lent<'a> {
+    /// A unit whose target's head has so many symbols.
+    pub(crate) fn new(
+        source: Held<'a>,
+        target: Held<'a>,
+        border: usize,
+        content: &'a [Inner],
+    ) -> Lent<'a>
+        requires { border ≤ length (word_in target) }
+        ensures { result ≡ record { source = word_in source.entry; target = word_in target.entry; border = border; content = content.now } }
+    {
+        Lent {
+            source,
+            target,
+            border,
+            content,
+        }
+    }
+
+    pub(crate) fn source(&self) -> &Word
+        ensures { result.now ≡ self.now.source }
+    {
+        self.source.word()
+    }
+
+    pub(crate) fn target(&self) -> &Word
+        ensures { result.now ≡ self.now.target }
+    {
+        self.target.word()
+    }
+
+    /// How many symbols of the target stand before its queue.
+    pub(crate) fn border(&self) -> usize
+        ensures value { result ≡ self.now.border }
+        ensures within { result ≤ length self.now.target }
+    {
+        self.border
+    }
+
+    /// The units and blanks of a chunk.
+    pub(crate) fn content(&self) -> &[Inner]
+        ensures { result.now ≡ self.now.content }
+    {
+        self.content
+    }
+
+    pub(crate) fn set_source(&mut self, word: Word)
+        ensures { self.new ≡ record self.old { source = word } }
+    {
+        self.source = Held::Made(word);
+    }
+
+    pub(crate) fn set_target(&mut self, word: Word, border: usize)
+        requires { border ≤ length word }
+        ensures { self.new ≡ record self.old { target = word; border = border } }
+    {
+        self.target = Held::Made(word);
+        self.border = border;
+    }
+}

@@ -1,0 +1,35 @@
+//! What a rule does to the units that it matches: its template, and the template with its slots filled.
+#![tactic(auto)]
+
+mod acting;
+mod beginning;
+mod changes;
+mod clips;
+mod comparing;
+mod conditions;
+mod filling;
+mod lent;
+mod matched;
+mod pieces;
+mod refusal;
+mod running;
+mod size_laws;
+mod sizes;
+mod stack;
+mod state;
+mod template;
+#[cfg(test)]
+mod tests;
+mod values;
+mod vars;
+mod word_laws;
+mod writing;
+
+pub use acting::act;
+pub use filling::fill;
+pub use matched::{Matched, MatchedUnit, MatchedUnits};
+pub use refusal::ExecRefusal;
+pub use size_laws::pieces_are_counted;
+pub use template::{Atom, Atoms, Blanks, Piece, Template};
+pub use vars::Vars;
+pub use word_laws::{words_are_compared, written_parts_are_read};

@@ -1,0 +1,271 @@
+//! The pieces that an output adds.
+ghost use Rattle.std.specs.Prelude.{◌≡◌, ◌++◌, [], map, IfOk, OnOk};
+ghost use Rattle.ap_symbol.specs.Words.{AreProper};
+ghost use Rattle.ap_rules.specs.Plain.{chunk, value_chunk};
+ghost use Rattle.ap_rules.specs.Views.{plain_value, plain_values, plain_chunk_piece, plain_chunk, plain_piece};
+ghost use Rattle.ap_exec.specs.Compounds.{joined_to, all_joined, values_in, tag_in};
+ghost use Rattle.ap_exec.specs.Pieces.{unit_of, units_of, compound, blank_atom, chunk_piece_of, chunk_pieces_of, tags_of, held_by, stated, name_of, atom_in, gives_content, content_of, contents_of, piece_of};
+ghost use Rattle.ap_exec.specs.Results.{Gives, seen};
+ghost use Rattle.ap_exec.specs.States.{sight};
+
+use crate::clips::unit_at;
+use crate::refusal::ExecRefusal;
+use crate::state::View;
+use crate::template::{Atom, Atoms, Piece};
+use crate::values::{append, push_values, var_at};
+use ap_rules::{Chunk, ChunkPiece, ClipPart, Lu, Piece as StatedPiece, Tag, Value, ValueChunk};
+use ap_stream::Inner;
+use ap_symbol::{Memory, Sequence, Symbol, Word, case_of_symbols, recase};
+use std::alloc::Global;
+
+/// The word of a unit: its values in order.
+fn word_of(alloc: Global, view: View<'_, '_>, values: &[Value]) -> Result<Word, ExecRefusal>
+    ensures { Gives (λ w. w) result (unit_of (sight view.entry) (plain_values values.now)) }
+{
+    let mut word = Word::new(alloc);
+    push_values(alloc, view, values, &mut word)?;
+    Ok(word)
+}
+
+/// Joins a word to those before it, where it isn't empty.
+fn join(alloc: Global, word: &Word, into: &mut Word) -> Result<(), Memory>
+    ensures { OnOk result (into.new ≡ joined_to into.old word.now) }
+{
+    if word.is_empty() {
+        return Ok(());
+    }
+    if !into.is_empty() {
+        into.push(Symbol::Join)?;
+    }
+    append(alloc, word.symbols(), into)
+}
+
+fn push_units(
+    alloc: Global,
+    view: View<'_, '_>,
+    units: &[Lu],
+    into: &mut Word,
+) -> Result<(), ExecRefusal>
+    ensures { Gives (λ _. into.new) result (seen (λ ws. all_joined into.old ws) (units_of (sight view.entry) (map values_in units.now))) }
+{
+    'units: for unit in units {
+        let word = word_of(alloc, view, &unit.values)?;
+        join(alloc, &word, into)?;
+    }
+    Ok(())
+}
+
+/// One word of several units.
+#[tactic(auto, using(crate::proofs::Compounds::all_joined_are))]
+fn compound_of(alloc: Global, view: View<'_, '_>, units: &[Lu]) -> Result<Word, ExecRefusal>
+    ensures { Gives (λ w. w) result (seen compound (units_of (sight view.entry) (map values_in units.now))) }
+{
+    let mut word = Word::new(alloc);
+    push_units(alloc, view, units, &mut word)?;
+    Ok(word)
+}
+
+/// A slot where the blank has a position, else a space.
+fn blank_atom(pos: Option<usize>) -> Atom
+    ensures { result ≡ blank_atom pos }
+{
+    match pos {
+        None => Atom::Space,
+        Some(_) => Atom::Slot,
+    }
+}
+
+fn chunk_piece_of(
+    alloc: Global,
+    view: View<'_, '_>,
+    piece: &ChunkPiece,
+) -> Result<Atom, ExecRefusal>
+    ensures { Gives (λ a. a) result (chunk_piece_of (sight view.entry) (plain_chunk_piece piece.now)) }
+{
+    match piece {
+        ChunkPiece::Lu(held) => Ok(Atom::Unit(word_of(alloc, view, &held.values)?)),
+        ChunkPiece::Mlu(held) => Ok(Atom::Unit(compound_of(alloc, view, &held.units)?)),
+        ChunkPiece::B(space) => Ok(blank_atom(space.pos)),
+    }
+}
+
+fn chunk_pieces_of(
+    alloc: Global,
+    view: View<'_, '_>,
+    pieces: &[ChunkPiece],
+) -> Result<Atoms, ExecRefusal>
+    ensures { Gives (λ a. a) result (chunk_pieces_of (sight view.entry) (map plain_chunk_piece pieces.now)) }
+{
+    let mut made = Sequence::new(alloc);
+    'pieces: for piece in pieces {
+        made.push(chunk_piece_of(alloc, view, piece)?)?;
+    }
+    Ok(made)
+}
+
+fn push_tags(
+    alloc: Global,
+    view: View<'_, '_>,
+    tags: &[Tag],
+    name: &mut Word,
+) -> Result<(), ExecRefusal>
+    ensures { Gives (λ _. name.new) result (seen (λ w. name.old ++ w) (tags_of (sight view.entry) (map tag_in tags.now))) }
+{
+    'tags: for tag in tags {
+        push_values(alloc, view, &tag.values, name)?;
+    }
+    Ok(())
+}
+
+/// What a variable holds, where one is given.
+fn held_by<'a>(view: View<'a, '_>, n: Option<usize>) -> &'a [Symbol]
+    ensures value { result.now ≡ held_by (sight view.entry).vars n }
+    ensures proper { AreProper result.now }
+{
+    match n {
+        None => &[],
+        Some(n) => var_at(view.world.vars, view.fresh, n),
+    }
+}
+
+/// The name that is stated, or what a variable holds.
+fn stated<'a>(view: View<'a, '_>, name: &'a Option<Word>, from: Option<usize>) -> &'a [Symbol]
+    ensures value { result.now ≡ stated (sight view.entry).vars name.now from }
+    ensures proper { AreProper result.now }
+{
+    match name {
+        None => held_by(view, from),
+        Some(name) => name.symbols(),
+    }
+}
+
+/// A chunk's name without its tags.
+fn name_of(alloc: Global, view: View<'_, '_>, held: &Chunk) -> Result<Word, Memory>
+    ensures { IfOk result (λ name. name ≡ name_of (sight view.entry).vars (plain_chunk held.now)) }
+{
+    let mut name = Word::new(alloc);
+    append(alloc, stated(view, &held.name, held.namefrom), &mut name)?;
+    match held.case {
+        None => Ok(name),
+        Some(n) => {
+            let case = case_of_symbols(var_at(view.world.vars, view.fresh, n));
+            recase(alloc, &name, case)
+        }
+    }
+}
+
+/// A chunk as transfer makes it.
+fn chunk_of(alloc: Global, view: View<'_, '_>, held: &Chunk) -> Result<Piece, ExecRefusal>
+    ensures { Gives (λ p. p) result (piece_of (sight view.entry) (chunk (plain_chunk held.now))) }
+{
+    let mut name = name_of(alloc, view, held)?;
+    push_tags(alloc, view, &held.tags, &mut name)?;
+    let atoms = chunk_pieces_of(alloc, view, &held.pieces)?;
+    Ok(Piece::Chunk(name, atoms))
+}
+
+/// The atom that stands for a part of a chunk.
+fn atom_in(alloc: Global, part: &Inner) -> Result<Atom, Memory>
+    ensures { IfOk result (λ a. a ≡ atom_in part.now) }
+{
+    match part {
+        Inner::Unit(unit) => Ok(Atom::Unit(unit.first().copy(alloc)?)),
+        Inner::Blank(_) => Ok(Atom::Slot),
+    }
+}
+
+fn push_parts(alloc: Global, parts: &[Inner], into: &mut Atoms) -> Result<(), Memory>
+    ensures { OnOk result (into.new ≡ into.old ++ map atom_in parts.now) }
+{
+    'parts: for part in parts {
+        into.push(atom_in(alloc, part)?)?;
+    }
+    Ok(())
+}
+
+/// Whether a clip gives the content of a chunk.
+fn gives_content(part: ClipPart, link: &Option<Word>) -> bool
+    ensures { result ≡ gives_content part link.now }
+{
+    match part {
+        ClipPart::Content => true,
+        ClipPart::Whole => link.is_none(),
+        _ => false,
+    }
+}
+
+/// Appends the content that a value of a chunk gives.
+#[tactic(auto, using(crate::proofs::Trees::views))]
+fn push_content(
+    alloc: Global,
+    view: View<'_, '_>,
+    value: &Value,
+    into: &mut Atoms,
+) -> Result<(), Memory>
+    ensures { OnOk result (into.new ≡ into.old ++ content_of (sight view.entry) (plain_value value.now)) }
+{
+    match value {
+        Value::Clip(clip) => {
+            if !gives_content(clip.part, &clip.link_to) {
+                return Ok(());
+            }
+            match unit_at(view.here, view.units, clip.pos) {
+                None => Ok(()),
+                Some(unit) => push_parts(alloc, unit.content(), into),
+            }
+        }
+        Value::Lit(_) | Value::LitTag(_) | Value::Var(_) | Value::GetCaseFrom(_) => Ok(()),
+        Value::CaseOf(_) | Value::Concat(_) | Value::B(_) => Ok(()),
+    }
+}
+
+fn push_contents(
+    alloc: Global,
+    view: View<'_, '_>,
+    values: &[Value],
+    into: &mut Atoms,
+) -> Result<(), Memory>
+    ensures { OnOk result (into.new ≡ into.old ++ contents_of (sight view.entry) (plain_values values.now)) }
+{
+    'values: for value in values {
+        push_content(alloc, view, value, into)?;
+    }
+    Ok(())
+}
+
+/// A chunk as interchunk makes it.
+fn value_chunk_of(
+    alloc: Global,
+    view: View<'_, '_>,
+    held: &ValueChunk,
+) -> Result<Piece, ExecRefusal>
+    ensures { Gives (λ p. p) result (piece_of (sight view.entry) (value_chunk (plain_values held.now.values.items))) }
+{
+    let name = word_of(alloc, view, &held.values)?;
+    let mut atoms = Sequence::new(alloc);
+    push_contents(alloc, view, &held.values, &mut atoms)?;
+    Ok(Piece::Chunk(name, atoms))
+}
+
+/// A piece of the output.
+pub(crate) fn piece_of(
+    alloc: Global,
+    view: View<'_, '_>,
+    piece: &StatedPiece,
+) -> Result<Piece, ExecRefusal>
+    ensures { Gives (λ p. p) result (piece_of (sight view.entry) (plain_piece piece.now)) }
+{
+    match piece {
+        StatedPiece::B(space) => Ok(Piece::Atom(blank_atom(space.pos))),
+        StatedPiece::Lu(held) => {
+            let word = word_of(alloc, view, &held.values)?;
+            Ok(Piece::Atom(Atom::Unit(word)))
+        }
+        StatedPiece::Mlu(held) => {
+            let word = compound_of(alloc, view, &held.units)?;
+            Ok(Piece::Atom(Atom::Unit(word)))
+        }
+        StatedPiece::Chunk(held) => chunk_of(alloc, view, held),
+        StatedPiece::ValueChunk(held) => value_chunk_of(alloc, view, held),
+    }
+}

@@ -1,0 +1,213 @@
+//! Running a body: one statement after another, and those that it leads to.
+ghost use Rattle.std.specs.Prelude.{◌≡◌, ◌+◌, ◌<◌, ◌++◌, length, take, map, OnOk};
+ghost use Rattle.ap_rules.specs.Plain.{whens_of, call_macro};
+ghost use Rattle.ap_rules.specs.Views.{plain_statement, plain_choose, plain_when};
+ghost use Rattle.ap_exec.specs.Choosing.{chosen};
+ghost use Rattle.ap_exec.specs.Costs.{cost_one, macro_cost};
+ghost use Rattle.ap_exec.specs.Results.{Gives};
+ghost use Rattle.ap_exec.specs.Running.{Still, Now, run_all, called, places_of, body_at, sight_of};
+ghost use Rattle.ap_exec.specs.Stacks.{left, rest_first, one_first, StandsOn, IsScope, IsNested, Leads, stack_cost, rest_cost, between, body_of};
+ghost use Rattle.ap_exec.specs.States.{body_in, now, still, sight};
+
+use crate::changes::{append, assign, modify_case, put_out};
+use crate::clips::number_at;
+use crate::conditions::holds;
+use crate::refusal::ExecRefusal;
+use crate::stack::{Frame, Scope, Stack};
+use crate::state::{State, View, World};
+use ap_rules::{CallMacro, Choose, DefMacro, Statement, When};
+use ap_symbol::Memory;
+use std::alloc::Global;
+
+/// Puts the positions of a macro behind those of the body that calls it.
+fn push_places(
+    scope: Scope,
+    params: &[usize],
+    positions: &mut Vec<Option<usize>>,
+) -> Result<(), Memory>
+    requires { IsScope scope positions.old.items }
+    ensures { OnOk result (positions.new.items ≡ take scope.to positions.old.items ++ places_of (between scope.from scope.to positions.old.items) params.now) }
+{
+    positions.truncate(scope.to);
+    let first = number_at(&positions[scope.from..scope.to], 0);
+    positions.push(first)?;
+    'params: for param in params {
+        let unit = number_at(&positions[scope.from..scope.to], *param);
+        positions.push(unit)?;
+    }
+    Ok(())
+}
+
+/// The statements of a macro, or none where there is no macro of that number.
+fn body_at(macros: &[DefMacro], n: usize) -> &[Statement]
+    ensures { (world : Still) → world.bodies ≡ map body_in macros.now → body_of result.now ≡ body_at world n }
+{
+    match macros.get(n) {
+        None => &[],
+        Some(called) => &called.statements,
+    }
+}
+
+/// What values are read from, while a body is run.
+fn view_in<'a, 'u>(
+    world: &'a World<'_>,
+    here: &'a [Option<usize>],
+    state: &'a State<'u>,
+) -> View<'a, 'u>
+    ensures { sight result ≡ sight_of (still world.now) here.now (now world.now state.now) }
+{
+    let world = World {
+        form: world.form,
+        attributes: world.attributes,
+        lists: world.lists,
+        macros: world.macros,
+        vars: world.vars,
+    };
+    View {
+        world,
+        here,
+        units: &state.units,
+        fresh: &state.fresh,
+    }
+}
+
+/// The statements that a choice runs: those of the first `when` whose condition holds, or else the
+/// others.
+fn choice<'a>(
+    alloc: Global,
+    view: View<'_, '_>,
+    whens: &'a [When],
+    otherwise: &'a [Statement],
+) -> Result<&'a [Statement], ExecRefusal>
+    ensures { Gives (λ taken. body_of taken.now) result (chosen (sight view.entry) (whens_of (map plain_when whens.now)) (body_of otherwise.now)) }
+{
+    'whens: for when in whens {
+        if holds(alloc, view, &when.test)? {
+            return Ok(&when.statements);
+        }
+    }
+    Ok(otherwise)
+}
+
+/// Puts the statements that a choice runs on top of the stack.
+fn run_choose<'a>(
+    alloc: Global,
+    world: World<'a>,
+    scope: Scope,
+    held: &'a Choose,
+    stack: &mut Stack<'a>,
+    state: &State<'_>,
+) -> Result<(), ExecRefusal>
+    requires { StandsOn stack.old scope }
+    ensures leads { Leads result (one_first (still world.entry) stack.old scope (plain_choose held.now) (now world.entry state.now)) (left (still world.entry) stack.new (now world.entry state.now)) }
+    ensures nested { OnOk result (IsNested stack.new) }
+    ensures cost { OnOk result (stack_cost (still world.entry) stack.new < cost_one (macro_cost (still world.entry) scope.visible) (plain_choose held.now) + stack_cost (still world.entry) stack.old) }
+{
+    let here = &stack.positions[scope.from..scope.to];
+    let view = view_in(&world, here, state);
+    let taken = choice(alloc, view, &held.whens, &held.otherwise)?;
+    stack.push(taken, scope)?;
+    Ok(())
+}
+
+/// Puts the statements of a macro on top of the stack, with the units that it is given. A macro
+/// that isn't in view does nothing.
+fn run_call<'a>(
+    world: World<'a>,
+    scope: Scope,
+    held: &CallMacro,
+    stack: &mut Stack<'a>,
+) -> Result<(), Memory>
+    requires { StandsOn stack.old scope }
+    ensures left { OnOk result ((s : Now) → left (still world.entry) stack.new s ≡ one_first (still world.entry) stack.old scope (call_macro held.now.n held.now.params.items) s) }
+    ensures nested { OnOk result (IsNested stack.new) }
+    ensures cost { OnOk result (stack_cost (still world.entry) stack.new < macro_cost (still world.entry) scope.visible held.now.n + 2 + stack_cost (still world.entry) stack.old) }
+{
+    if held.n >= scope.visible {
+        return Ok(());
+    }
+    push_places(scope, &held.params, &mut stack.positions)?;
+    let within = Scope {
+        from: scope.to,
+        to: stack.positions.len(),
+        visible: held.n,
+    };
+    stack.push(body_at(world.macros, held.n), within)?;
+    Ok(())
+}
+
+/// Runs a statement, or puts what it leads to on top of the stack.
+fn run_statement<'a>(
+    alloc: Global,
+    world: World<'a>,
+    scope: Scope,
+    statement: &'a Statement,
+    stack: &mut Stack<'a>,
+    state: &mut State<'_>,
+) -> Result<(), ExecRefusal>
+    requires { StandsOn stack.old scope }
+    ensures leads { Leads result (one_first (still world.entry) stack.old scope (plain_statement statement.now) (now world.entry state.old)) (left (still world.entry) stack.new (now world.entry state.new)) }
+    ensures nested { OnOk result (IsNested stack.new) }
+    ensures cost { OnOk result (stack_cost (still world.entry) stack.new < cost_one (macro_cost (still world.entry) scope.visible) (plain_statement statement.now) + stack_cost (still world.entry) stack.old) }
+{
+    let here = &stack.positions[scope.from..scope.to];
+    match statement {
+        Statement::Let(held) => assign(alloc, world, here, held, state),
+        Statement::Append(held) => append(alloc, world, here, held, state),
+        Statement::Out(held) => put_out(alloc, world, here, held, state),
+        Statement::ModifyCase(held) => modify_case(alloc, world, here, held, state),
+        Statement::Choose(held) => run_choose(alloc, world, scope, held, stack, state),
+        Statement::CallMacro(held) => {
+            run_call(world, scope, held, stack)?;
+            Ok(())
+        }
+    }
+}
+
+/// Runs the first statement of a body, and puts the others below what it leads to.
+fn run_first<'a>(
+    alloc: Global,
+    world: World<'a>,
+    frame: Frame<'a>,
+    stack: &mut Stack<'a>,
+    state: &mut State<'_>,
+) -> Result<(), ExecRefusal>
+    requires { StandsOn stack.old frame.scope }
+    ensures leads { Leads result (rest_first (still world.entry) stack.old frame.entry.scope frame.entry.rest.now (now world.entry state.old)) (left (still world.entry) stack.new (now world.entry state.new)) }
+    ensures nested { OnOk result (IsNested stack.new) }
+    ensures cost { OnOk result (stack_cost (still world.entry) stack.new < rest_cost (still world.entry) frame.entry.scope frame.entry.rest.now + 1 + stack_cost (still world.entry) stack.old) }
+{
+    match frame.rest.split_first() {
+        None => Ok(()),
+        Some((statement, more)) => {
+            stack.push(more, frame.scope)?;
+            run_statement(alloc, world, frame.scope, statement, stack, state)
+        }
+    }
+}
+
+/// Runs the statements of a body with these units at its positions. Each macro may be called.
+pub(crate) fn run_body<'a>(
+    alloc: Global,
+    world: World<'a>,
+    here: Vec<Option<usize>>,
+    action: &'a [Statement],
+    state: &mut State<'_>,
+) -> Result<(), ExecRefusal>
+    ensures { Gives (λ _. now world.entry state.new) result (run_all (still world.entry) (called (still world.entry) (length world.entry.macros.now)) here.items (body_of action.now) (now world.entry state.old)) }
+{
+    let scope = Scope {
+        from: 0,
+        to: here.len(),
+        visible: world.macros.len(),
+    };
+    let mut stack = Stack {
+        frames: Vec::new(alloc),
+        positions: here,
+    };
+    stack.push(action, scope)?;
+    'frames: while let Some(frame) = stack.frames.pop() {
+        run_first(alloc, world, frame, &mut stack, state)?;
+    }
+    Ok(())
+}
