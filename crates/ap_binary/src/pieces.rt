@@ -3,14 +3,13 @@ ghost use Rattle.std.specs.List.{prefix_len};
 ghost use Rattle.std.specs.Option.{MatchOption};
 ghost use Rattle.ap_binary.specs.Reading.{Gives};
 ghost use Rattle.ap_binary.specs.Pieces.{byte_at, word_at, is_digit, value_after, is_numeral, limited, number_at, state_of, is_character, character_of, character_at, letter_at, is_utf8, is_name_byte, tag_of, tag_at, side_at, label_of, label_at, number_then, edge_at, final_at, kind_at, head_at, scalar_of};
-ghost use Rattle.ap_symbol.specs.Words.{is_white};
 ghost use Rattle.ap_symbol.specs.TagNames.{is_reserved_lem};
 
 use crate::heads::Head;
 use crate::refusal::CutError;
 use crate::writing::section_name;
 use ap_fst::{Edge, Kind2, Label};
-use ap_symbol::{Symbol, TagName};
+use ap_symbol::{Symbol, TagName, is_white};
 use std::alloc::Global;
 
 #[tactic(auto, unfolding(crate::specs::Pieces::byte_at))]
@@ -116,12 +115,6 @@ pub(crate) fn state_of(number: Option<u64>) -> usize
         Some(state) => state as usize,
         None => usize::MAX,
     }
-}
-
-fn is_white(c: char) -> bool
-    ensures { result ≡ is_white c }
-{
-    matches!(c, '\t' | '\n' | '\r' | ' ')
 }
 
 /// The character of a code point; None for a surrogate and above the last code point.

@@ -50,13 +50,13 @@ fn section_fault(alloc: Global, section: &Written) -> Result<Option<BinaryFault>
     }
 }
 
-/// A section, trimmed, or its fault.
-fn trimmed_section(alloc: Global, section: &Written) -> Result<Fst, BinaryRefusal>
-    requires { line_after section.now < 2 ^ 64 }
-    ensures spelled { IfOk result (λ fst. IsSpelled section.now fst) }
-    ensures fault { IfErr result (λ e. IfFault e (λ f. IsFaultOf section.now f)) }
+/// A section, trimmed, or its fault. As it was read it is let go.
+fn trimmed_section(alloc: Global, section: Written) -> Result<Fst, BinaryRefusal>
+    requires { line_after section < 2 ^ 64 }
+    ensures spelled { IfOk result (λ fst. IsSpelled section fst) }
+    ensures fault { IfErr result (λ e. IfFault e (λ f. IsFaultOf section f)) }
 {
-    match section_fault(alloc, section)? {
+    match section_fault(alloc, &section)? {
         Some(fault) => Err(BinaryRefusal::Fault(fault)),
         None => Ok(trim(alloc, &section.fst)?),
     }
@@ -72,15 +72,15 @@ pub(crate) struct Trimmed {
 }
 
 /// The sections, trimmed, or the fault of the first that has one.
-fn trimmed_sections(alloc: Global, sections: &Sections) -> Result<Trimmed, BinaryRefusal>
-    requires { AreWithin sections.now }
-    ensures spelled { IfOk result (λ made. AreSpelled sections.now made) }
-    ensures fault { IfErr result (λ e. IfFault e (λ f. IsFirstIn (in_order sections.now) f)) }
+fn trimmed_sections(alloc: Global, sections: Sections) -> Result<Trimmed, BinaryRefusal>
+    requires { AreWithin sections }
+    ensures spelled { IfOk result (λ made. AreSpelled sections made) }
+    ensures fault { IfErr result (λ e. IfFault e (λ f. IsFirstIn (in_order sections) f)) }
 {
-    let standard = trimmed_section(alloc, &sections.standard)?;
-    let inconditional = trimmed_section(alloc, &sections.inconditional)?;
-    let postblank = trimmed_section(alloc, &sections.postblank)?;
-    let preblank = trimmed_section(alloc, &sections.preblank)?;
+    let standard = trimmed_section(alloc, sections.standard)?;
+    let inconditional = trimmed_section(alloc, sections.inconditional)?;
+    let postblank = trimmed_section(alloc, sections.postblank)?;
+    let preblank = trimmed_section(alloc, sections.preblank)?;
     Ok(Trimmed {
         standard,
         inconditional,
@@ -116,7 +116,7 @@ pub fn read_compiled(alloc: Global, text: &[u8]) -> Result<Compiled, BinaryRefus
         alphabet,
         sections,
     } = read_file(alloc, text)?;
-    let made = trimmed_sections(alloc, &sections)?;
+    let made = trimmed_sections(alloc, sections)?;
     let Trimmed {
         standard,
         inconditional,

@@ -1,4 +1,4 @@
-use Rattle.std.proofs.Common.{◌≡◌, List, sym, subst}
+use Rattle.std.proofs.Common.{◌≡◌, List, subst}
 use Rattle.std.specs.Prelude.{◌↔◌}
 use Rattle.ap_dix.specs.Derivation.{Label as EntryLabel, Strings}
 use Rattle.ap_dix.specs.declared.dictionary.Dictionary.{Dictionary}
@@ -19,27 +19,21 @@ string_of d direction kind labels s = record { section = s.item; entry = s.holds
 any_string : (d : Dictionary) (direction : Direction) (kind : Kind) (labels : List EntryLabel) → Strings d direction kind labels → Any (SpellsIn d direction kind) d.sections labels
 any_string d direction kind labels s = record { item = s.section; listed = s.listed; holds = record { of_kind = s.of_kind; spells = record { item = s.entry; listed = s.entered; holds = record { kept = s.kept; derived = s.derived } } } }
 
-pub section_strings : (d : Dictionary) (direction : Direction) (kind : Kind) (sections : List Section) (draft : Sketch) (old new : Machine) → sections ≡ d.sections → IsDraftOf (Any (SpellsIn d direction kind) sections) draft
-    → ((w : List Label) → AcceptsLabels old w ↔ Accepts draft w) → ((w : List Label) → AcceptsLabels new w ↔ AcceptsLabels old w) → (w : List Label) → AcceptsLabels new w ↔ Strings d direction kind (derived_labels w)
-section_strings d direction kind sections draft old new e h made same w =
+pub section_strings : (d : Dictionary) (direction : Direction) (kind : Kind) (sections : List Section) (draft : Sketch) (m : Machine) → sections ≡ d.sections → IsDraftOf (Any (SpellsIn d direction kind) sections) draft
+    → ((w : List Label) → AcceptsLabels m w ↔ Accepts draft w) → (w : List Label) → AcceptsLabels m w ↔ Strings d direction kind (derived_labels w)
+section_strings d direction kind sections draft m e h same w =
     let k : IsDraftOf (Any (SpellsIn d direction kind) d.sections) draft = subst (λ (xs : List Section). IsDraftOf (Any (SpellsIn d direction kind) xs) draft) e h in (
-      (λ a. string_of d direction kind (derived_labels w) ((k.exact w).0 ((made w).0 ((same w).0 a)))),
-      (λ s. (same w).1 ((made w).1 ((k.exact w).1 (any_string d direction kind (derived_labels w) s)))),
+      (λ a. string_of d direction kind (derived_labels w) ((k.exact w).0 ((same w).0 a))),
+      (λ s. (same w).1 ((k.exact w).1 (any_string d direction kind (derived_labels w) s))),
     )
 
--- the label strings stay the same through trimming, determinisation and minimisation
-pub same_on : (old useful made small new : Machine) → new ≡ small → ((w : List Label) → AcceptsLabels useful w ↔ AcceptsLabels old w) → ((w : List Label) → AcceptsLabels made w ↔ AcceptsLabels useful w) → ((w : List Label) → AcceptsLabels small w ↔ AcceptsLabels made w)
-    → (w : List Label) → AcceptsLabels new w ↔ AcceptsLabels old w
-same_on old useful made small new e first second third w =
-    subst (λ (z : Machine). AcceptsLabels z w ↔ AcceptsLabels old w) (sym e) (λ a. (first w).0 ((second w).0 ((third w).0 a)), λ a. (third w).1 ((second w).1 ((first w).1 a)))
+-- what a transducer accepts of a draft stays the same in one that is made from it
+pub still : (draft : Sketch) (old new : Machine) → ((w : List Label) → AcceptsLabels new w ↔ AcceptsLabels old w) → ((w : List Label) → AcceptsLabels old w ↔ Accepts draft w) → (w : List Label) → AcceptsLabels new w ↔ Accepts draft w
+still draft old new f g w = ((λ a. (g w).0 ((f w).0 a)), (λ a. (f w).1 ((g w).1 a)))
 
--- and on the way to a draft of the small one
-pub same_draft : (old new : Sketch) (fst useful one small : Machine) → ((w : List Label) → Accepts new w ↔ AcceptsLabels small w) → ((w : List Label) → AcceptsLabels fst w ↔ Accepts old w) → ((w : List Label) → AcceptsLabels useful w ↔ AcceptsLabels fst w)
-    → ((w : List Label) → AcceptsLabels one w ↔ AcceptsLabels useful w) → ((w : List Label) → AcceptsLabels small w ↔ AcceptsLabels one w) → (w : List Label) → Accepts new w ↔ Accepts old w
-same_draft old new fst useful one small last first second third fourth w = (
-  λ a. (first w).0 ((second w).0 ((third w).0 ((fourth w).0 ((last w).0 a)))),
-  λ a. (last w).1 ((fourth w).1 ((third w).1 ((second w).1 ((first w).1 a)))),
-)
+-- and in a draft of it
+pub again : (old new : Sketch) (m : Machine) → ((w : List Label) → Accepts new w ↔ AcceptsLabels m w) → ((w : List Label) → AcceptsLabels m w ↔ Accepts old w) → (w : List Label) → Accepts new w ↔ Accepts old w
+again old new m f g w = ((λ a. (g w).0 ((f w).0 a)), (λ a. (f w).1 ((g w).1 a)))
 
 -- another draft that accepts the same
 pub draft_of_same : (P : List EntryLabel → Type 0) (old new : Sketch) → ((w : List Label) → Accepts new w ↔ Accepts old w) → IsDraftOf P old → IsDraftOf P new

@@ -1,7 +1,6 @@
 ghost use Rattle.std.specs.Prelude.{◌≡◌, ◌↔◌, ◌+◌, ◌<◌, ◌≤◌, ◌∷◌, [], List, ℕ, map, not, IsTrue, IfOk};
 ghost use Rattle.std.specs.List.{list_any};
 ghost use Rattle.std.specs.List.Sorted.{IsNonDecreasingBy};
-ghost use Rattle.ap_symbol.specs.Words.{is_white};
 ghost use Rattle.ap_dix.specs.Forms.{forms_of};
 ghost use Rattle.ap_dix.specs.Language.{Lang, LangAll, LangSome, IsOfClass, spans};
 ghost use Rattle.ap_dix.specs.Plain.{plain};
@@ -11,14 +10,8 @@ ghost use Rattle.ap_compile.specs.Forming.{OfStrings, IsCode, IsOfSpan, range_fi
 
 use ap_dix::{Expr, Range};
 use ap_fst::{Draft, Label};
-use ap_symbol::{Memory, Symbol};
+use ap_symbol::{Memory, Symbol, is_white};
 use std::alloc::Global;
-
-fn is_white(c: char) -> bool
-    ensures { result ≡ is_white c }
-{
-    matches!(c, '\t' | '\n' | '\r' | ' ')
-}
 
 /// Accepts the symbol with itself.
 fn symbol_draft(alloc: Global, symbol: &Symbol) -> Result<Draft, Memory>

@@ -9,7 +9,9 @@ mod expressions;
 mod gathering;
 mod laws;
 mod paradigms;
+mod places;
 mod sections;
+mod small;
 #[cfg(test)]
 mod tests;
 

@@ -7,22 +7,18 @@ ghost use Rattle.ap_fst.specs.declared.label.Label.{Label};
 ghost use Rattle.ap_compile.specs.Drafts.{IsDraftOf, Any, Spells, AreDrafts};
 
 use crate::gathering::entries_draft;
-use ap_det::determinise;
+use crate::small::canonical_form;
 use ap_dix::{Dictionary, Direction, Entry};
-use ap_fst::{Draft, trim, without_empty};
-use ap_min::minimise;
+use ap_fst::Draft;
 use ap_symbol::Memory;
 use std::alloc::Global;
 
 /// A draft of the same label strings: that of their canonical transducer.
-fn small_draft(alloc: Global, draft: &Draft) -> Result<Draft, Memory>
-    ensures { IfOk result (λ made. (w : List Label) → Accepts made w ↔ Accepts draft.now w) }
+fn small_draft(alloc: Global, draft: Draft) -> Result<Draft, Memory>
+    ensures { IfOk result (λ made. (w : List Label) → Accepts made w ↔ Accepts draft w) }
 {
-    let fst = without_empty(alloc, draft)?;
-    let useful = trim(alloc, &fst)?;
-    let one = determinise(alloc, &useful)?;
-    let small = minimise(alloc, &one)?;
-    let made = Draft::of(alloc, small.as_fst())?;
+    let small = canonical_form(alloc, draft)?;
+    let made = Draft::of(alloc, &small)?;
     Ok(made)
 }
 
@@ -38,7 +34,7 @@ fn paradigm_draft(
     ensures { IfOk result (λ made. (d : Lexicon) → AreDrafts d direction drafts.now → IsDraftOf (Any (Spells d direction) entries.now) made) }
 {
     let draft = entries_draft(alloc, direction, drafts, entries)?;
-    let made = small_draft(alloc, &draft)?;
+    let made = small_draft(alloc, draft)?;
     Ok(made)
 }
 

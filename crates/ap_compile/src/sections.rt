@@ -10,10 +10,9 @@ ghost use Rattle.ap_compile.specs.Labels.{derived_labels, ArePlain};
 ghost use Rattle.ap_compile.specs.Drafts.{IsDraftOf, IsMoreBy, Any, SpellsIn, AreDrafts};
 
 use crate::gathering::entries_draft;
-use ap_det::determinise;
+use crate::small::canonical_form;
 use ap_dix::{Dictionary, Direction, Kind, Section};
-use ap_fst::{Draft, Fst, trim, without_empty};
-use ap_min::minimise;
+use ap_fst::{Draft, Fst};
 use ap_symbol::Memory;
 use std::alloc::Global;
 
@@ -76,9 +75,6 @@ pub fn section(
         kind,
         dictionary.sections.as_slice(),
     )?;
-    let fst = without_empty(alloc, &draft)?;
-    let useful = trim(alloc, &fst)?;
-    let made = determinise(alloc, &useful)?;
-    let small = minimise(alloc, &made)?;
-    Ok(small.into_fst())
+    let fst = canonical_form(alloc, draft)?;
+    Ok(fst)
 }

@@ -4,8 +4,7 @@ ghost use Rattle.ap_dix.specs.Grammar.{is_skipped, is_sign, is_reserved, is_memb
 ghost use Rattle.ap_dix.specs.Machines.{cut_step, cut_end, pieces_of};
 ghost use Rattle.ap_dix.specs.Views.{cut_of};
 
-use crate::words::is_white;
-use ap_symbol::Memory;
+use ap_symbol::{Memory, is_white};
 use std::alloc::Global;
 
 /// A character of an expression's text, and whether `\` stands before it.

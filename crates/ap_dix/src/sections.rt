@@ -7,9 +7,8 @@ ghost use Rattle.ap_dix.specs.Value.{alphabet, dictionary, kind_of, section, sec
 use crate::dictionary::{Dictionary, Kind, Section, Sections};
 use crate::entries::entries;
 use crate::pardefs::pardefs;
-use crate::words::is_white;
 use ap_markup::{Names, Node, Part, child, is_named, is_text, value_of};
-use ap_symbol::{Letters, Memory, Sequence};
+use ap_symbol::{Letters, Memory, Sequence, is_white};
 use std::alloc::Global;
 
 fn kind_of(value: Option<&[char]>) -> Kind

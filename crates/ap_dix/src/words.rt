@@ -1,19 +1,12 @@
 ghost use Rattle.std.specs.Prelude.{◌≡◌, ◌++◌, IfOk, OnOk};
 ghost use Rattle.std.specs.Str.{encode_utf8_all};
 ghost use Rattle.std.specs.String.{string_bytes};
-ghost use Rattle.ap_symbol.specs.Words.{is_white};
 ghost use Rattle.ap_markup.specs.View.{parts_of, tag_of};
 ghost use Rattle.ap_dix.specs.WordText.{letter, letters, mark, tag_named, symbols, texts};
 
 use ap_markup::{Node, Part, is_named, name_of};
-use ap_symbol::{Memory, Sequence, Symbol, TagName, Text, Word};
+use ap_symbol::{Memory, Sequence, Symbol, TagName, Text, Word, is_white};
 use std::alloc::Global;
-
-pub fn is_white(c: char) -> bool
-    ensures { result ≡ is_white c }
-{
-    matches!(c, '\t' | '\n' | '\r' | ' ')
-}
 
 /// Appends what a character of a text is.
 fn add_letter(word: &mut Word, c: char) -> Result<(), Memory>
