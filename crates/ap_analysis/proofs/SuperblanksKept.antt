@@ -1,8 +1,7 @@
 -- Analysis keeps superblanks.
-use Rattle.std.specs.Prelude.{◌≡◌, ◌⊎◌, ℕ, zero, suc, pred, ◌+◌, ◌<◌, ◌≤◌, nat_lt, Bool, true, false, cond, List, [], ◌∷◌, ◌++◌, map, length, take, drop, Some, None, refl, if◌then◌else◌}
+use Rattle.std.specs.Prelude.{◌≡◌, ◌⊎◌, ℕ, zero, suc, pred, ◌+◌, ◌<◌, ◌≤◌, Bool, true, false, cond, List, [], ◌∷◌, ◌++◌, map, length, take, drop, Some, None, refl, if◌then◌else◌}
 use Rattle.std.specs.List.{flat_map, prefix_len}
 use Rattle.std.proofs.Common.{arith, ap, sym, subst, ◌∙◌, inl, inr}
-use Rattle.std.proofs.lemmas.Bool.{cases_lt}
 use Rattle.std.proofs.lemmas.Grind.{flat_map-append}
 use Rattle.std.proofs.lemmas.List.{length-take-le, take-append-drop}
 use Rattle.std.proofs.lemmas.List.Concat.{flat_map-cons}
@@ -11,18 +10,17 @@ use Rattle.ap_symbol.specs.Words.{is_white}
 use Rattle.ap_symbol.specs.declared.symbol.Symbol.{Symbol}
 use Rattle.ap_symbol.specs.declared.symbol.Symbol.TheVariants as symbol
 use Rattle.ap_fst.specs.declared.compiled.Kind2.{Kind2}
-use Rattle.ap_fst.specs.declared.compiled.Kind2.TheVariants.{Standard, Inconditional, Postblank, Preblank}
-use Rattle.ap_fst.proofs.Listing.{in_either, in_map}
+use Rattle.ap_fst.specs.declared.compiled.Kind2.TheVariants.{Postblank, Preblank}
+use Rattle.ap_fst.proofs.Listing.{in_map}
 use Rattle.ap_stream.specs.Each.{item_text}
 use Rattle.ap_stream.specs.Laws.{AreSpelt, EachSpelt, AreAsMany, AreWords}
-use Rattle.ap_stream.specs.Limits.{span_max, unit_max}
 use Rattle.ap_stream.specs.Pieces.{HasSuperblanks, nothing, HaveSameSuperblanks, MakesNone, supers_of}
 use Rattle.ap_stream.specs.Reading.{reads}
 use Rattle.ap_stream.specs.Spelling.{spelled, unit_bytes}
+use Rattle.ap_stream.specs.Steps.{Step, Gives, Stops, goes_on, steps, before}
 use Rattle.ap_stream.specs.Supers.{item_supers}
 use Rattle.ap_stream.specs.Told.{Clean}
 use Rattle.ap_stream.specs.declared.dialect.Dialect.TheVariants.{Raw, Analysed}
-use Rattle.ap_stream.specs.declared.fault.LimitKind.TheVariants.{UnitTooLong}
 use Rattle.ap_stream.specs.declared.item.Item.{Item}
 use Rattle.ap_stream.specs.declared.item.Item.TheVariants as item
 use Rattle.ap_stream.specs.declared.item.Read.{Read}
@@ -37,15 +35,15 @@ use Rattle.ap_live.specs.Readable.{IsReadable, GivesReadable}
 use Rattle.ap_live.specs.Readings.{carried}
 use Rattle.ap_live.proofs.Readables.{ordered_readable}
 use Rattle.ap_live.proofs.WordOrder.{in_order_some, some_word}
-use Rattle.ap_analysis.specs.Analysis.{readings_at, known_unit, unknown_unit, space_at, swallowed, known_text, Step, Gives, Stops, limited_unit, copied, step_within, first_step, goes_on, steps, analysed}
-use Rattle.ap_analysis.specs.Items.{symbol_of, before, front, bytes_of}
-use Rattle.ap_analysis.specs.Laws.{GoesOn}
-use Rattle.ap_analysis.specs.Licence.{is_letter_symbol, is_alphabetic, begins_alphabetic, surface, standard_words, licensed_words, is_licensed, licence, run_length, span}
+use Rattle.ap_analysis.specs.Analysis.{readings_at, known_unit, unknown_unit, space_at, swallowed, known_text, copied, first_step, analysed}
+use Rattle.ap_analysis.specs.Items.{symbol_of, symbols}
+use Rattle.ap_analysis.specs.Licence.{is_letter_symbol, is_alphabetic, surface, licensed_words, is_licensed, licence, run_length}
 use Rattle.ap_analysis.specs.Whole.{analysis}
 use Rattle.ap_analysis.proofs.Fronts.{run_front}
-use Rattle.ap_analysis.proofs.Goings.{licence_greatest, first_goes_on}
+use Rattle.ap_analysis.proofs.Goings.{licence_greatest, Uses, first_uses}
 use Rattle.ap_analysis.proofs.Lengths.{licence_passes}
-use Rattle.ap_analysis.proofs.Steps.{over, within, step_known, step_unknown, step_copied}
+use Rattle.ap_analysis.proofs.LicensedWords.{licensed_each}
+use Rattle.ap_analysis.proofs.Steps.{first_each}
 
 -- items that were read
 abbrev AreRead : List Read → Type 0
@@ -84,15 +82,15 @@ one_spelt v (item.Blank all) bytes symbols h k = (tt, k)
 one_spelt v (item.Unit words) bytes symbols h k = tt
 one_spelt v (item.Chunk c) bytes symbols h k = tt
 
-front_spelt : (v : Bool) (reads : List Read) → AreRead reads → AreSpelt v (front reads)
+front_spelt : (v : Bool) (reads : List Read) → AreRead reads → AreSpelt v (symbols reads)
 front_spelt v [] h = tt
-front_spelt v (read ∷ reads) h = one_spelt v read.item h.0.0 (front reads) h.0.1 (front_spelt v reads h.1)
+front_spelt v (read ∷ reads) h = one_spelt v read.item h.0.0 (symbols reads) h.0.1 (front_spelt v reads h.1)
 
 surface_spelt : (v : Bool) (reads : List Read) (n : ℕ) → AreRead reads → AreSpelt v (surface reads n)
-surface_spelt v reads n h = spelt_take v n (front reads) (front_spelt v reads h)
+surface_spelt v reads n h = spelt_take v n (symbols reads) (front_spelt v reads h)
 
-surface_some : (reads : List Read) (n : ℕ) → 0 < n → n ≤ length (front reads) → 0 < length (surface reads n)
-surface_some reads n some fits = let l = length-take-le n (front reads) fits in omega (arith, l, some)
+surface_some : (reads : List Read) (n : ℕ) → 0 < n → n ≤ length (symbols reads) → 0 < length (surface reads n)
+surface_some reads n some fits = let l = length-take-le n (symbols reads) fits in omega (arith, l, some)
 
 many : (words : List (List Symbol)) → has_words words ≡ true → AreAsMany true words
 many [] h = absurd (cc)
@@ -100,22 +98,7 @@ many (word ∷ words) h = refl
 
 module _ (lexicon : Lexicon) (sensitive : Bool) (gives : GivesReadable lexicon) where
   licensed_readable : (reads : List Read) (n : ℕ) (w : List Symbol) → IsIn w (licensed_words lexicon reads n) → IsReadable w
-  licensed_readable reads n w i =
-      let seen : List Symbol = surface reads n in
-      let b : List (List Symbol) = lexicon.readings Inconditional seen in
-      let c : List (List Symbol) = lexicon.readings Postblank seen in
-      let d : List (List Symbol) = lexicon.readings Preblank seen in
-      elim (in_either w (standard_words lexicon reads n) (b ++ (c ++ d)) i) [
-        | inl k ↦ standard (begins_alphabetic lexicon (drop n reads)) k
-        | inr k ↦ elim (in_either w b (c ++ d) k) [
-          | inl j ↦ gives Inconditional seen w j
-          | inr j ↦ elim (in_either w c d j) [ inl h ↦ gives Postblank seen w h | inr h ↦ gives Preblank seen w h ]
-        ]
-      ]
-    where
-      standard : (v : Bool) → IsIn w (if v then [] else lexicon.readings Standard (surface reads n)) → IsReadable w
-      standard true k = elim k [ ]
-      standard false k = gives Standard (surface reads n) w k
+  licensed_readable reads n = licensed_each lexicon reads n IsReadable (λ kind w i. gives kind (surface reads n) w i)
 
   readings_spelt : (reads : List Read) (n : ℕ) → EachSpelt (readings_at lexicon sensitive reads n)
   readings_spelt reads n = each_spelt (readings_at lexicon sensitive reads n) (ordered_readable sensitive (surface reads n) (licensed_words lexicon reads n) (licensed_readable reads n))
@@ -132,13 +115,6 @@ module _ (lexicon : Lexicon) (sensitive : Bool) (gives : GivesReadable lexicon) 
   StepKeeps reads (Gives n text) = HasSuperblanks Analysed text (supers_of (take n reads))
   StepKeeps reads (Stops kind) = Unit {0}
 
-  limited_keeps : (reads : List Read) (unit : List ℕ) (n : ℕ) (text : List ℕ) → HasSuperblanks Analysed text (supers_of (take n reads)) → StepKeeps reads (limited_unit unit n text)
-  limited_keeps reads unit n text h = by (nat_lt unit_max (length unit))
-    where
-      by : (v : Bool) → StepKeeps reads (if v then Stops UnitTooLong else Gives n text)
-      by true = tt
-      by false = h
-
   space_none : (kind : Kind2) (reads : List Read) (n : ℕ) → HasSuperblanks Analysed (space_at lexicon kind reads n) []
   space_none kind reads n = by (has_words (lexicon.readings kind (surface reads n)))
     where
@@ -146,7 +122,7 @@ module _ (lexicon : Lexicon) (sensitive : Bool) (gives : GivesReadable lexicon) 
       by true = space_has_none Analysed [] (nothing refl refl)
       by false = nothing refl refl
 
-  known_keeps : (reads : List Read) (n : ℕ) → AreRead reads → 0 < n → n ≤ length (front reads) → is_licensed lexicon reads n ≡ true → HasSuperblanks Analysed (known_text lexicon sensitive reads n) (supers_of (take n reads))
+  known_keeps : (reads : List Read) (n : ℕ) → AreRead reads → 0 < n → n ≤ length (symbols reads) → is_licensed lexicon reads n ≡ true → HasSuperblanks Analysed (known_text lexicon sensitive reads n) (supers_of (take n reads))
   known_keeps reads n h some fits licensed =
       let words : AreWords Analysed (surface reads n ∷ readings_at lexicon sensitive reads n) = (refl, surface_some reads n some fits, surface_spelt true reads n h, readings_spelt reads n, readings_many reads n licensed) in
       let unit : HasSuperblanks Analysed (known_unit lexicon sensitive reads n) [] = unit_has_none Analysed (surface reads n ∷ readings_at lexicon sensitive reads n) words in
@@ -198,58 +174,43 @@ module _ (lexicon : Lexicon) (sensitive : Bool) (gives : GivesReadable lexicon) 
       subst (λ (q : List ℕ). HasSuperblanks Analysed q (supers_of (read ∷ []))) (sym text)
       (subst (λ (q : List (List ℕ)). HasSuperblanks Analysed (spelled read.item ++ []) q) (sym (supers_more read [])) (joined Analysed (spelled read.item) [] (item_supers read.item) [] one (nothing refl refl)))
 
-  within_keeps : (read : Read) (reads : List Read) → AreRead (read ∷ reads) → StepKeeps (read ∷ reads) (step_within lexicon sensitive (read ∷ reads))
-  within_keeps read reads h =
+  first_keeps : (read : Read) (reads : List Read) → AreRead (read ∷ reads) → StepKeeps (read ∷ reads) (first_step lexicon sensitive (read ∷ reads))
+  first_keeps read reads h =
       let whole : List Read = read ∷ reads in
-      let k = licence lexicon whole in
-      elim (cases_lt 0 k) [
-        | inl some ↦ subst (StepKeeps whole) (sym (step_known lexicon sensitive whole some)) (limited_keeps whole (known_unit lexicon sensitive whole k) k (known_text lexicon sensitive whole k)
-            (known_keeps whole k h some (licence_greatest lexicon whole).within (passes k some (licence_passes lexicon whole))))
-        | inr ends ↦
-            let none : k ≡ 0 = omega arith in
-            elim (cases_lt 0 (run_length lexicon whole)) [
-              | inl run ↦ subst (StepKeeps whole) (sym (step_unknown lexicon sensitive whole none run))
-                  (limited_keeps whole (unknown_unit whole (run_length lexicon whole)) (run_length lexicon whole) (unknown_unit whole (run_length lexicon whole)) (unknown_keeps whole h run))
-              | inr no_run ↦ subst (StepKeeps whole) (sym (step_copied lexicon sensitive whole none (omega arith))) (copied_keeps read reads h)
-            ]
-      ]
+      let k : ℕ = licence lexicon whole in
+      first_each lexicon sensitive whole (StepKeeps whole) (λ kind. tt)
+      (λ short some fits. known_keeps whole k h some (licence_greatest lexicon whole).within (passes k some (licence_passes lexicon whole)))
+      (λ some fits. unknown_keeps whole h some)
+      (copied_keeps read reads h)
     where
       passes : (k : ℕ) → 0 < k → (k ≡ 0) ⊎ (is_licensed lexicon (read ∷ reads) k ≡ true) → is_licensed lexicon (read ∷ reads) k ≡ true
       passes k some (inl e) = absurd (omega (arith, some, e))
       passes k some (inr t) = t
-
-  first_keeps : (read : Read) (reads : List Read) → AreRead (read ∷ reads) → StepKeeps (read ∷ reads) (first_step lexicon sensitive (read ∷ reads))
-  first_keeps read reads h =
-      elim (cases_lt span_max (bytes_of (take (span lexicon (read ∷ reads)) (read ∷ reads)))) [
-        | inl long ↦ subst (StepKeeps (read ∷ reads)) (sym (over lexicon sensitive (read ∷ reads) long)) tt
-        | inr short ↦ subst (StepKeeps (read ∷ reads)) (sym (within lexicon sensitive (read ∷ reads) short)) (within_keeps read reads h)
-      ]
 
   drop_pred : (n : ℕ) (read : Read) (reads : List Read) → 0 < n → drop n (read ∷ reads) ≡ drop (pred n) reads
   drop_pred zero read reads some = absurd (omega (arith, some))
   drop_pred (suc n) read reads some = refl
 
   -- the steps from left to right
-  steps_keep : (skip : ℕ) (reads : List Read) → AreRead reads → (steps lexicon sensitive skip reads).fault ≡ None → HasSuperblanks Analysed (steps lexicon sensitive skip reads).text (supers_of (drop skip reads))
+  abbrev GoesKept : ℕ → List Read → Type 0
+  GoesKept skip reads = (steps (first_step lexicon sensitive) skip reads).fault ≡ None → HasSuperblanks Analysed (steps (first_step lexicon sensitive) skip reads).text (supers_of (drop skip reads))
+
+  step_keeps : (read : Read) (reads : List Read) (step : Step) → Uses (read ∷ reads) step → StepKeeps (read ∷ reads) step → ((n : ℕ) → GoesKept n reads)
+      → (goes_on read.place step (λ n. steps (first_step lexicon sensitive) n reads)).fault ≡ None → HasSuperblanks Analysed (goes_on read.place step (λ n. steps (first_step lexicon sensitive) n reads)).text (supers_of (read ∷ reads))
+  step_keeps read reads (Gives n text) u k go e =
+      let on : HasSuperblanks Analysed (steps (first_step lexicon sensitive) (pred n) reads).text (supers_of (drop (pred n) reads)) = go (pred n) e in
+      let cut : take n (read ∷ reads) ++ drop (pred n) reads ≡ read ∷ reads = ap (λ (q : List Read). take n (read ∷ reads) ++ q) (sym (drop_pred n read reads u.0)) ∙ take-append-drop n (read ∷ reads) in
+      let all : supers_of (take n (read ∷ reads)) ++ supers_of (drop (pred n) reads) ≡ supers_of (read ∷ reads) = sym (supers_both (take n (read ∷ reads)) (drop (pred n) reads)) ∙ ap supers_of cut in
+      subst (λ (q : List (List ℕ)). HasSuperblanks Analysed (text ++ (steps (first_step lexicon sensitive) (pred n) reads).text) q) all
+      (joined Analysed text (steps (first_step lexicon sensitive) (pred n) reads).text (supers_of (take n (read ∷ reads))) (supers_of (drop (pred n) reads)) k on)
+  step_keeps read reads (Stops kind) u k go e = absurd (cc)
+
+  steps_keep : (skip : ℕ) (reads : List Read) → AreRead reads → GoesKept skip reads
   unfolding steps
   steps_keep zero [] h e = nothing refl refl
   steps_keep (suc skip) [] h e = nothing refl refl
   steps_keep (suc skip) (read ∷ reads) h e = steps_keep skip reads h.1 e
-  steps_keep zero (read ∷ reads) h e = by (first_step lexicon sensitive (read ∷ reads)) (first_goes_on lexicon sensitive read reads) (first_keeps read reads h) (λ n f. steps_keep n reads h.1 f) e
-    where
-      by : (step : Step) → GoesOn lexicon sensitive read reads step → StepKeeps (read ∷ reads) step → ((n : ℕ) → (steps lexicon sensitive n reads).fault ≡ None → HasSuperblanks Analysed (steps lexicon sensitive n reads).text (supers_of (drop n reads)))
-          → (goes_on read.place step (λ n. steps lexicon sensitive n reads)).fault ≡ None → HasSuperblanks Analysed (goes_on read.place step (λ n. steps lexicon sensitive n reads)).text (supers_of (read ∷ reads))
-      by (Gives n text) g k go e =
-          let on : HasSuperblanks Analysed (steps lexicon sensitive (pred n) reads).text (supers_of (drop (pred n) reads)) = go (pred n) e in
-          let cut : take n (read ∷ reads) ++ drop (pred n) reads ≡ read ∷ reads = ap (λ (q : List Read). take n (read ∷ reads) ++ q) (sym (drop_pred n read reads g.0)) ∙ take-append-drop n (read ∷ reads) in
-          let all : supers_of (take n (read ∷ reads)) ++ supers_of (drop (pred n) reads) ≡ supers_of (read ∷ reads) = sym (supers_both (take n (read ∷ reads)) (drop (pred n) reads)) ∙ ap supers_of cut in
-          subst (λ (q : List (List ℕ)). HasSuperblanks Analysed (text ++ (steps lexicon sensitive (pred n) reads).text) q) all
-          (joined Analysed text (steps lexicon sensitive (pred n) reads).text (supers_of (take n (read ∷ reads))) (supers_of (drop (pred n) reads)) k on)
-      by (Stops kind) g k go e = absurd (cc)
-
-  analysed_keep : (reads : List Read) → AreRead reads → (analysed lexicon sensitive reads).fault ≡ None → HasSuperblanks Analysed (analysed lexicon sensitive reads).text (supers_of reads)
-  unfolding analysed
-  analysed_keep reads h e = steps_keep 0 reads h e
+  steps_keep zero (read ∷ reads) h e = step_keeps read reads (first_step lexicon sensitive (read ∷ reads)) (first_uses lexicon sensitive read reads) (first_keeps read reads h) (λ n f. steps_keep n reads h.1 f) e
 
 pub analysis_keeps : (lexicon : Lexicon) (sensitive : Bool) (text : List ℕ) → GivesReadable lexicon → (analysis lexicon sensitive text Clean).fault ≡ None → HaveSameSuperblanks Raw Analysed text (analysis lexicon sensitive text Clean).text
 analysis_keeps lexicon sensitive text gives e =
@@ -259,5 +220,5 @@ analysis_keeps lexicon sensitive text gives e =
     record {
       superblanks = supers_of (reads Raw 0 text).items;
       before = rows_have Raw text (reads Raw 0 text).items rows;
-      after = analysed_keep lexicon sensitive gives (reads Raw 0 text).items (rows_read text (reads Raw 0 text).items rows) n.0;
+      after = steps_keep lexicon sensitive gives 0 (reads Raw 0 text).items (rows_read text (reads Raw 0 text).items rows) n.0;
     }
