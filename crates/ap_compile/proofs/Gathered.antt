@@ -5,7 +5,8 @@ use Rattle.std.specs.List.{list_all}
 use Rattle.std.specs.List.Sorted.{IsPermutation}
 use Rattle.std.proofs.Math.Seq.{take-append_seam}
 use Rattle.std.proofs.lemmas.Bool.{and_parts, cases_lt}
-use Rattle.std.proofs.lemmas.List.{take_more, take_all, map-append, length-map, get_or_append_left}
+use Rattle.std.proofs.lemmas.List.{take_more, take_all, take-take, map-append, length-map, length-take-le, get_or_append_left}
+use Rattle.std.proofs.lemmas.List.Folds.{list_all-append}
 use Rattle.std.proofs.lemmas.Option.{slice_get_within}
 use Rattle.ap_symbol.specs.Lists.{IsIn}
 use Rattle.ap_dix.specs.Derivation.{Label as EntryLabel, Derives, nothing, is_kept}
@@ -20,7 +21,7 @@ use Rattle.ap_fst.specs.declared.label.Label.{Label}
 use Rattle.ap_fst.proofs.Listing.{in_permutation}
 use Rattle.ap_compile.specs.Labels.{derived_labels, ArePlain}
 use Rattle.ap_compile.specs.Drafts.{IsDraftOf, IsCut, Any, Spells}
-use Rattle.ap_compile.specs.Gatherings.{HasPlace, SpellsFrom, Tells, endings, shared, InLevels, Gathers, IsPlainDraft, IsPlainGathering, IsGatheringOf, AreSoundParts}
+use Rattle.ap_compile.specs.Gatherings.{HasPlace, SpellsFrom, Tells, endings, shared, InLevels, Gathers, IsPlainDraft, IsPlainGathering, IsGatheringOf, IsGrown, among_made, before_shared, AreSoundParts}
 use Rattle.ap_compile.specs.declared.gathering.Gathering.{Gathering}
 use Rattle.ap_compile.specs.declared.gathering.Level.{Level}
 use Rattle.ap_compile.specs.declared.places.Place.{Place}
@@ -102,7 +103,7 @@ shared_last back [] part = refl
 shared_last back (p ∷ parts) part = shared_last (p ∷ back) parts part
 
 pub shared_length : (back parts : List EntryPart) → length (shared back parts) ≡ length parts + length back
-shared_length back [] = refl
+shared_length back [] = omega arith
 shared_length back (p ∷ parts) = shared_length (p ∷ back) parts ∙ omega arith
 
 both_true : (a b : Bool) → IsTrue a → IsTrue b → IsTrue (a && b)
@@ -245,7 +246,7 @@ grown_last d direction P g new levels l m more old e made same either plain h =
     let D : List EntryPart → List EntryLabel → Type 0 = Derives d direction in
     let cut : (w : List EntryLabel) → IsCut (Tells m.fronts) (Derives d direction (m.ending.now ∷ shared [] (endings levels))) w ↔ (IsCut (Tells l.fronts) (Derives d direction (l.ending.now ∷ shared [] (endings levels))) w ⊎ IsCut P (Derives d direction (l.ending.now ∷ shared [] (endings levels))) w) =
     λ w. subst (λ (z : EntryPart). IsCut (Tells m.fronts) (Derives d direction (z ∷ shared [] (endings levels))) w ↔ (IsCut (Tells l.fronts) (Derives d direction (l.ending.now ∷ shared [] (endings levels))) w ⊎ IsCut P (Derives d direction (l.ending.now ∷ shared [] (endings levels))) w)) (sym same)
-        (cut_either (Tells m.fronts) (Tells l.fronts) P (D (l.ending.now ∷ shared [] (endings levels))) w told) in
+    (cut_either (Tells m.fronts) (Tells l.fronts) P (D (l.ending.now ∷ shared [] (endings levels))) w told) in
     let to : (w : List EntryLabel) → IsCut P (Derives d direction (l.ending.now ∷ shared [] (endings levels))) w ↔ IsCut P (Derives d direction (shared [] (endings g.levels.items))) w =
     λ w. subst (λ (z : List EntryPart). IsCut P (Derives d direction (l.ending.now ∷ shared [] (endings levels))) w ↔ IsCut P (Derives d direction z) w) (sym there) ((λ x. x), (λ x. x)) in
     record {
@@ -278,6 +279,15 @@ grown_last d direction P g new levels l m more old e made same either plain h =
 
 pub grown_endings : (g new : Gathering) (levels : List Level) (l m : Level) → g.levels.items ≡ levels ++ l ∷ [] → new.levels.items ≡ levels ++ m ∷ [] → m.ending.now ≡ l.ending.now → endings new.levels.items ≡ endings g.levels.items
 grown_endings g new levels l m old e same = ap endings e ∙ endings_last levels m ∙ ap (λ z. endings levels ++ z ∷ []) same ∙ sym (endings_last levels l) ∙ ap endings (sym old)
+
+pub grown : (d : Dictionary) (direction : Direction) (P : List EntryLabel → Type 0) (g : Gathering) (more : Sketch) (new : Gathering) → IsGrown g more new → IsPlainGathering g → IsDraftOf P more
+    → IsGatheringOf d direction (λ w. Gathers d direction g w ⊎ IsCut P (Derives d direction (shared [] (endings g.levels.items))) w) new
+grown d direction P g more new (among_made none bare either) plain h = grown_made d direction P g new more none (bare ∙ sym none) either plain h
+grown d direction P g more new (before_shared levels l m old e made same either) plain h = grown_last d direction P g new levels l m more old e made same either plain h
+
+pub grown_same : (g : Gathering) (more : Sketch) (new : Gathering) → IsGrown g more new → endings new.levels.items ≡ endings g.levels.items
+grown_same g more new (among_made none bare either) = ap endings (bare ∙ sym none)
+grown_same g more new (before_shared levels l m old e made same either) = grown_endings g new levels l m old e same
 
 -- the innermost level is closed: what it accepted is among the rest
 pub last_closed : (d : Dictionary) (direction : Direction) (g rest new : Gathering) (l : Level) → g.levels.items ≡ rest.levels.items ++ l ∷ [] → rest.made ≡ g.made
@@ -338,7 +348,7 @@ entry_gathered d direction g ready new front tail entry kept whole there h k =
     let D : List EntryPart → List EntryLabel → Type 0 = Derives d direction in
     let cut : (w : List EntryLabel) → IsCut (D front) (D (shared [] (endings ready.levels.items))) w ↔ D entry.parts w =
     λ w. subst (λ (z : List EntryPart). IsCut (Derives d direction front) (Derives d direction (shared [] (endings ready.levels.items))) w ↔ Derives d direction z w) (sym whole)
-        (subst (λ (z : List EntryPart). IsCut (Derives d direction front) (Derives d direction z) w ↔ Derives d direction (front ++ tail) w) (sym there) (cut_derived d direction front tail w)) in
+    (subst (λ (z : List EntryPart). IsCut (Derives d direction front) (Derives d direction z) w ↔ Derives d direction (front ++ tail) w) (sym there) (cut_derived d direction front tail w)) in
     same_gathering d direction (λ w. Gathers d direction ready w ⊎ IsCut (Derives d direction front) (Derives d direction (shared [] (endings ready.levels.items))) w) (λ w. Gathers d direction g w ⊎ Spells d direction entry w) new k (λ w. (
       (λ x. elim x [ inl y ↦ inl ((h.exact w).0 y) | inr c ↦ inr (record { kept = kept; derived = (cut w).0 c }) ]),
       (λ x. elim x [ inl y ↦ inl ((h.exact w).1 y) | inr s ↦ inr ((cut w).1 s.derived) ]),
@@ -366,6 +376,35 @@ agreed_more parts rest front last ends count d lt whole split same =
     ap (shared []) (take_more ends count d lt ∙ ap (λ z. take count ends ++ z ∷ []) same) ∙ shared_last [] (take count ends) last in
     whole ∙ ap (λ z. z ++ shared [] (take count ends)) split ∙ append_assoc front (last ∷ []) (shared [] (take count ends)) ∙ ap (λ z. front ++ z) (sym more)
 
+pub ending_at : (levels : List Level) (n : ℕ) (l d : Level) → n < length levels → l ≡ get_or levels n d → get_or (endings levels) n d.ending.now ≡ l.ending.now
+ending_at [] n l d lt e = absurd (omega arith)
+ending_at (x ∷ levels) zero l d lt e = ap (λ (z : Level). z.ending.now) (sym e)
+ending_at (x ∷ levels) (suc n) l d lt e = ending_at levels n l d (omega arith) e
+
+pub endings_length : (levels : List Level) → length (endings levels) ≡ length levels
+endings_length levels = length-map levels (λ (m : Level). m.ending.now)
+
+-- fewer parts are sound too
+
+pub sound_take : (bound n : ℕ) (parts : List EntryPart) → AreSoundParts bound parts → AreSoundParts bound (take n parts)
+sound_take bound zero parts h = refl
+sound_take bound (suc n) [] h = refl
+sound_take bound (suc n) (x ∷ parts) h =
+    let l = and_parts (is_sound_part bound x) (list_all (is_sound_part bound) parts) h in
+    both_true (is_sound_part bound x) (list_all (is_sound_part bound) (take n parts)) l.0 (sound_take bound n parts l.1)
+
+pub tail_sound : (bound : ℕ) (parts front tail : List EntryPart) → parts ≡ front ++ tail → AreSoundParts bound parts → AreSoundParts bound tail
+tail_sound bound parts front tail e h =
+    (and_parts (list_all (is_sound_part bound) front) (list_all (is_sound_part bound) tail) (sym (list_all-append (is_sound_part bound) front tail) ∙ subst (AreSoundParts bound) e h)).1
+
+-- one level fewer
+pub closed_less : (levels last next : List EntryPart) (n k m : ℕ) → length levels ≡ n → length last ≡ m → k < n → last ≡ take (n - k) levels → next ≡ take (m - 1) last → next ≡ take (n - (k + 1)) levels
+closed_less levels last next n k m size long lt e f =
+    let short : length last ≡ n - k = ap length e ∙ length-take-le (n - k) levels (omega (arith, size)) in
+    let few : (m - 1) ≤ (n - k) = omega (arith, long, short) in
+    let is : m - 1 ≡ n - (k + 1) = omega (arith, long, short, lt) in
+    f ∙ ap (take (m - 1)) e ∙ take-take (m - 1) (n - k) levels few ∙ ap (λ z. take z levels) is
+
 -- one more of the parts is shared
 pub opened_more : (tail front ends : List EntryPart) (part d : EntryPart) → tail ≡ front ++ shared [] ends → length ends < length tail → part ≡ get_or tail (length tail - 1 - length ends) d
     → (less : List EntryPart) × (tail ≡ less ++ shared [] (ends ++ part ∷ []))
@@ -378,7 +417,7 @@ opened_more tail front ends part d whole lt is =
     let last : part ≡ get_or front (length front - 1) d = is ∙ ap (λ k. get_or tail k d) at ∙ got in
     let count : (length front - 1) + 1 ≡ length front = omega (arith, some) in
     let split : front ≡ take (length front - 1) front ++ part ∷ [] =
-    sym (take_all front (length front) (omega arith)) ∙ ap (λ k. take k front) (sym count) ∙ take_more front (length front - 1) d some ∙ ap (λ z. take (length front - 1) front ++ z ∷ []) (sym last) in
+    sym (take_all (length front) front (omega arith)) ∙ ap (λ k. take k front) (sym count) ∙ take_more front (length front - 1) d some ∙ ap (λ z. take (length front - 1) front ++ z ∷ []) (sym last) in
     (take (length front - 1) front, whole ∙ ap (λ z. z ++ shared [] ends) split ∙ append_assoc (take (length front - 1) front) (part ∷ []) (shared [] ends) ∙ ap (λ z. take (length front - 1) front ++ z) (sym (shared_last [] ends part)))
 
 -- all of them are

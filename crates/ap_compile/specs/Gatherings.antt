@@ -9,7 +9,7 @@ use Rattle.ap_dix.specs.declared.dictionary.Direction.{Direction}
 use Rattle.ap_dix.specs.declared.dictionary.Entry.{Entry}
 use Rattle.ap_dix.specs.declared.dictionary.EntryPart.{EntryPart}
 use Rattle.ap_fst.specs.Sketches.{Sketch}
-use Rattle.ap_fst.specs.Paths.{Accepts}
+use Rattle.ap_fst.specs.Paths.{Accepts, IsEither}
 use Rattle.ap_fst.specs.declared.label.Label.{Label}
 use Rattle.ap_compile.specs.Labels.{derived_labels, ArePlain}
 use Rattle.ap_compile.specs.Drafts.{IsCut, Spells}
@@ -72,6 +72,13 @@ pub record IsPlainGathering (g : Gathering) : Type 0 where
 pub record IsGatheringOf (d : Dictionary) (direction : Direction) (P : List EntryLabel → Type 0) (g : Gathering) : Type 0 where
   pub exact : (labels : List EntryLabel) → Gathers d direction g labels ↔ P labels
   pub plain : IsPlainGathering g
+
+-- The second gathering accepts more than the first, before what the innermost level shares: there is no level, and it is
+-- among what is done with; or it stands before the part of that level.
+pub data IsGrown (old : Gathering) (more : Sketch) (new : Gathering) : Type 0 where
+  among_made : old.levels.items ≡ [] → new.levels.items ≡ [] → ((w : List Label) → Accepts new.made w ↔ IsEither old.made more w) → IsGrown old more new
+  before_shared : (levels : List Level) (l m : Level) → old.levels.items ≡ levels ++ l ∷ [] → new.levels.items ≡ levels ++ m ∷ [] → new.made ≡ old.made → m.ending.now ≡ l.ending.now
+      → ((w : List Label) → Accepts m.fronts w ↔ IsEither l.fronts more w) → IsGrown old more new
 
 -- each of the parts is sound where so many paradigms stand above
 abbrev pub AreSoundParts : ℕ → List EntryPart → Type 0

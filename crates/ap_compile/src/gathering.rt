@@ -6,7 +6,7 @@ ghost use Rattle.ap_dix.specs.Soundness.{is_sound_entry, is_sound_part};
 ghost use Rattle.ap_dix.specs.declared.dictionary.Dictionary.{Dictionary as Lexicon};
 ghost use Rattle.ap_dix.specs.declared.dictionary.EntryPart.{EntryPart as LexiconPart};
 ghost use Rattle.ap_compile.specs.Drafts.{IsCut, IsDraftOf, Any, Spells, AreDrafts};
-ghost use Rattle.ap_compile.specs.Gatherings.{Tells, endings, shared, Gathers, IsPlainDraft, IsPlainGathering, IsGatheringOf, AreSoundParts, SpellsFrom};
+ghost use Rattle.ap_compile.specs.Gatherings.{Tells, IsGrown, endings, shared, Gathers, IsPlainDraft, IsPlainGathering, IsGatheringOf, AreSoundParts, SpellsFrom};
 
 use crate::drafts::{is_entry_kept, part_draft, parts_draft};
 use crate::places::{Place, places_by_ending};
@@ -57,12 +57,10 @@ fn is_same_part(a: &EntryPart, b: &EntryPart) -> bool
 fn split_tail(parts: &[EntryPart]) -> (&[EntryPart], &[EntryPart])
     ensures { parts.now ≡ result.0.now ++ result.1.now }
 {
-    let mut at = 0;
-    while at < parts.len() {
+    for at in 0..parts.len() {
         if matches!(parts[at], EntryPart::Paradigm(_)) {
             return parts.split_at(at);
         }
-        at += 1;
     }
     (parts, &[])
 }
@@ -73,8 +71,7 @@ fn agreed(levels: &[Level<'_>], parts: &[EntryPart]) -> usize
     ensures front { (front : List LexiconPart) × (parts.now ≡ front ++ shared [] (take result (endings levels.now))) }
 {
     let mut rest = parts;
-    let mut count = 0;
-    while count < levels.len() {
+    for count in 0..levels.len() {
         let Some((last, front)) = rest.split_last() else {
             return count;
         };
@@ -82,16 +79,14 @@ fn agreed(levels: &[Level<'_>], parts: &[EntryPart]) -> usize
             return count;
         }
         rest = front;
-        count += 1;
     }
-    count
+    levels.len()
 }
 
 /// Labels more, before the shared parts of the innermost level; where there is no level, among those
 /// that are done with.
 fn with_more<'a>(gathering: Gathering<'a>, more: Draft) -> Result<Gathering<'a>, Memory>
-    ensures strings { IfOk result (λ all. (d : Lexicon) (direction : Direction) (P : List EntryLabel → Type 0) → IsPlainGathering gathering → IsDraftOf P more → IsGatheringOf d direction (λ w. Gathers d direction gathering w ⊎ IsCut P (Derives d direction (shared [] (endings gathering.levels.items))) w) all) }
-    ensures endings { IfOk result (λ all. endings all.levels.items ≡ endings gathering.levels.items) }
+    ensures { IfOk result (λ all. IsGrown gathering.entry more all) }
 {
     let Gathering { made, mut levels } = gathering;
     let Some(level) = levels.pop() else {
@@ -112,7 +107,7 @@ fn closed(
     level: Level<'_>,
 ) -> Result<Draft, Memory>
     requires { IsTrue (is_sound_part (length drafts.now) level.ending.now) }
-    ensures { IfOk result (λ made. (d : Lexicon) → AreDrafts d direction drafts.now → IsPlainDraft level.fronts → IsDraftOf (IsCut (Tells level.fronts) (Derives d direction (level.ending.now ∷ []))) made) }
+    ensures { IfOk result (λ made. (d : Lexicon) → AreDrafts d direction drafts.now → IsPlainDraft level.entry.fronts → IsDraftOf (IsCut (Tells level.entry.fronts) (Derives d direction (level.entry.ending.now ∷ []))) made) }
 {
     let Level { ending, fronts } = level;
     let part = part_draft(alloc, direction, drafts, ending)?;
@@ -128,8 +123,8 @@ fn with_last_closed<'a>(
     gathering: Gathering<'a>,
 ) -> Result<Gathering<'a>, Memory>
     requires { AreSoundParts (length drafts.now) (endings gathering.levels.items) }
-    ensures same { IfOk result (λ all. (d : Lexicon) → AreDrafts d direction drafts.now → IsPlainGathering gathering → IsGatheringOf d direction (Gathers d direction gathering) all) }
-    ensures endings { IfOk result (λ all. endings all.levels.items ≡ take (length gathering.levels.items - 1) (endings gathering.levels.items)) }
+    ensures same { IfOk result (λ all. (d : Lexicon) → AreDrafts d direction drafts.now → IsPlainGathering gathering.entry → IsGatheringOf d direction (Gathers d direction gathering.entry) all) }
+    ensures endings { IfOk result (λ all. endings all.levels.items ≡ take (length gathering.entry.levels.items - 1) (endings gathering.entry.levels.items)) }
 {
     let Gathering { made, mut levels } = gathering;
     let Some(level) = levels.pop() else {
@@ -150,11 +145,12 @@ fn closed_to<'a>(
 ) -> Result<Gathering<'a>, Memory>
     requires sound { AreSoundParts (length drafts.now) (endings gathering.levels.items) }
     requires count { count ≤ length gathering.levels.items }
-    ensures same { IfOk result (λ all. (d : Lexicon) → AreDrafts d direction drafts.now → IsPlainGathering gathering → IsGatheringOf d direction (Gathers d direction gathering) all) }
-    ensures endings { IfOk result (λ all. endings all.levels.items ≡ take count (endings gathering.levels.items)) }
+    ensures same { IfOk result (λ all. (d : Lexicon) → AreDrafts d direction drafts.now → IsPlainGathering gathering.entry → IsGatheringOf d direction (Gathers d direction gathering.entry) all) }
+    ensures endings { IfOk result (λ all. endings all.levels.items ≡ take count (endings gathering.entry.levels.items)) }
 {
+    let more = gathering.levels.len() - count;
     let mut all = gathering;
-    while all.levels.len() > count {
+    for _ in 0..more {
         all = with_last_closed(alloc, direction, drafts, all)?;
     }
     Ok(all)
@@ -166,8 +162,8 @@ fn with_level<'a>(
     gathering: Gathering<'a>,
     ending: &'a EntryPart,
 ) -> Result<Gathering<'a>, Memory>
-    ensures same { IfOk result (λ all. (d : Lexicon) (direction : Direction) → IsPlainGathering gathering → IsGatheringOf d direction (Gathers d direction gathering) all) }
-    ensures endings { IfOk result (λ all. endings all.levels.items ≡ endings gathering.levels.items ++ ending.now ∷ []) }
+    ensures same { IfOk result (λ all. (d : Lexicon) (direction : Direction) → IsPlainGathering gathering.entry → IsGatheringOf d direction (Gathers d direction gathering.entry) all) }
+    ensures endings { IfOk result (λ all. endings all.levels.items ≡ endings gathering.entry.levels.items ++ ending.now ∷ []) }
 {
     let Gathering { made, mut levels } = gathering;
     let fronts = Draft::nothing(alloc)?;
@@ -182,12 +178,13 @@ fn opened_to<'a>(
     tail: &'a [EntryPart],
 ) -> Result<Gathering<'a>, Memory>
     requires { (front : List LexiconPart) × (tail.now ≡ front ++ shared [] (endings gathering.levels.items)) }
-    ensures same { IfOk result (λ all. (d : Lexicon) (direction : Direction) → IsPlainGathering gathering → IsGatheringOf d direction (Gathers d direction gathering) all) }
+    ensures same { IfOk result (λ all. (d : Lexicon) (direction : Direction) → IsPlainGathering gathering.entry → IsGatheringOf d direction (Gathers d direction gathering.entry) all) }
     ensures shared { IfOk result (λ all. shared [] (endings all.levels.items) ≡ tail.now) }
 {
+    let first = gathering.levels.len();
     let mut all = gathering;
-    while all.levels.len() < tail.len() {
-        let ending = &tail[tail.len() - 1 - all.levels.len()];
+    for at in first..tail.len() {
+        let ending = &tail[tail.len() - 1 - at];
         all = with_level(alloc, all, ending)?;
     }
     Ok(all)
@@ -204,7 +201,7 @@ fn with_entry<'a>(
     requires entry { IsTrue (is_sound_entry (length drafts.now) entry.now) }
     requires sound { AreSoundParts (length drafts.now) (endings gathering.levels.items) }
     ensures sound { IfOk result (λ all. AreSoundParts (length drafts.now) (endings all.levels.items)) }
-    ensures strings { IfOk result (λ all. (d : Lexicon) → AreDrafts d direction drafts.now → IsPlainGathering gathering → IsGatheringOf d direction (λ w. Gathers d direction gathering w ⊎ Spells d direction entry.now w) all) }
+    ensures strings { IfOk result (λ all. (d : Lexicon) → AreDrafts d direction drafts.now → IsPlainGathering gathering.entry → IsGatheringOf d direction (λ w. Gathers d direction gathering.entry w ⊎ Spells d direction entry.now w) all) }
 {
     if !is_entry_kept(direction, entry) {
         return Ok(gathering);
@@ -237,7 +234,7 @@ fn with_place<'a>(
     requires entries { IsTrue (list_all (is_sound_entry (length drafts.now)) entries.now) }
     requires sound { AreSoundParts (length drafts.now) (endings gathering.levels.items) }
     ensures sound { IfOk result (λ all. AreSoundParts (length drafts.now) (endings all.levels.items)) }
-    ensures strings { IfOk result (λ all. (d : Lexicon) → AreDrafts d direction drafts.now → IsPlainGathering gathering → IsGatheringOf d direction (λ w. Gathers d direction gathering w ⊎ SpellsFrom d direction entries.now place.now w) all) }
+    ensures strings { IfOk result (λ all. (d : Lexicon) → AreDrafts d direction drafts.now → IsPlainGathering gathering.entry → IsGatheringOf d direction (λ w. Gathers d direction gathering.entry w ⊎ SpellsFrom d direction entries.now place.now w) all) }
 {
     match entry_at(entries, place.entry) {
         None => Ok(gathering),

@@ -28,7 +28,9 @@ fn code_of(part: &EntryPart) -> u64 {
     match part {
         EntryPart::Paradigm(n) => *n as u64,
         EntryPart::Identity(word) => word_code(word),
-        EntryPart::Pair(left, right) => word_code(left).wrapping_add(word_code(right).rotate_left(1)),
+        EntryPart::Pair(left, right) => word_code(left).wrapping_add(word_code(right).rotate_left(
+            1,
+        )),
         EntryPart::Expression(_, _) => 0,
     }
 }
