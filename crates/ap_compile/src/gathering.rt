@@ -1,153 +1,218 @@
-ghost use Rattle.std.specs.Prelude.{◌≡◌, ◌∷◌, ◌++◌, ◌⊎◌, List, length, IsTrue, IfOk, slice_get};
+ghost use Rattle.std.specs.Prelude.{◌≡◌, ◌-◌, ◌∷◌, ◌++◌, ◌⊎◌, ◌≤◌, [], List, length, take, true, IsTrue, IfOk, slice_get};
 ghost use Rattle.std.specs.List.{list_all};
 ghost use Rattle.std.specs.Option.{option_copied};
-ghost use Rattle.ap_symbol.specs.Lists.{IsIn};
-ghost use Rattle.ap_dix.specs.Soundness.{is_sound_entry};
+ghost use Rattle.ap_dix.specs.Derivation.{Label as EntryLabel, Derives};
+ghost use Rattle.ap_dix.specs.Soundness.{is_sound_entry, is_sound_part};
 ghost use Rattle.ap_dix.specs.declared.dictionary.Dictionary.{Dictionary as Lexicon};
-ghost use Rattle.ap_dix.specs.declared.dictionary.Entry.{Entry as LexiconEntry};
-ghost use Rattle.ap_compile.specs.Drafts.{IsDraftOf, Any, Spells, AreDrafts};
-ghost use Rattle.ap_compile.specs.Gatherings.{used_paradigm, ending_of, ending_parts, IsSoundEnding, HasPlace, SpellsFrom, Gathers, IsPlainGathering, IsGatheringOf};
+ghost use Rattle.ap_dix.specs.declared.dictionary.EntryPart.{EntryPart as LexiconPart};
+ghost use Rattle.ap_compile.specs.Drafts.{IsCut, IsDraftOf, Any, Spells, AreDrafts};
+ghost use Rattle.ap_compile.specs.Gatherings.{Tells, IsGrown, endings, shared, Gathers, IsPlainDraft, IsPlainGathering, IsGatheringOf, AreSoundParts, SpellsFrom};
 
 use crate::drafts::{is_entry_kept, part_draft, parts_draft};
+use crate::places::{Place, places_by_ending};
 use ap_dix::{Direction, Entry, EntryPart};
 use ap_fst::Draft;
-use ap_symbol::Memory;
+use ap_symbol::{Memory, Word, one_rendering};
 use std::alloc::Global;
 
-/// The place of an entry among others, and the paradigm that the entry ends with, if one.
-#[derive(Clone, Copy, Debug)]
-struct Place {
-    ending: Option<usize>,
-    entry: usize,
-}
-
-/// Entries that are gathered by the paradigm that they end with: the draft of those that are done with,
-/// and for those that end with the paradigm of now what stands before it, or all of them if none.
+/// A part that entries share at their end, and the draft of what stands before it in those that are
+/// gathered.
 #[derive(Drop)]
-struct Gathering {
-    made: Draft,
+struct Level<'a> {
+    ending: &'a EntryPart,
     fronts: Draft,
-    ending: Option<usize>,
 }
 
-/// The paradigm that this part is a use of, if it is one.
-fn used(part: &EntryPart) -> Option<usize>
-    ensures { result ≡ used_paradigm part.now }
+/// Entries that are gathered by the parts that they end with: the draft of those that are done with,
+/// and levels for those that end alike, from the last part inwards. A part that is shared is drafted
+/// once, when its level is closed.
+#[derive(Drop)]
+struct Gathering<'a> {
+    made: Draft,
+    levels: Vec<Level<'a>>,
+}
+
+fn is_same_word(a: &Word, b: &Word) -> bool
+    ensures { result ≡ true → a.now ≡ b.now }
 {
-    match part {
-        EntryPart::Paradigm(n) => Some(*n),
-        _ => None,
+    let _ = a.symbols();
+    let _ = b.symbols();
+    one_rendering();
+    a.rendered() == b.rendered()
+}
+
+/// Whether the parts surely are equal.
+fn is_same_part(a: &EntryPart, b: &EntryPart) -> bool
+    ensures { result ≡ true → a.now ≡ b.now }
+{
+    match (a, b) {
+        (EntryPart::Paradigm(m), EntryPart::Paradigm(n)) => *m == *n,
+        (EntryPart::Identity(v), EntryPart::Identity(w)) => is_same_word(v, w),
+        (EntryPart::Pair(v, w), EntryPart::Pair(x, y)) => is_same_word(v, x) && is_same_word(w, y),
+        _ => false,
     }
 }
 
-/// The paradigm that these parts end with, if one, and the parts before it.
-fn split_ending(parts: &[EntryPart]) -> (&[EntryPart], Option<usize>)
-    ensures whole { parts.now ≡ result.0.now ++ ending_parts result.1 }
-    ensures ending { result.1 ≡ ending_of parts.now }
+/// What stands before the first paradigm among the parts, and the rest, which other entries may share.
+fn split_tail(parts: &[EntryPart]) -> (&[EntryPart], &[EntryPart])
+    ensures { parts.now ≡ result.0.now ++ result.1.now }
 {
-    let Some((last, front)) = parts.split_last() else {
-        return (parts, None);
+    for at in 0..parts.len() {
+        if matches!(parts[at], EntryPart::Paradigm(_)) {
+            return parts.split_at(at);
+        }
+    }
+    (parts, &[])
+}
+
+/// How many of the levels, from the outermost on, are the last parts of these.
+fn agreed(levels: &[Level<'_>], parts: &[EntryPart]) -> usize
+    ensures most { result ≤ length levels.now }
+    ensures front { (front : List LexiconPart) × (parts.now ≡ front ++ shared [] (take result (endings levels.now))) }
+{
+    let mut rest = parts;
+    for count in 0..levels.len() {
+        let Some((last, front)) = rest.split_last() else {
+            return count;
+        };
+        if !is_same_part(levels[count].ending, last) {
+            return count;
+        }
+        rest = front;
+    }
+    levels.len()
+}
+
+/// Labels more, before the shared parts of the innermost level; where there is no level, among those
+/// that are done with.
+fn with_more<'a>(gathering: Gathering<'a>, more: Draft) -> Result<Gathering<'a>, Memory>
+    ensures { IfOk result (λ all. IsGrown gathering.entry more all) }
+{
+    let Gathering { made, mut levels } = gathering;
+    let Some(level) = levels.pop() else {
+        let made = made.either(more)?;
+        return Ok(Gathering { made, levels });
     };
-    match used(last) {
-        None => (parts, None),
-        ending => (front, ending),
-    }
+    let Level { ending, fronts } = level;
+    let fronts = fronts.either(more)?;
+    levels.push(Level { ending, fronts })?;
+    Ok(Gathering { made, levels })
 }
 
-/// The place of each of the entries, in order.
-fn places_of(alloc: Global, entries: &[Entry]) -> Result<Vec<Place>, Memory>
-    ensures { IfOk result (λ places. (entry : LexiconEntry) → IsIn entry entries.now → HasPlace entries.now places.items entry) }
-{
-    let mut places = Vec::new(alloc);
-    for at in 0..entries.len() {
-        let (_, ending) = split_ending(entries[at].parts.as_slice());
-        places.push(Place { ending, entry: at })?;
-    }
-    Ok(places)
-}
-
-/// The places of the entries, those that end with the same paradigm side by side.
-fn places_by_ending(alloc: Global, entries: &[Entry]) -> Result<Vec<Place>, Memory>
-    ensures { IfOk result (λ places. (entry : LexiconEntry) → IsIn entry entries.now → HasPlace entries.now places.items entry) }
-{
-    let mut places = places_of(alloc, entries)?;
-    places.sort_unstable_by_key(|place| place.ending);
-    Ok(places)
-}
-
-/// Accepts all that is gathered: one copy of the paradigm's draft follows what stands before it.
+/// What a level accepts: what stands before its part, and then what that derives.
 fn closed(
     alloc: Global,
     direction: Direction,
     drafts: &[Draft],
-    gathering: Gathering,
+    level: Level<'_>,
 ) -> Result<Draft, Memory>
-    requires { IsSoundEnding (length drafts.now) gathering.ending }
-    ensures { IfOk result (λ made. (d : Lexicon) → AreDrafts d direction drafts.now → IsPlainGathering gathering → IsDraftOf (Gathers d direction gathering) made) }
+    requires { IsTrue (is_sound_part (length drafts.now) level.ending.now) }
+    ensures { IfOk result (λ made. (d : Lexicon) → AreDrafts d direction drafts.now → IsPlainDraft level.entry.fronts → IsDraftOf (IsCut (Tells level.entry.fronts) (Derives d direction (level.entry.ending.now ∷ []))) made) }
 {
-    let Gathering {
-        made,
-        fronts,
-        ending,
-    } = gathering;
-    let Some(n) = ending else {
-        return made.either(fronts);
-    };
-    let paradigm = part_draft(alloc, direction, drafts, &EntryPart::Paradigm(n))?;
-    made.either(fronts.join(paradigm)?)
+    let Level { ending, fronts } = level;
+    let part = part_draft(alloc, direction, drafts, ending)?;
+    let made = fronts.join(part)?;
+    Ok(made)
 }
 
-/// The same strings gathered, ready for entries that end with this paradigm.
-fn turned(
+/// The same strings gathered, with the innermost level closed.
+fn with_last_closed<'a>(
     alloc: Global,
     direction: Direction,
     drafts: &[Draft],
-    gathering: Gathering,
-    ending: Option<usize>,
-) -> Result<Gathering, Memory>
-    requires { IsSoundEnding (length drafts.now) gathering.ending }
-    ensures ending { IfOk result (λ all. all.ending ≡ ending) }
-    ensures same { IfOk result (λ all. (d : Lexicon) → AreDrafts d direction drafts.now → IsPlainGathering gathering → IsGatheringOf d direction (Gathers d direction gathering) all) }
+    gathering: Gathering<'a>,
+) -> Result<Gathering<'a>, Memory>
+    requires { AreSoundParts (length drafts.now) (endings gathering.levels.items) }
+    ensures same { IfOk result (λ all. (d : Lexicon) → AreDrafts d direction drafts.now → IsPlainGathering gathering.entry → IsGatheringOf d direction (Gathers d direction gathering.entry) all) }
+    ensures endings { IfOk result (λ all. endings all.levels.items ≡ take (length gathering.entry.levels.items - 1) (endings gathering.entry.levels.items)) }
 {
-    if gathering.ending == ending {
-        return Ok(gathering);
+    let Gathering { made, mut levels } = gathering;
+    let Some(level) = levels.pop() else {
+        return Ok(Gathering { made, levels });
+    };
+    let more = closed(alloc, direction, drafts, level)?;
+    let all = with_more(Gathering { made, levels }, more)?;
+    Ok(all)
+}
+
+/// The same strings gathered, with all levels closed but so many of the outermost.
+fn closed_to<'a>(
+    alloc: Global,
+    direction: Direction,
+    drafts: &[Draft],
+    gathering: Gathering<'a>,
+    count: usize,
+) -> Result<Gathering<'a>, Memory>
+    requires sound { AreSoundParts (length drafts.now) (endings gathering.levels.items) }
+    requires count { count ≤ length gathering.levels.items }
+    ensures same { IfOk result (λ all. (d : Lexicon) → AreDrafts d direction drafts.now → IsPlainGathering gathering.entry → IsGatheringOf d direction (Gathers d direction gathering.entry) all) }
+    ensures endings { IfOk result (λ all. endings all.levels.items ≡ take count (endings gathering.entry.levels.items)) }
+{
+    let more = gathering.levels.len() - count;
+    let mut all = gathering;
+    for _ in 0..more {
+        all = with_last_closed(alloc, direction, drafts, all)?;
     }
-    Ok(Gathering {
-        made: closed(alloc, direction, drafts, gathering)?,
-        fronts: Draft::nothing(alloc)?,
-        ending,
-    })
+    Ok(all)
+}
+
+/// The same strings gathered, with one level more.
+fn with_level<'a>(
+    alloc: Global,
+    gathering: Gathering<'a>,
+    ending: &'a EntryPart,
+) -> Result<Gathering<'a>, Memory>
+    ensures same { IfOk result (λ all. (d : Lexicon) (direction : Direction) → IsPlainGathering gathering.entry → IsGatheringOf d direction (Gathers d direction gathering.entry) all) }
+    ensures endings { IfOk result (λ all. endings all.levels.items ≡ endings gathering.entry.levels.items ++ ending.now ∷ []) }
+{
+    let Gathering { made, mut levels } = gathering;
+    let fronts = Draft::nothing(alloc)?;
+    levels.push(Level { ending, fronts })?;
+    Ok(Gathering { made, levels })
+}
+
+/// The same strings gathered, with further levels, so that these parts are those that are shared.
+fn opened_to<'a>(
+    alloc: Global,
+    gathering: Gathering<'a>,
+    tail: &'a [EntryPart],
+) -> Result<Gathering<'a>, Memory>
+    requires { (front : List LexiconPart) × (tail.now ≡ front ++ shared [] (endings gathering.levels.items)) }
+    ensures same { IfOk result (λ all. (d : Lexicon) (direction : Direction) → IsPlainGathering gathering.entry → IsGatheringOf d direction (Gathers d direction gathering.entry) all) }
+    ensures shared { IfOk result (λ all. shared [] (endings all.levels.items) ≡ tail.now) }
+{
+    let first = gathering.levels.len();
+    let mut all = gathering;
+    for at in first..tail.len() {
+        let ending = &tail[tail.len() - 1 - at];
+        all = with_level(alloc, all, ending)?;
+    }
+    Ok(all)
 }
 
 /// An entry more is gathered, if it is kept.
-fn with_entry(
+fn with_entry<'a>(
     alloc: Global,
     direction: Direction,
     drafts: &[Draft],
-    gathering: Gathering,
-    entry: &Entry,
-) -> Result<Gathering, Memory>
+    gathering: Gathering<'a>,
+    entry: &'a Entry,
+) -> Result<Gathering<'a>, Memory>
     requires entry { IsTrue (is_sound_entry (length drafts.now) entry.now) }
-    requires ending { IsSoundEnding (length drafts.now) gathering.ending }
-    ensures ending { IfOk result (λ all. IsSoundEnding (length drafts.now) all.ending) }
-    ensures strings { IfOk result (λ all. (d : Lexicon) → AreDrafts d direction drafts.now → IsPlainGathering gathering → IsGatheringOf d direction (λ w. Gathers d direction gathering w ⊎ Spells d direction entry.now w) all) }
+    requires sound { AreSoundParts (length drafts.now) (endings gathering.levels.items) }
+    ensures sound { IfOk result (λ all. AreSoundParts (length drafts.now) (endings all.levels.items)) }
+    ensures strings { IfOk result (λ all. (d : Lexicon) → AreDrafts d direction drafts.now → IsPlainGathering gathering.entry → IsGatheringOf d direction (λ w. Gathers d direction gathering.entry w ⊎ Spells d direction entry.now w) all) }
 {
     if !is_entry_kept(direction, entry) {
         return Ok(gathering);
     }
-    let (front, ending) = split_ending(entry.parts.as_slice());
+    let (front, tail) = split_tail(entry.parts.as_slice());
+    let count = agreed(gathering.levels.as_slice(), tail);
+    let rest = closed_to(alloc, direction, drafts, gathering, count)?;
+    let ready = opened_to(alloc, rest, tail)?;
     let more = parts_draft(alloc, direction, drafts, front)?;
-    let Gathering {
-        made,
-        fronts,
-        ending,
-    } = turned(alloc, direction, drafts, gathering, ending)?;
-    let fronts = fronts.either(more)?;
-    Ok(Gathering {
-        made,
-        fronts,
-        ending,
-    })
+    let all = with_more(ready, more)?;
+    Ok(all)
 }
 
 /// The entry of a number, if there is one.
@@ -158,18 +223,18 @@ fn entry_at(entries: &[Entry], at: usize) -> Option<&Entry>
 }
 
 /// The entry at a place more is gathered.
-fn with_place(
+fn with_place<'a>(
     alloc: Global,
     direction: Direction,
     drafts: &[Draft],
-    entries: &[Entry],
-    gathering: Gathering,
+    entries: &'a [Entry],
+    gathering: Gathering<'a>,
     place: &Place,
-) -> Result<Gathering, Memory>
+) -> Result<Gathering<'a>, Memory>
     requires entries { IsTrue (list_all (is_sound_entry (length drafts.now)) entries.now) }
-    requires ending { IsSoundEnding (length drafts.now) gathering.ending }
-    ensures ending { IfOk result (λ all. IsSoundEnding (length drafts.now) all.ending) }
-    ensures strings { IfOk result (λ all. (d : Lexicon) → AreDrafts d direction drafts.now → IsPlainGathering gathering → IsGatheringOf d direction (λ w. Gathers d direction gathering w ⊎ SpellsFrom d direction entries.now place.now w) all) }
+    requires sound { AreSoundParts (length drafts.now) (endings gathering.levels.items) }
+    ensures sound { IfOk result (λ all. AreSoundParts (length drafts.now) (endings all.levels.items)) }
+    ensures strings { IfOk result (λ all. (d : Lexicon) → AreDrafts d direction drafts.now → IsPlainGathering gathering.entry → IsGatheringOf d direction (λ w. Gathers d direction gathering.entry w ⊎ SpellsFrom d direction entries.now place.now w) all) }
 {
     match entry_at(entries, place.entry) {
         None => Ok(gathering),
@@ -178,21 +243,20 @@ fn with_place(
 }
 
 /// The entries at these places, gathered one after another.
-fn gathered(
+fn gathered<'a>(
     alloc: Global,
     direction: Direction,
     drafts: &[Draft],
-    entries: &[Entry],
+    entries: &'a [Entry],
     places: &[Place],
-) -> Result<Gathering, Memory>
+) -> Result<Gathering<'a>, Memory>
     requires { IsTrue (list_all (is_sound_entry (length drafts.now)) entries.now) }
-    ensures ending { IfOk result (λ all. IsSoundEnding (length drafts.now) all.ending) }
+    ensures sound { IfOk result (λ all. AreSoundParts (length drafts.now) (endings all.levels.items)) }
     ensures strings { IfOk result (λ all. (d : Lexicon) → AreDrafts d direction drafts.now → IsGatheringOf d direction (Any (SpellsFrom d direction entries.now) places.now) all) }
 {
     let mut gathering = Gathering {
         made: Draft::nothing(alloc)?,
-        fronts: Draft::nothing(alloc)?,
-        ending: None,
+        levels: Vec::new(alloc),
     };
     for place in places {
         gathering = with_place(alloc, direction, drafts, entries, gathering, place)?;
@@ -200,8 +264,8 @@ fn gathered(
     Ok(gathering)
 }
 
-/// Accepts what the kept ones of these entries derive. Entries that end with the same paradigm share
-/// one copy of it.
+/// Accepts what the kept ones of these entries derive. Entries whose last parts agree, from a first
+/// paradigm on, share one draft of each part.
 pub fn entries_draft(
     alloc: Global,
     direction: Direction,
@@ -213,5 +277,6 @@ pub fn entries_draft(
 {
     let places = places_by_ending(alloc, entries)?;
     let gathering = gathered(alloc, direction, drafts, entries, places.as_slice())?;
-    closed(alloc, direction, drafts, gathering)
+    let Gathering { made, levels: _ } = closed_to(alloc, direction, drafts, gathering, 0)?;
+    Ok(made)
 }

@@ -9,6 +9,7 @@ mod expressions;
 mod gathering;
 mod laws;
 mod paradigms;
+mod places;
 mod sections;
 mod small;
 #[cfg(test)]

@@ -1,12 +1,11 @@
-use Rattle.std.proofs.Common.{refl}
 use Rattle.ap_compile.specs.Gatherings.{SpellsFrom}
 use Rattle.ap_compile.proofs.Gathered.{place_more, places_taken}
 use Rattle.ap_compile.proofs.gathering.gathered.Goals as goal
 
 pub loop-place-preserved : goal.loop-place-preserved
 loop-place-preserved c = record {
-  ending = c.in_ok-gathering.ensures.ending;
-  strings = λ d are. place_more d c.args.direction (SpellsFrom d c.args.direction c.args.entries.now) c.args.places.now _ _ c.loop-place.place-index c.loop-place.gathering c.in_ok-gathering.gathering c.loop-place-test.true refl
+  sound = c.in_ok-gathering.ensures.sound;
+  strings = λ d are. place_more d c.args.direction (SpellsFrom d c.args.direction c.args.entries.now) c.args.places.now c.place-item.result c.place-item.result c.loop-place.place-index c.loop-place.gathering c.in_ok-gathering.gathering c.loop-place-test.true c.place-item.is
       (c.loop-place.invariant.strings d are) (c.in_ok-gathering.ensures.strings d are ((c.loop-place.invariant.strings d are).plain));
 }
 
