@@ -13,3 +13,5 @@ pub mod Fills
 pub mod Stacking
 pub mod Begins
 pub mod TextSizes
+pub mod FillSpells
+pub mod FillKeeps

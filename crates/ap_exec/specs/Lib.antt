@@ -20,3 +20,4 @@ pub mod Choosing
 pub mod Costs
 pub mod Stacks
 pub mod Beginning
+pub mod FillingLaws

@@ -8,6 +8,7 @@ mod clips;
 mod comparing;
 mod conditions;
 mod filling;
+mod filling_laws;
 mod lent;
 mod matched;
 mod pieces;
@@ -27,6 +28,7 @@ mod writing;
 
 pub use acting::act;
 pub use filling::fill;
+pub use filling_laws::filling_keeps_superblanks;
 pub use matched::{Matched, MatchedUnit, MatchedUnits};
 pub use refusal::ExecRefusal;
 pub use size_laws::pieces_are_counted;

@@ -143,7 +143,9 @@ fn postchunk_swaps_words(rt: HostRuntime) -> Result<(), Fail> {
 #[test]
 fn variables_stay_after_a_refusal(rt: HostRuntime) -> Result<(), Fail> {
     let alloc = rt.alloc();
-    let mut text = format!(in alloc; "<transfer default=\"lu\">{CATEGORY}<section-def-vars><def-var n=\"v\" v=\"&lt;")?;
+    let mut text = format!(in alloc;
+        "<transfer default=\"lu\">{CATEGORY}<section-def-vars><def-var n=\"v\" v=\"&lt;"
+    )?;
     for _ in 0..6_000 {
         text.push_str("aaaaaaaaaa")?;
     }
@@ -170,13 +172,19 @@ fn variables_stay_after_a_refusal(rt: HostRuntime) -> Result<(), Fail> {
 #[test]
 fn macros_nest_deep(rt: HostRuntime) -> Result<(), Fail> {
     let alloc = rt.alloc();
-    let mut text = format!(in alloc; "<transfer default=\"lu\">{CATEGORY}<section-def-macros><def-macro n=\"m0\" npar=\"1\"><let><clip pos=\"1\" side=\"tl\" part=\"lem\"/><lit v=\"blanco\"/></let></def-macro>")?;
+    let mut text = format!(in alloc;
+        "<transfer default=\"lu\">{CATEGORY}<section-def-macros><def-macro n=\"m0\" npar=\"1\"><let><clip pos=\"1\" side=\"tl\" part=\"lem\"/><lit v=\"blanco\"/></let></def-macro>"
+    )?;
     for k in 1..1_000u64 {
         let below = k - 1;
-        let body = format!(in alloc; "<def-macro n=\"m{k}\" npar=\"1\"><call-macro n=\"m{below}\"><with-param pos=\"1\"/></call-macro></def-macro>")?;
+        let body = format!(in alloc;
+            "<def-macro n=\"m{k}\" npar=\"1\"><call-macro n=\"m{below}\"><with-param pos=\"1\"/></call-macro></def-macro>"
+        )?;
         text.push_str(body.as_str())?;
     }
-    let rule = format!(in alloc; "</section-def-macros><section-rules><rule>{PATTERN}<action><call-macro n=\"m999\"><with-param pos=\"1\"/></call-macro>{WHOLE}</action></rule></section-rules></transfer>")?;
+    let rule = format!(in alloc;
+        "</section-def-macros><section-rules><rule>{PATTERN}<action><call-macro n=\"m999\"><with-param pos=\"1\"/></call-macro>{WHOLE}</action></rule></section-rules></transfer>"
+    )?;
     text.push_str(rule.as_str())?;
     let one = matched(alloc, &[("black<adj>", "negro<adj>", "")])?;
     let out = written(alloc, Form::Transfer, text.as_str(), &one, &[])?;
@@ -187,7 +195,9 @@ fn macros_nest_deep(rt: HostRuntime) -> Result<(), Fail> {
 #[test]
 fn one_macro_is_called_often(rt: HostRuntime) -> Result<(), Fail> {
     let alloc = rt.alloc();
-    let mut text = format!(in alloc; "<transfer default=\"lu\">{CATEGORY}<section-def-vars><def-var n=\"v\" v=\"a\"/></section-def-vars><section-def-macros><def-macro n=\"m0\" npar=\"0\"><choose><when><test><equal><var n=\"v\"/><lit v=\"a\"/></equal></test><let><var n=\"v\"/><lit v=\"b\"/></let></when><otherwise><let><var n=\"v\"/><lit v=\"a\"/></let></otherwise></choose></def-macro>")?;
+    let mut text = format!(in alloc;
+        "<transfer default=\"lu\">{CATEGORY}<section-def-vars><def-var n=\"v\" v=\"a\"/></section-def-vars><section-def-macros><def-macro n=\"m0\" npar=\"0\"><choose><when><test><equal><var n=\"v\"/><lit v=\"a\"/></equal></test><let><var n=\"v\"/><lit v=\"b\"/></let></when><otherwise><let><var n=\"v\"/><lit v=\"a\"/></let></otherwise></choose></def-macro>"
+    )?;
     for k in 1..6u64 {
         let below = k - 1;
         let head = format!(in alloc; "<def-macro n=\"m{k}\" npar=\"0\">")?;
@@ -198,7 +208,9 @@ fn one_macro_is_called_often(rt: HostRuntime) -> Result<(), Fail> {
         }
         text.push_str("</def-macro>")?;
     }
-    let rule = format!(in alloc; "</section-def-macros><section-rules><rule>{PATTERN}<action><call-macro n=\"m5\"/><call-macro n=\"m0\"/><out><lu><var n=\"v\"/></lu></out></action></rule></section-rules></transfer>")?;
+    let rule = format!(in alloc;
+        "</section-def-macros><section-rules><rule>{PATTERN}<action><call-macro n=\"m5\"/><call-macro n=\"m0\"/><out><lu><var n=\"v\"/></lu></out></action></rule></section-rules></transfer>"
+    )?;
     text.push_str(rule.as_str())?;
     let one = matched(alloc, &[("black<adj>", "negro<adj>", "")])?;
     let out = written(alloc, Form::Transfer, text.as_str(), &one, &[])?;
