@@ -54,11 +54,9 @@ fn run_rule(
 }
 
 /// What a rule does to a match: the template that it gives, and new values of the variables. Its
-/// statements are run in the order in which they stand (the Apertium transfer format). The rules
-/// are sound, the rule is the number of one of them, there are as many variables as they define
-/// and as many units as the rule's pattern has (any number in postchunk), and a chunk is given in
-/// postchunk alone. In none of these cases does anything worse happen than that what isn't there
-/// is empty.
+/// statements are run in the order in which they stand (the Apertium transfer format). A number
+/// that names nothing, as of a rule, a unit, a variable or a macro that isn't there, gives the empty
+/// word, or does nothing.
 ///
 /// `ValueTooLong` comes exactly where a value has more than `UNIT_MAX` bytes, and `OutputTooLong`
 /// exactly where the pieces, without their slots, have more than `SPAN_MAX` bytes, whichever comes

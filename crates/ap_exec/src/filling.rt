@@ -149,13 +149,13 @@ fn bounded(out: Bytes) -> Result<Bytes, ExecRefusal>
     Ok(out)
 }
 
-/// The text of a template: a unit as `^` and its word and `$`, an empty one as nothing; a chunk as `^`, its name, what
-/// is in it between `{` and `}`, and `$` (the Apertium stream format). The slots in order, those inside chunks too,
-/// are the blanks in order, whole; a slot without a blank is one space. The superblanks of the blanks that are left
-/// over follow.
+/// The text of a template: a unit as `^` and its word and `$`, an empty one as nothing; a chunk as
+/// `^`, its name, what is in it between `{` and `}`, and `$` (the Apertium stream format). The slots
+/// in order, those inside of chunks too, are the blanks in order, whole; a slot without a blank is
+/// one space. The superblanks of the blanks that are left over follow.
 ///
-/// `OutputTooLong` comes exactly where the text has more than `SPAN_MAX` bytes; `ValueTooLong` never comes; `Memory`
-/// means want of memory.
+/// `OutputTooLong` comes exactly where the text has more than `SPAN_MAX` bytes; `ValueTooLong`
+/// never comes; `Memory` means want of memory.
 pub fn fill(alloc: Global, template: &Template, blanks: &Blanks) -> Result<Bytes, ExecRefusal>
     ensures { Gives (λ b. b) result (fill_of template.now blanks.now) }
 {

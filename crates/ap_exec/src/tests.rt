@@ -154,17 +154,17 @@ fn variables_stay_after_a_refusal(rt: HostRuntime) -> Result<(), Fail> {
     let rules = read_rules(alloc, text.as_bytes(), Form::Transfer)?;
     let mut vars = Vars::start(alloc, &rules)?;
     let one = matched(alloc, &[("black<adj>", "negro<adj>", "")])?;
-    let mut runs = 0;
-    for _ in 0..30 {
+    let mut last = 0;
+    for run in 0..30u64 {
         match act(alloc, &rules, 0, &one, &mut vars) {
-            Ok(_) => runs += 1,
+            Ok(_) => last = run,
             Err(e) => {
                 assert!(rt; e == ExecRefusal::ValueTooLong);
                 break;
             }
         }
     }
-    assert!(rt; runs == 6);
+    assert!(rt; last == 5);
     assert!(rt; matches!(vars.get(0), Some(word) if word.len() == 64));
     Ok(())
 }

@@ -8,7 +8,8 @@ use ap_symbol::{Memory, Word};
 use std::alloc::Global;
 use std::marker::Model;
 
-/// What the variables of rules hold, each by its number, counted from 0. It is seen as the list of their words.
+/// What the variables of rules hold, each by its number, counted from 0. It is seen as the list of
+/// their words.
 #[derive(Debug, Drop)]
 pub struct Vars {
     words: Vec<Word>,
@@ -45,7 +46,8 @@ fn put_all(words: &mut Vec<Word>, fresh: Vec<Option<Word>>)
 }
 
 impl Vars {
-    /// What the variables hold at the start: the words that the rules state. The error means want of memory.
+    /// What the variables hold at the start: the words that the rules state. The error means want
+    /// of memory.
     pub fn start(alloc: Global, rules: &Rules) -> Result<Vars, Memory>
         ensures { IfOk result (λ vars. vars ≡ start_of rules.now) }
     {
