@@ -1,8 +1,8 @@
 -- Bytes that are crossed at once.
-use Rattle.std.specs.Prelude.{◌≡◌, ◌==◌, ◌||◌, ◌&&◌, not, ℕ, zero, suc, ◌+◌, ◌-◌, ◌<◌, ◌≤◌, List, [], ◌∷◌, ◌++◌, drop, take, length, min, Bool, true, false, cond, eqb, ltb, refl, slice_index}
+use Rattle.std.specs.Prelude.{◌≡◌, ◌==◌, ◌||◌, ◌&&◌, not, ℕ, zero, suc, ◌+◌, ◌-◌, ◌<◌, ◌≤◌, List, [], ◌∷◌, ◌++◌, drop, take, length, min, Bool, true, false, cond, eqb, ltb, refl, slice_index, Option, Some, None}
 use Rattle.std.proofs.Common.{arith, ap, sym, subst, ◌∙◌, append_assoc, length-append, get_or}
-use Rattle.std.proofs.lemmas.List.{append-nil, take-append-drop, take_all, drop_all, length-take, get_or-take}
-use Rattle.std.proofs.lemmas.Bool.{false≢true, ltb-true, and_parts, not-true}
+use Rattle.std.proofs.lemmas.List.{append-nil, take-append-drop, take_all, drop_all, length-take, get_or-take, take-take}
+use Rattle.std.proofs.lemmas.Bool.{false≢true, ltb-true, eqb-true, and_parts, not-true}
 use Rattle.std.proofs.lemmas.Bool.Decides.{nat_tests}
 use Rattle.ap_stream.specs.Limits.{unit_max}
 use Rattle.ap_stream.specs.declared.examine.Mode.{Mode}
@@ -11,11 +11,13 @@ use Rattle.ap_stream.specs.declared.examine.Spot.{Spot}
 use Rattle.ap_stream.specs.declared.dialect.Dialect.{Dialect}
 use Rattle.ap_stream.specs.Chars.{Part, Char, char_at}
 use Rattle.ap_stream.specs.Units.{form_of, Sign, Reads, sign, sign_bare, bare_of, is_barred, in_surface}
-use Rattle.ap_stream.specs.InUnits.{InUnit, grown_spot, unit_symbol}
-use Rattle.ap_stream.specs.Stands.{Within, within_on}
+use Rattle.ap_stream.specs.InUnits.{InUnit, InTag, grown_spot, surface_at, unit_symbol}
+use Rattle.ap_stream.proofs.WordSteps as words
+use Rattle.ap_stream.specs.Stands.{Stands, Within, within_on}
+use Rattle.ap_symbol.specs.TagNames.{is_reserved_lem}
 use Rattle.ap_stream.specs.Step.{nothing_part}
 use Rattle.ap_stream.specs.Given.{Standing}
-use Rattle.ap_stream.specs.Crossing.{GoesOn, AllGoOn, stops_word, is_lone, AllLone, AllCross, crossed_mode}
+use Rattle.ap_stream.specs.Crossing.{GoesOn, AllGoOn, stops_word, is_lone, is_named, word_crossed, tag_crossed, crossed_by, crossing, and_on, AllCross}
 
 pub goes_on : (b : ℕ) → b < 128 → ((b == 93 || b == 92) ≡ true → ⊥) → GoesOn b
 goes_on b small bare = record { ascii = small; stays = grind (arith, nat_tests, bare); bare = grind (arith, nat_tests, bare) }
@@ -77,13 +79,88 @@ lone_sign surface b x l = sign_bare surface (b ∷ []) x (Char b 1) (omega arith
 lone_symbol : (dialect : Dialect) (at : Spot) (done : List ℕ) (b : ℕ) → InUnit dialect at done → Lone b → InUnit dialect (grown_spot at) (done ++ b ∷ [])
 lone_symbol dialect at done b h l = unit_symbol dialect at done h (b ∷ []) (bare_of (in_surface (form_of dialect) h.words) b) (omega arith) (λ x. lone_sign (in_surface (form_of dialect) h.words) b x l)
 
-crossed_word : (dialect : Dialect) (at : Spot) (done run : List ℕ) → InUnit dialect at done → 0 < length run → AllLone (length run) run → InUnit dialect (grown_spot at) (done ++ run)
-crossed_word dialect at done [] h some all = absurd (omega arith)
-crossed_word dialect at done (b ∷ []) h some all = lone_symbol dialect at done b h (lone b (all 0 (omega arith)))
-crossed_word dialect at done (b ∷ c ∷ run) h some all =
-    let next : InUnit dialect (grown_spot at) (done ++ b ∷ []) = lone_symbol dialect at done b h (lone b (all 0 (omega arith))) in
-    let P : List ℕ → Type 0 = λ q. InUnit dialect (grown_spot at) q in
-    subst P (append_assoc done (b ∷ []) (c ∷ run)) (crossed_word dialect (grown_spot at) (done ++ b ∷ []) (c ∷ run) next (omega arith) (λ k l. all (suc k) (omega arith)))
+-- a byte of a tag's name
+record Named (b : ℕ) : Type 0 where
+  ascii : b < 128
+  unreserved : is_reserved_lem b ≡ false
+
+named : (b : ℕ) → is_named b ≡ true → Named b
+named b h =
+    let both = and_parts (ltb b 128) (not (is_reserved_lem b)) h in
+    record { ascii = ltb-true b 128 both.0; unreserved = not-true (is_reserved_lem b) both.1 }
+
+-- what stands in a unit behind these bytes
+abbrev InUnitAt : Dialect → Mode → List ℕ → Type 0
+InUnitAt dialect (mode.Word at) done = InUnit dialect at done
+InUnitAt dialect (mode.Tag at some) done = InTag dialect at some done
+InUnitAt dialect mode.Start done = ⊥
+InUnitAt dialect mode.Escape done = ⊥
+InUnitAt dialect mode.Blank done = ⊥
+InUnitAt dialect mode.Inside done = ⊥
+InUnitAt dialect mode.InsideEscape done = ⊥
+InUnitAt dialect (mode.WordEscape at) done = ⊥
+
+one_more : {A : Type 0} (t : Bool) (x y : Option A) (z : A) (R : A → Type 0) → cond t x y ≡ Some z → (t ≡ true → x ≡ Some z → R z) → (t ≡ false → y ≡ Some z → R z) → R z
+one_more true x y z R e f g = f refl e
+one_more false x y z R e f g = g refl e
+
+given : {A : Type 0} (x z : A) (R : A → Type 0) → Some x ≡ Some z → R x → R z
+given x z R e r = let same : x ≡ z = cc in subst R same r
+
+word_on : (dialect : Dialect) (at : Spot) (done : List ℕ) (b : ℕ) (to : Mode) → InUnit dialect at done → word_crossed dialect at b ≡ Some to → InUnitAt dialect to (done ++ b ∷ [])
+word_on dialect at done b to h e =
+    one_more (is_lone b) (Some (mode.Word (grown_spot at))) _ to (λ m. InUnitAt dialect m (done ++ b ∷ [])) e
+    (λ t k. given (mode.Word (grown_spot at)) to (λ m. InUnitAt dialect m (done ++ b ∷ [])) k (lone_symbol dialect at done b h (lone b t)))
+    (λ f k. one_more (eqb b 60 && not (surface_at dialect at)) (Some (mode.Tag at false)) None to (λ m. InUnitAt dialect m (done ++ b ∷ [])) k
+    (λ t l. given (mode.Tag at false) to (λ m. InUnitAt dialect m (done ++ b ∷ [])) l (words.word_tag dialect at done (b ∷ []) h [] b refl nothing_part t))
+    (λ g l. absurd (cc)))
+
+tag_on : (dialect : Dialect) (at : Spot) (some : Bool) (done : List ℕ) (b : ℕ) (to : Mode) → InTag dialect at some done → tag_crossed at some b ≡ Some to → InUnitAt dialect to (done ++ b ∷ [])
+tag_on dialect at some done b to h e =
+    one_more (is_named b) (Some (mode.Tag at true)) _ to (λ m. InUnitAt dialect m (done ++ b ∷ [])) e
+    (λ t k. given (mode.Tag at true) to (λ m. InUnitAt dialect m (done ++ b ∷ [])) k
+        (let n : Named b = named b t in words.goes_on dialect at some done (b ∷ []) h b (ascii_char b [] n.ascii) (omega arith) n.unreserved))
+    (λ f k. one_more (eqb b 62 && some) (Some (mode.Word (grown_spot at))) None to (λ m. InUnitAt dialect m (done ++ b ∷ [])) k
+    (λ t l. given (mode.Word (grown_spot at)) to (λ m. InUnitAt dialect m (done ++ b ∷ [])) l
+        (let both = and_parts (eqb b 62) some t in
+         let is : b ≡ 62 = eqb-true b 62 both.0 in
+         words.ends_on dialect at some done (b ∷ []) h b (ascii_char b [] (omega (arith, is))) (omega arith) is both.1))
+    (λ g l. absurd (cc)))
+
+crossed_on : (dialect : Dialect) (at to : Mode) (done : List ℕ) (b : ℕ) → InUnitAt dialect at done → crossed_by dialect at b ≡ Some to → InUnitAt dialect to (done ++ b ∷ [])
+crossed_on dialect (mode.Word at) to done b h e = word_on dialect at done b to h e
+crossed_on dialect (mode.Tag at some) to done b h e = tag_on dialect at some done b to h e
+crossed_on dialect mode.Start to done b h e = absurd h
+crossed_on dialect mode.Escape to done b h e = absurd h
+crossed_on dialect mode.Blank to done b h e = absurd h
+crossed_on dialect mode.Inside to done b h e = absurd h
+crossed_on dialect mode.InsideEscape to done b h e = absurd h
+crossed_on dialect (mode.WordEscape at) to done b h e = absurd h
+
+crossed_all : (dialect : Dialect) (at to : Mode) (done run : List ℕ) → InUnitAt dialect at done → crossing dialect at run ≡ Some to → InUnitAt dialect to (done ++ run)
+unfolding crossing
+crossed_all dialect at to done [] h e = subst (InUnitAt dialect to) (sym (append-nil done)) (given at to (λ m. InUnitAt dialect m done) e h)
+crossed_all dialect at to done (b ∷ run) h e = by (crossed_by dialect at b) refl e (λ next k l. crossed_all dialect next to (done ++ b ∷ []) run k l)
+  where
+    by : (o : Option Mode) → crossed_by dialect at b ≡ o → and_on o (λ next. crossing dialect next run) ≡ Some to
+        → ((next : Mode) → InUnitAt dialect next (done ++ b ∷ []) → crossing dialect next run ≡ Some to → InUnitAt dialect to ((done ++ b ∷ []) ++ run)) → InUnitAt dialect to (done ++ b ∷ run)
+    by None k l more = absurd (cc)
+    by (Some next) k l more = subst (InUnitAt dialect to) (append_assoc done (b ∷ []) run) (more next (crossed_on dialect at next done b h k) l)
+
+-- one byte more is crossed
+pub crossing_more : (dialect : Dialect) (at to next : Mode) (run : List ℕ) (b : ℕ) → crossing dialect at run ≡ Some to → crossed_by dialect to b ≡ Some next → crossing dialect at (run ++ b ∷ []) ≡ Some next
+unfolding crossing
+crossing_more dialect at to next [] b e k = let same : at ≡ to = cc in ap (λ m. and_on (crossed_by dialect m b) (λ z. Some z)) same ∙ ap (λ o. and_on o (λ z. Some z)) k
+crossing_more dialect at to next (a ∷ run) b e k = by (crossed_by dialect at a) e (λ mid l. crossing_more dialect mid to next run b l k)
+  where
+    by : (o : Option Mode) → and_on o (λ z. crossing dialect z run) ≡ Some to → ((mid : Mode) → crossing dialect mid run ≡ Some to → crossing dialect mid (run ++ b ∷ []) ≡ Some next)
+        → and_on o (λ z. crossing dialect z (run ++ b ∷ [])) ≡ Some next
+    by None l more = absurd (cc)
+    by (Some mid) l more = more mid l
+
+pub crossing_none : (dialect : Dialect) (at : Mode) → crossing dialect at [] ≡ Some at
+unfolding crossing
+crossing_none dialect at = refl
 
 module _ (done size n m : ℕ) (held piece after : List ℕ) (d : length held ≤ done) (fits : n ≤ length (take m piece)) (short : m ≤ unit_max - length held) (few : length held ≤ unit_max) (a : after ≡ held ++ take n piece) (s : size ≡ length after) where
   cut : length (take m piece) ≡ min m (length piece)
@@ -115,33 +192,54 @@ module _ (done size n m : ℕ) (held piece after : List ℕ) (d : length held �
       let same : get_or (take m piece) k 0 ≡ get_or (take n piece) k 0 = get_or-take m piece k 0 (omega (arith, l, len, cut, fits)) ∙ sym (get_or-take n piece k 0 (omega (arith, l, len))) in
       subst P same (all k (omega (arith, l, len)))
 
+-- within a unit a reader stands where it stands in the unit, with no start of a character behind it
+stands_at : (dialect : Dialect) (at : Mode) (held : List ℕ) → InUnitAt dialect at held → Stands dialect at held []
+stands_at dialect (mode.Word at) held h = (h, nothing_part)
+stands_at dialect (mode.Tag at some) held h = (h, nothing_part)
+stands_at dialect mode.Start held h = absurd h
+stands_at dialect mode.Escape held h = absurd h
+stands_at dialect mode.Blank held h = absurd h
+stands_at dialect mode.Inside held h = absurd h
+stands_at dialect mode.InsideEscape held h = absurd h
+stands_at dialect (mode.WordEscape at) held h = absurd h
+
+module _ (dialect : Dialect) (done size n m : ℕ) (held piece after : List ℕ) (at to : Mode) (d : length held ≤ done) (fits : n ≤ length (take m piece)) (short : m ≤ unit_max - length held) (few : length held ≤ unit_max) (a : after ≡ held ++ take n piece) (s : size ≡ length after) where
+  shorter : take n (take m piece) ≡ take n piece
+  shorter = take-take n m piece (omega (arith, cut done size n m held piece after d fits short few a s, fits))
+
+  unit_crossed : InUnitAt dialect at held → crossing dialect at (take n (take m piece)) ≡ Some to → Standing dialect true to size after
+  unit_crossed h all =
+      let on : InUnitAt dialect to after = subst (InUnitAt dialect to) (sym a) (crossed_all dialect at to held (take n piece) h (ap (crossing dialect at) (sym shorter) ∙ all)) in
+      record {
+        fits = omega (arith, s);
+        short = λ _. after_short done size n m held piece after d fits short few a s;
+        stands = rw (whole done size n m held piece after d fits short few a s, none done size n m held piece after d fits short few a s) (stands_at dialect to after on);
+      }
+
 -- a reader crosses such bytes
-pub stands_crossed : (dialect : Dialect) (done size n m : ℕ) (held piece after : List ℕ) (looked : Bool) (at : Mode) → looked ≡ true → 0 < n → Standing dialect looked at done held → length held ≤ done →
-    n ≤ length (take m piece) → AllCross at n (take m piece) → m ≤ unit_max - length held → after ≡ held ++ take n piece → size ≡ length after → Standing dialect looked (crossed_mode at) size after
-stands_crossed dialect done size n m held piece after false at e some h d fits all short a s = absurd (cc)
-stands_crossed dialect done size n m held piece after true mode.Start e some h d fits all short a s = absurd (omega (arith, some, all))
-stands_crossed dialect done size n m held piece after true mode.Escape e some h d fits all short a s = absurd (omega (arith, some, all))
-stands_crossed dialect done size n m held piece after true mode.Blank e some h d fits all short a s = absurd (omega (arith, some, all))
-stands_crossed dialect done size n m held piece after true mode.InsideEscape e some h d fits all short a s = absurd (omega (arith, some, all))
-stands_crossed dialect done size n m held piece after true (mode.WordEscape at) e some h d fits all short a s = absurd (omega (arith, some, all))
-stands_crossed dialect done size n m held piece after true (mode.Tag at more) e some h d fits all short a s = absurd (omega (arith, some, all))
-stands_crossed dialect done size n m held piece after true mode.Inside e some h d fits all short a s =
+pub stands_crossed : (dialect : Dialect) (done size n m : ℕ) (held piece after : List ℕ) (looked : Bool) (at to : Mode) → looked ≡ true → 0 < n → Standing dialect looked at done held → length held ≤ done →
+    n ≤ length (take m piece) → AllCross dialect at to n (take m piece) → m ≤ unit_max - length held → after ≡ held ++ take n piece → size ≡ length after → Standing dialect looked to size after
+stands_crossed dialect done size n m held piece after false at to e some h d fits all short a s = absurd (cc)
+stands_crossed dialect done size n m held piece after true mode.Start to e some h d fits all short a s = absurd (omega (arith, some, all))
+stands_crossed dialect done size n m held piece after true mode.Escape to e some h d fits all short a s = absurd (omega (arith, some, all))
+stands_crossed dialect done size n m held piece after true mode.Blank to e some h d fits all short a s = absurd (omega (arith, some, all))
+stands_crossed dialect done size n m held piece after true mode.InsideEscape to e some h d fits all short a s = absurd (omega (arith, some, all))
+stands_crossed dialect done size n m held piece after true (mode.WordEscape at) to e some h d fits all short a s = absurd (omega (arith, some, all))
+stands_crossed dialect done size n m held piece after true mode.Inside to e some h d fits all short a s =
     let few : length held ≤ unit_max = h.short refl in
     let within : Within false held [] = rw (front done size n m held piece after d fits short few a s, back done size n m held piece after d fits short few a s) at h.stands in
-    let on : Within false after [] = let P : List ℕ → Type 0 = λ q. Within false q [] in subst P (sym a) (crossed held (take n piece) within (each done size n m held piece after d fits short few a s GoesOn all)) in
-    record {
+    let on : Within false after [] = let P : List ℕ → Type 0 = λ q. Within false q [] in subst P (sym a) (crossed held (take n piece) within (each done size n m held piece after d fits short few a s GoesOn all.1)) in
+    let there : Standing dialect true mode.Inside size after = record {
       fits = omega (arith, s);
       short = λ _. after_short done size n m held piece after d fits short few a s;
       stands = rw (whole done size n m held piece after d fits short few a s, none done size n m held piece after d fits short few a s) on;
-    }
-stands_crossed dialect done size n m held piece after true (mode.Word at) e some h d fits all short a s =
+    } in
+    subst (λ (z : Mode). Standing dialect true z size after) (sym all.0) there
+stands_crossed dialect done size n m held piece after true (mode.Word at) to e some h d fits all short a s =
     let few : length held ≤ unit_max = h.short refl in
     let unit : InUnit dialect at held = let P : List ℕ → Type 0 = λ q. InUnit dialect at q in subst P (front done size n m held piece after d fits short few a s) h.stands.0 in
-    let run : 0 < length (take n piece) = omega (arith, some, len done size n m held piece after d fits short few a s) in
-    let lones : AllLone (length (take n piece)) (take n piece) = each done size n m held piece after d fits short few a s (λ b. is_lone b ≡ true) all in
-    let on : InUnit dialect (grown_spot at) after = let P : List ℕ → Type 0 = λ q. InUnit dialect (grown_spot at) q in subst P (sym a) (crossed_word dialect at held (take n piece) unit run lones) in
-    record {
-      fits = omega (arith, s);
-      short = λ _. after_short done size n m held piece after d fits short few a s;
-      stands = rw (whole done size n m held piece after d fits short few a s, none done size n m held piece after d fits short few a s) (on, nothing_part);
-    }
+    unit_crossed dialect done size n m held piece after (mode.Word at) to d fits short few a s unit all
+stands_crossed dialect done size n m held piece after true (mode.Tag at more) to e some h d fits all short a s =
+    let few : length held ≤ unit_max = h.short refl in
+    let unit : InTag dialect at more held = let P : List ℕ → Type 0 = λ q. InTag dialect at more q in subst P (front done size n m held piece after d fits short few a s) h.stands.0 in
+    unit_crossed dialect done size n m held piece after (mode.Tag at more) to d fits short few a s unit all

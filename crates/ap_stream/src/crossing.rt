@@ -1,7 +1,8 @@
-ghost use Rattle.std.specs.Prelude.{◌≡◌, ◌==◌, ◌||◌, true, ℕ, ◌<◌, ◌≤◌, length, slice_index};
-ghost use Rattle.ap_stream.specs.Crossing.{AllGoOn, AllLone, AllCross, is_lone as lone_test, crossed_mode};
+ghost use Rattle.std.specs.Prelude.{◌≡◌, ◌==◌, ◌||◌, true, ℕ, ◌<◌, ◌≤◌, length, slice_index, take, Some};
+ghost use Rattle.ap_stream.specs.Crossing.{AllGoOn, AllCross, is_lone as lone_test, is_named as named_test, crossed_by, crossing};
 
-use crate::examine::{Mode, grown};
+use crate::dialect::Dialect;
+use crate::examine::{Mode, grown, is_surface};
 use memchr::memchr2;
 
 /// How many bytes stand before the first `]` or backslash.
@@ -50,44 +51,89 @@ fn is_lone(byte: u8) -> bool
         )
 }
 
-/// How many of the bytes are symbols by themselves.
-fn word_run(bytes: &[u8]) -> usize
-    ensures most { result ≤ length bytes.now }
-    ensures lone { AllLone result bytes.now }
+/// Whether the byte is one of a tag's name by itself.
+fn is_named(byte: u8) -> bool
+    ensures { result ≡ named_test byte }
 {
-    let mut at = 0;
-    while at < bytes.len() {
-        if !is_lone(bytes[at]) {
-            return at;
+    byte < 128
+        && !matches!(
+            byte,
+            b'\t' | b'\n' | b'\r' | b' ' | b'^' | b'$' | b'/' | b'<' | b'>' | b'{' | b'}' | b'\\' | b'[' | b']'
+        )
+}
+
+/// The mode behind one more byte within a unit, where the byte is a character by itself that neither
+/// ends a word nor escapes.
+fn crossed_by(dialect: Dialect, mode: Mode, byte: u8) -> Option<Mode>
+    ensures { result ≡ crossed_by dialect mode byte }
+{
+    match mode {
+        Mode::Word(at) => {
+            if is_lone(byte) {
+                return Some(Mode::Word(grown(at)));
+            }
+            if byte == b'<' && !is_surface(dialect, at) {
+                return Some(Mode::Tag(at, false));
+            }
+            None
         }
-        at += 1;
+        Mode::Tag(at, some) => {
+            if is_named(byte) {
+                return Some(Mode::Tag(at, true));
+            }
+            if byte == b'>' && some {
+                return Some(Mode::Word(grown(at)));
+            }
+            None
+        }
+        Mode::Start
+        | Mode::Escape
+        | Mode::Blank
+        | Mode::Inside
+        | Mode::InsideEscape
+        | Mode::WordEscape(_) => None,
     }
-    at
+}
+
+/// So many bytes that were crossed, and the mode behind them.
+pub(crate) struct Crossed {
+    pub(crate) count: usize,
+    pub(crate) mode: Mode,
+}
+
+/// How many of the bytes are such within a unit.
+fn unit_run(dialect: Dialect, mode: Mode, bytes: &[u8]) -> Crossed
+    ensures most { result.count ≤ length bytes.now }
+    ensures crossing { crossing dialect mode (take result.count bytes.now) ≡ Some result.mode }
+{
+    let mut at = mode;
+    for count in 0..bytes.len() {
+        match crossed_by(dialect, at, bytes[count]) {
+            None => return Crossed { count, mode: at },
+            Some(next) => at = next,
+        }
+    }
+    Crossed {
+        count: bytes.len(),
+        mode: at,
+    }
 }
 
 /// How many of the bytes only go on with what the mode stands in.
-pub(crate) fn run_of(mode: Mode, bytes: &[u8]) -> usize
-    ensures most { result ≤ length bytes.now }
-    ensures goes_on { AllCross mode result bytes.now }
+pub(crate) fn run_of(dialect: Dialect, mode: Mode, bytes: &[u8]) -> Crossed
+    ensures most { result.count ≤ length bytes.now }
+    ensures goes_on { AllCross dialect mode result.mode result.count bytes.now }
 {
     match mode {
-        Mode::Inside => superblank_run(bytes),
-        Mode::Word(_) => word_run(bytes),
+        Mode::Inside => Crossed {
+            count: superblank_run(bytes),
+            mode,
+        },
+        Mode::Word(_) | Mode::Tag(_, _) => unit_run(dialect, mode, bytes),
         Mode::Start
         | Mode::Escape
         | Mode::Blank
         | Mode::InsideEscape
-        | Mode::WordEscape(_)
-        | Mode::Tag(_, _) => 0,
-    }
-}
-
-/// The mode behind such bytes.
-pub(crate) fn crossed(mode: Mode) -> Mode
-    ensures { result ≡ crossed_mode mode }
-{
-    match mode {
-        Mode::Word(at) => Mode::Word(grown(at)),
-        other => other,
+        | Mode::WordEscape(_) => Crossed { count: 0, mode },
     }
 }

@@ -190,7 +190,7 @@ fn starts_tag(surface: bool, bytes: &[u8]) -> bool
 }
 
 /// Whether the word is a surface.
-fn is_surface(dialect: Dialect, at: Spot) -> bool
+pub(crate) fn is_surface(dialect: Dialect, at: Spot) -> bool
     ensures { result ≡ surface_at dialect at }
 {
     matches!(dialect, Dialect::Analysed) && at.first

@@ -7,7 +7,7 @@ ghost use Rattle.ap_stream.specs.Reading.{counted, reads, stopped, nothing, IsRe
 
 use crate::UNIT_MAX;
 use crate::blank::Blank;
-use crate::crossing::{crossed, run_of};
+use crate::crossing::{Crossed, run_of};
 use crate::dialect::Dialect;
 use crate::examine::{Mode, Seen, look};
 use crate::fault::{LimitKind, MalformedKind, StreamFault};
@@ -176,13 +176,13 @@ impl Reader {
             .len()
             .min(CROSSED_AT_ONCE)
             .min(UNIT_MAX - self.held.len());
-        let count = run_of(self.mode, &piece[..most]);
+        let Crossed { count, mode } = run_of(self.dialect, self.mode, &piece[..most]);
         if count == 0 {
             return Ok(0);
         }
         match self.held.extend_from_slice(&piece[..count]) {
             Ok(()) => {
-                self.mode = crossed(self.mode);
+                self.mode = mode;
                 self.done = self.held.len();
                 Ok(count)
             }
