@@ -4,7 +4,7 @@ ghost use Rattle.ap_symbol.specs.Words.{AreProper};
 ghost use Rattle.ap_rules.specs.Plain.{chunk, value_chunk};
 ghost use Rattle.ap_rules.specs.Views.{plain_value, plain_values, plain_chunk_piece, plain_chunk, plain_piece};
 ghost use Rattle.ap_exec.specs.Compounds.{joined_to, all_joined, values_in, tag_in};
-ghost use Rattle.ap_exec.specs.Pieces.{unit_of, units_of, compound, blank_atom, chunk_piece_of, chunk_pieces_of, tags_of, held_by, stated, name_of, atom_in, gives_content, content_of, contents_of, piece_of};
+ghost use Rattle.ap_exec.specs.Pieces.{unit_of, units_of, compound, blank_atom, chunk_piece_of, chunk_pieces_of, tags_of, held_by, stated, name_of, first_word, atom_in, gives_content, content_of, contents_of, piece_of};
 ghost use Rattle.ap_exec.specs.Results.{Gives, seen};
 ghost use Rattle.ap_exec.specs.States.{sight};
 
@@ -14,7 +14,7 @@ use crate::state::View;
 use crate::template::{Atom, Atoms, Piece};
 use crate::values::{append, push_values, var_at};
 use ap_rules::{Chunk, ChunkPiece, ClipPart, Lu, Piece as StatedPiece, Tag, Value, ValueChunk};
-use ap_stream::Inner;
+use ap_stream::{Inner, Names, Unit};
 use ap_symbol::{Memory, Sequence, Symbol, Word, case_of_symbols, recase};
 use std::alloc::Global;
 
@@ -164,12 +164,21 @@ fn chunk_of(alloc: Global, view: View<'_, '_>, held: &Chunk) -> Result<Piece, Ex
     Ok(Piece::Chunk(name, atoms))
 }
 
+/// The first word of a unit, newly made.
+fn first_word(alloc: Global, names: &mut Names, unit: &Unit) -> Result<Word, Memory>
+    ensures { IfOk result (λ word. word ≡ first_word unit.now) }
+{
+    let mut word = Word::new(alloc);
+    unit.first(names, &mut word)?;
+    Ok(word)
+}
+
 /// The atom that stands for a part of a chunk.
-fn atom_in(alloc: Global, part: &Inner) -> Result<Atom, Memory>
+fn atom_in(alloc: Global, names: &mut Names, part: &Inner) -> Result<Atom, Memory>
     ensures { IfOk result (λ a. a ≡ atom_in part.now) }
 {
     match part {
-        Inner::Unit(unit) => Ok(Atom::Unit(unit.first().copy(alloc)?)),
+        Inner::Unit(unit) => Ok(Atom::Unit(first_word(alloc, names, unit)?)),
         Inner::Blank(_) => Ok(Atom::Slot),
     }
 }
@@ -177,8 +186,9 @@ fn atom_in(alloc: Global, part: &Inner) -> Result<Atom, Memory>
 fn push_parts(alloc: Global, parts: &[Inner], into: &mut Atoms) -> Result<(), Memory>
     ensures { OnOk result (into.new ≡ into.old ++ map atom_in parts.now) }
 {
+    let mut names = Names::new(alloc);
     'parts: for part in parts {
-        into.push(atom_in(alloc, part)?)?;
+        into.push(atom_in(alloc, &mut names, part)?)?;
     }
     Ok(())
 }
