@@ -119,12 +119,12 @@ tag_on : (dialect : Dialect) (at : Spot) (some : Bool) (done : List ℕ) (b : �
 tag_on dialect at some done b to h e =
     one_more (is_named b) (Some (mode.Tag at true)) _ to (λ m. InUnitAt dialect m (done ++ b ∷ [])) e
     (λ t k. given (mode.Tag at true) to (λ m. InUnitAt dialect m (done ++ b ∷ [])) k
-        (let n : Named b = named b t in words.goes_on dialect at some done (b ∷ []) h b (ascii_char b [] n.ascii) (omega arith) n.unreserved))
+    (let n : Named b = named b t in words.goes_on dialect at some done (b ∷ []) h b (ascii_char b [] n.ascii) (omega arith) n.unreserved))
     (λ f k. one_more (eqb b 62 && some) (Some (mode.Word (grown_spot at))) None to (λ m. InUnitAt dialect m (done ++ b ∷ [])) k
     (λ t l. given (mode.Word (grown_spot at)) to (λ m. InUnitAt dialect m (done ++ b ∷ [])) l
-        (let both = and_parts (eqb b 62) some t in
-         let is : b ≡ 62 = eqb-true b 62 both.0 in
-         words.ends_on dialect at some done (b ∷ []) h b (ascii_char b [] (omega (arith, is))) (omega arith) is both.1))
+    (let both = and_parts (eqb b 62) some t in
+    let is : b ≡ 62 = eqb-true b 62 both.0 in
+    words.ends_on dialect at some done (b ∷ []) h b (ascii_char b [] (omega (arith, is))) (omega arith) is both.1))
     (λ g l. absurd (cc)))
 
 crossed_on : (dialect : Dialect) (at to : Mode) (done : List ℕ) (b : ℕ) → InUnitAt dialect at done → crossed_by dialect at b ≡ Some to → InUnitAt dialect to (done ++ b ∷ [])

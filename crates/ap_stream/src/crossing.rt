@@ -58,7 +58,20 @@ fn is_named(byte: u8) -> bool
     byte < 128
         && !matches!(
             byte,
-            b'\t' | b'\n' | b'\r' | b' ' | b'^' | b'$' | b'/' | b'<' | b'>' | b'{' | b'}' | b'\\' | b'[' | b']'
+            b'\t'
+                | b'\n'
+                | b'\r'
+                | b' '
+                | b'^'
+                | b'$'
+                | b'/'
+                | b'<'
+                | b'>'
+                | b'{'
+                | b'}'
+                | b'\\'
+                | b'['
+                | b']'
         )
 }
 
@@ -130,10 +143,7 @@ pub(crate) fn run_of(dialect: Dialect, mode: Mode, bytes: &[u8]) -> Crossed
             mode,
         },
         Mode::Word(_) | Mode::Tag(_, _) => unit_run(dialect, mode, bytes),
-        Mode::Start
-        | Mode::Escape
-        | Mode::Blank
-        | Mode::InsideEscape
-        | Mode::WordEscape(_) => Crossed { count: 0, mode },
+        Mode::Start | Mode::Escape | Mode::Blank | Mode::InsideEscape | Mode::WordEscape(_) =>
+            Crossed { count: 0, mode },
     }
 }
