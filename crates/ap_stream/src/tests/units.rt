@@ -92,7 +92,7 @@ fn told_at(alloc: Global, dialect: Dialect, text: &[u8], at: usize) -> Result<St
         },
     ) = reader.feed(text)
     {
-        if let Item::Unit(unit) = read.item {
+        if let Item::Unit(unit) = &read.item {
             match unit.bytes_at(at) {
                 Some(bytes) => told.push_str(format!(in alloc; "{} ", bytes.len())?.as_str())?,
                 None => told.push_str("- ")?,
@@ -159,29 +159,6 @@ fn writes_a_unit_that_was_read(rt: HostRuntime) -> Result<(), Memory> {
         let got = written(alloc, dialect, text)?;
         assert_eq!(rt; got.as_slice(), want);
     }
-    Ok(())
-}
-
-#[test]
-fn appends_to_a_unit_that_was_read(rt: HostRuntime) -> Result<(), Memory> {
-    let alloc = rt.alloc();
-    let mut out = Bytes::new(alloc);
-    let mut reader = Reader::new(alloc, Dialect::Bilingual);
-    if let Ok(
-        Fed {
-            item: Some(read),
-            ..
-        },
-    ) = reader.feed(b"^a/b$")
-    {
-        if let Item::Unit(mut unit) = read.item {
-            let mut word = Word::new(alloc);
-            unit.first(&mut Names::new(alloc), &mut word)?;
-            unit.push(word)?;
-            write_item(alloc, &Item::Unit(unit), &mut out)?;
-        }
-    }
-    assert_eq!(rt; out.as_slice(), b"^a/b/a$".as_slice());
     Ok(())
 }
 
