@@ -19,7 +19,8 @@ use Rattle.ap_analysis.specs.Items.{symbol_of}
 use Rattle.ap_analysis.specs.Licence.{is_letter_symbol, is_alphabetic}
 
 -- a run that ends
-pub letters_end : {X : Type 0} (p : X → Bool) (xs : List X) (i : ℕ) (x : X) → i < length xs → x ≡ get_or xs i x → p x ≡ false → list_all p (take i xs) ≡ true → i ≡ prefix_len p xs
+pub letters_end : {X : Type 0} (p : X → Bool) (xs : List X) (i : ℕ) (x : X) → i < length xs →
+    x ≡ get_or xs i x → p x ≡ false → list_all p (take i xs) ≡ true → i ≡ prefix_len p xs
 letters_end p [] i x lt is h all = absurd (omega arith)
 letters_end p (y ∷ xs) zero x lt is h all = let e : p y ≡ false = ap p (sym is) ∙ h in rw e refl
 letters_end p (y ∷ xs) (suc i) x lt is h all =
@@ -28,7 +29,8 @@ letters_end p (y ∷ xs) (suc i) x lt is h all =
     rw both.0 (omega (arith, rest))
 
 -- a run of all
-pub letters_whole : {X : Type 0} (p : X → Bool) (xs : List X) (i : ℕ) → length xs ≤ i → i ≤ length xs → list_all p (take i xs) ≡ true → i ≡ prefix_len p xs
+pub letters_whole : {X : Type 0} (p : X → Bool) (xs : List X) (i : ℕ) → length xs ≤ i →
+    i ≤ length xs → list_all p (take i xs) ≡ true → i ≡ prefix_len p xs
 letters_whole p [] i lt le all = omega arith
 letters_whole p (y ∷ xs) zero lt le all = absurd (omega arith)
 letters_whole p (y ∷ xs) (suc i) lt le all =
@@ -39,19 +41,30 @@ letters_whole p (y ∷ xs) (suc i) lt le all =
 any_from : (letters : List ℕ) (c : ℕ) → IsIn c letters → list_any (λ a. a == c) letters ≡ true
 any_from [] c i = absurd i
 any_from (a ∷ letters) c (inl e) = grind (arith, nat_tests)
-any_from (a ∷ letters) c (inr i) = let k : list_any (λ a. a == c) letters ≡ true = any_from letters c i in grind (arith, nat_tests)
+any_from (a ∷ letters) c (inr i) = let k : list_any (λ a. a == c) letters ≡ true =
+    any_from letters c i in grind (arith, nat_tests)
 
 -- the item is an alphabetic character
-module _ (p : Parts) (sensitive : Bool) (read : Read) (character : Character) (e : read.item ≡ Plain character) where
-  at_item : is_alphabetic (lexicon_of p sensitive) read ≡ is_letter_symbol (lexicon_of p sensitive) (symbol_of (Plain character))
+module _ (p : Parts) (sensitive : Bool) (read : Read) (character : Character)
+    (e : read.item ≡ Plain character) where
+  at_item : is_alphabetic (lexicon_of p sensitive) read
+      ≡ is_letter_symbol (lexicon_of p sensitive) (symbol_of (Plain character))
   at_item = ap (λ (i : Item). is_letter_symbol (lexicon_of p sensitive) (symbol_of i)) e
 
-  pub plain_letter : (answer : Bool) → is_white character.letter ≡ false → IsTrue answer ↔ IsIn character.letter p.alphabet → answer ≡ is_alphabetic (lexicon_of p sensitive) read
+  pub plain_letter : (answer : Bool) → is_white character.letter ≡ false →
+      IsTrue answer ↔ IsIn character.letter p.alphabet →
+      answer ≡ is_alphabetic (lexicon_of p sensitive) read
   plain_letter answer w h =
       let c : ℕ = character.letter in
-      let s : is_letter_symbol (lexicon_of p sensitive) (symbol_of (Plain character)) ≡ has_letter p.alphabet c = rw w refl in
-      same_answer answer (has_letter p.alphabet c) (IsIn c p.alphabet) h (in_from_any c p.alphabet, any_from p.alphabet c) ∙ sym (at_item ∙ s)
+      let s : is_letter_symbol (lexicon_of p sensitive) (symbol_of (Plain character))
+      ≡ has_letter p.alphabet c = rw w refl in
+      same_answer answer (has_letter p.alphabet c) (IsIn c p.alphabet) h (
+        in_from_any c p.alphabet,
+        any_from p.alphabet c,
+      ) ∙ sym (at_item ∙ s)
 
-  pub plain_white : is_white character.letter ≡ true → false ≡ is_alphabetic (lexicon_of p sensitive) read
+  pub plain_white : is_white character.letter ≡ true →
+      false ≡ is_alphabetic (lexicon_of p sensitive) read
   plain_white w =
-      let s : is_letter_symbol (lexicon_of p sensitive) (symbol_of (Plain character)) ≡ false = rw w refl in sym (at_item ∙ s)
+      let s : is_letter_symbol (lexicon_of p sensitive) (symbol_of (Plain character)) ≡ false =
+      rw w refl in sym (at_item ∙ s)

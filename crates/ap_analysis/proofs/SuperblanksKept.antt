@@ -59,7 +59,8 @@ read_take zero reads h = tt
 read_take (suc n) [] h = tt
 read_take (suc n) (read ∷ reads) h = (h.0, read_take n reads h.1)
 
-supers_more : (read : Read) (reads : List Read) → supers_of (read ∷ reads) ≡ item_supers read.item ++ supers_of reads
+supers_more : (read : Read) (reads : List Read) → supers_of (read ∷ reads) ≡ item_supers read.item
+    ++ supers_of reads
 supers_more read reads = flat_map-cons (λ (r : Read). item_supers r.item) read reads
 
 supers_both : (a b : List Read) → supers_of (a ++ b) ≡ supers_of a ++ supers_of b
@@ -69,13 +70,18 @@ supers_both a b = flat_map-append (λ (r : Read). item_supers r.item) a b
 read_supers : (reads : List Read) → AreRead reads → AreSuperblanks (supers_of reads)
 read_supers [] h = tt
 read_supers (read ∷ reads) h =
-    subst AreSuperblanks (sym (supers_more read reads)) (supers_append (item_supers read.item) (supers_of reads) (supers_are Raw h.0.0 (item_supers read.item) (row_has Raw read.item h.0.0 h.0.1)) (read_supers reads h.1))
+    subst AreSuperblanks (sym (supers_more read reads))
+    (supers_append (item_supers read.item) (supers_of reads)
+    (supers_are Raw h.0.0 (item_supers read.item) (row_has Raw read.item h.0.0 h.0.1))
+    (read_supers reads h.1))
 
 -- their symbols are spelt, in a surface and in a reading
-one_spelt : (v : Bool) (thing : Item) (bytes : List ℕ) (symbols : List Symbol) → IsRow Raw thing bytes → AreSpelt v symbols → AreSpelt v (before (symbol_of thing) symbols)
+one_spelt : (v : Bool) (thing : Item) (bytes : List ℕ) (symbols : List Symbol) →
+    IsRow Raw thing bytes → AreSpelt v symbols → AreSpelt v (before (symbol_of thing) symbols)
 one_spelt v (item.Plain c) bytes symbols h k = by (is_white c.letter) refl
   where
-    by : (w : Bool) → is_white c.letter ≡ w → AreSpelt v (before (if w then None else Some (symbol.Letter c.letter)) symbols)
+    by : (w : Bool) → is_white c.letter ≡ w →
+        AreSpelt v (before (if w then None else Some (symbol.Letter c.letter)) symbols)
     by true e = tt
     by false e = ((h.0, e), k)
 one_spelt v (item.Blank all) bytes symbols h k = (tt, k)
@@ -84,78 +90,127 @@ one_spelt v (item.Chunk c) bytes symbols h k = tt
 
 front_spelt : (v : Bool) (reads : List Read) → AreRead reads → AreSpelt v (symbols reads)
 front_spelt v [] h = tt
-front_spelt v (read ∷ reads) h = one_spelt v read.item h.0.0 (symbols reads) h.0.1 (front_spelt v reads h.1)
+front_spelt v (read ∷ reads) h =
+    one_spelt v read.item h.0.0 (symbols reads) h.0.1 (front_spelt v reads h.1)
 
-surface_spelt : (v : Bool) (reads : List Read) (n : ℕ) → AreRead reads → AreSpelt v (surface reads n)
+surface_spelt : (v : Bool) (reads : List Read) (n : ℕ) → AreRead reads →
+    AreSpelt v (surface reads n)
 surface_spelt v reads n h = spelt_take v n (symbols reads) (front_spelt v reads h)
 
-surface_some : (reads : List Read) (n : ℕ) → 0 < n → n ≤ length (symbols reads) → 0 < length (surface reads n)
-surface_some reads n some fits = let l = length-take-le n (symbols reads) fits in omega (arith, l, some)
+surface_some : (reads : List Read) (n : ℕ) → 0 < n → n ≤ length (symbols reads) →
+    0 < length (surface reads n)
+surface_some reads n some fits = let l = length-take-le n (symbols reads) fits in
+    omega (arith, l, some)
 
 many : (words : List (List Symbol)) → has_words words ≡ true → AreAsMany true words
 many [] h = absurd (cc)
 many (word ∷ words) h = refl
 
 module _ (lexicon : Lexicon) (sensitive : Bool) (gives : GivesReadable lexicon) where
-  licensed_readable : (reads : List Read) (n : ℕ) (w : List Symbol) → IsIn w (licensed_words lexicon reads n) → IsReadable w
-  licensed_readable reads n = licensed_each lexicon reads n IsReadable (λ kind w i. gives kind (surface reads n) w i)
+  licensed_readable : (reads : List Read) (n : ℕ) (w : List Symbol) →
+      IsIn w (licensed_words lexicon reads n) → IsReadable w
+  licensed_readable reads n =
+      licensed_each lexicon reads n IsReadable (λ kind w i. gives kind (surface reads n) w i)
 
   readings_spelt : (reads : List Read) (n : ℕ) → EachSpelt (readings_at lexicon sensitive reads n)
-  readings_spelt reads n = each_spelt (readings_at lexicon sensitive reads n) (ordered_readable sensitive (surface reads n) (licensed_words lexicon reads n) (licensed_readable reads n))
+  readings_spelt reads n =
+      each_spelt (readings_at lexicon sensitive reads n)
+      (ordered_readable sensitive (surface reads n) (licensed_words lexicon reads n)
+      (licensed_readable reads n))
 
-  readings_many : (reads : List Read) (n : ℕ) → is_licensed lexicon reads n ≡ true → AreAsMany true (readings_at lexicon sensitive reads n)
+  readings_many : (reads : List Read) (n : ℕ) → is_licensed lexicon reads n ≡ true →
+      AreAsMany true (readings_at lexicon sensitive reads n)
   readings_many reads n h =
       let s = some_word (licensed_words lexicon reads n) h in
-      let words : List (List Symbol) = map (carried sensitive (surface reads n)) (licensed_words lexicon reads n) in
+      let words : List (List Symbol) =
+      map (carried sensitive (surface reads n)) (licensed_words lexicon reads n) in
       many (readings_at lexicon sensitive reads n)
-      (in_order_some (map (carried sensitive (surface reads n)) (licensed_words lexicon reads n)) (carried sensitive (surface reads n) s.0) (in_map (carried sensitive (surface reads n)) s.0 (licensed_words lexicon reads n) s.1))
+      (in_order_some (map (carried sensitive (surface reads n)) (licensed_words lexicon reads n))
+      (carried sensitive (surface reads n) s.0)
+      (in_map (carried sensitive (surface reads n)) s.0 (licensed_words lexicon reads n) s.1))
 
   -- a step keeps the superblanks of the items that it uses
   abbrev StepKeeps : List Read → Step → Type 0
   StepKeeps reads (Gives n text) = HasSuperblanks Analysed text (supers_of (take n reads))
   StepKeeps reads (Stops kind) = Unit {0}
 
-  space_none : (kind : Kind2) (reads : List Read) (n : ℕ) → HasSuperblanks Analysed (space_at lexicon kind reads n) []
+  space_none : (kind : Kind2) (reads : List Read) (n : ℕ) →
+      HasSuperblanks Analysed (space_at lexicon kind reads n) []
   space_none kind reads n = by (has_words (lexicon.readings kind (surface reads n)))
     where
       by : (v : Bool) → HasSuperblanks Analysed (if v then 32 ∷ [] else []) []
       by true = space_has_none Analysed [] (nothing refl refl)
       by false = nothing refl refl
 
-  known_keeps : (reads : List Read) (n : ℕ) → AreRead reads → 0 < n → n ≤ length (symbols reads) → is_licensed lexicon reads n ≡ true → HasSuperblanks Analysed (known_text lexicon sensitive reads n) (supers_of (take n reads))
+  known_keeps : (reads : List Read) (n : ℕ) → AreRead reads → 0 < n → n ≤ length (symbols reads) →
+      is_licensed lexicon reads n ≡ true →
+      HasSuperblanks Analysed (known_text lexicon sensitive reads n) (supers_of (take n reads))
   known_keeps reads n h some fits licensed =
-      let words : AreWords Analysed (surface reads n ∷ readings_at lexicon sensitive reads n) = (refl, surface_some reads n some fits, surface_spelt true reads n h, readings_spelt reads n, readings_many reads n licensed) in
-      let unit : HasSuperblanks Analysed (known_unit lexicon sensitive reads n) [] = unit_has_none Analysed (surface reads n ∷ readings_at lexicon sensitive reads n) words in
-      let rest : HasSuperblanks Analysed (swallowed reads n) (supers_of (take n reads)) = supers_alone Analysed (supers_of (take n reads)) (read_supers (take n reads) (read_take n reads h)) in
-      let behind_unit = joined Analysed (space_at lexicon Postblank reads n) (swallowed reads n) [] (supers_of (take n reads)) (space_none Postblank reads n) rest in
-      let from_unit = joined Analysed (known_unit lexicon sensitive reads n) (space_at lexicon Postblank reads n ++ swallowed reads n) [] (supers_of (take n reads)) unit behind_unit in
-      joined Analysed (space_at lexicon Preblank reads n) (known_unit lexicon sensitive reads n ++ (space_at lexicon Postblank reads n ++ swallowed reads n)) [] (supers_of (take n reads)) (space_none Preblank reads n) from_unit
+      let words : AreWords Analysed (surface reads n ∷ readings_at lexicon sensitive reads n) = (
+        refl,
+        surface_some reads n some fits,
+        surface_spelt true reads n h,
+        readings_spelt reads n,
+        readings_many reads n licensed,
+      ) in
+      let unit : HasSuperblanks Analysed (known_unit lexicon sensitive reads n) [] =
+      unit_has_none Analysed (surface reads n ∷ readings_at lexicon sensitive reads n) words in
+      let rest : HasSuperblanks Analysed (swallowed reads n) (supers_of (take n reads)) =
+      supers_alone Analysed (supers_of (take n reads))
+      (read_supers (take n reads) (read_take n reads h)) in
+      let behind_unit = joined Analysed (space_at lexicon Postblank reads n) (swallowed reads n) []
+      (supers_of (take n reads)) (space_none Postblank reads n) rest in
+      let from_unit = joined Analysed (known_unit lexicon sensitive reads n)
+      (space_at lexicon Postblank reads n ++ swallowed reads n) [] (supers_of (take n reads))
+      unit behind_unit in
+      joined Analysed (space_at lexicon Preblank reads n) (known_unit lexicon sensitive reads n
+      ++ (space_at lexicon Postblank reads n ++ swallowed reads n)) []
+      (supers_of (take n reads)) (space_none Preblank reads n) from_unit
 
   -- alphabetic items have no superblanks
-  letter_none : (thing : Item) → is_letter_symbol lexicon (symbol_of thing) ≡ true → item_supers thing ≡ []
+  letter_none : (thing : Item) → is_letter_symbol lexicon (symbol_of thing) ≡ true →
+      item_supers thing ≡ []
   letter_none (item.Plain c) h = refl
   letter_none (item.Blank all) h = absurd (cc)
   letter_none (item.Unit words) h = refl
   letter_none (item.Chunk c) h = absurd (cc)
 
-  run_none : (reads : List Read) → supers_of (take (prefix_len (is_alphabetic lexicon) reads) reads) ≡ []
+  run_none : (reads : List Read) →
+      supers_of (take (prefix_len (is_alphabetic lexicon) reads) reads) ≡ []
   run_none [] = refl
   run_none (read ∷ reads) = by (is_alphabetic lexicon read) refl (run_none reads)
     where
-      by : (v : Bool) → is_alphabetic lexicon read ≡ v → supers_of (take (prefix_len (is_alphabetic lexicon) reads) reads) ≡ [] → supers_of (take (cond v (1 + prefix_len (is_alphabetic lexicon) reads) 0) (read ∷ reads)) ≡ []
+      by : (v : Bool) → is_alphabetic lexicon read ≡ v →
+          supers_of (take (prefix_len (is_alphabetic lexicon) reads) reads) ≡ [] →
+          supers_of (take (cond v (1 + prefix_len (is_alphabetic lexicon) reads) 0)
+          (read ∷ reads)) ≡ []
       by true e more =
           let n : ℕ = prefix_len (is_alphabetic lexicon) reads in
-          let grown : 1 + prefix_len (is_alphabetic lexicon) reads ≡ suc (prefix_len (is_alphabetic lexicon) reads) = omega arith in
-          ap (λ q. supers_of (take q (read ∷ reads))) grown ∙ supers_more read (take (prefix_len (is_alphabetic lexicon) reads) reads)
-          ∙ ap (λ (q : List (List ℕ)). q ++ supers_of (take (prefix_len (is_alphabetic lexicon) reads) reads)) (letter_none read.item e) ∙ more
+          let grown : 1 + prefix_len (is_alphabetic lexicon) reads
+          ≡ suc (prefix_len (is_alphabetic lexicon) reads) = omega arith in
+          ap (λ q. supers_of (take q (read ∷ reads))) grown
+          ∙ supers_more read (take (prefix_len (is_alphabetic lexicon) reads) reads)
+          ∙ ap (λ (q : List (List ℕ)). q
+          ++ supers_of (take (prefix_len (is_alphabetic lexicon) reads) reads))
+          (letter_none read.item e) ∙ more
       by false e more = refl
 
-  unknown_keeps : (reads : List Read) → AreRead reads → 0 < run_length lexicon reads → HasSuperblanks Analysed (unknown_unit reads (run_length lexicon reads)) (supers_of (take (run_length lexicon reads) reads))
+  unknown_keeps : (reads : List Read) → AreRead reads → 0 < run_length lexicon reads →
+      HasSuperblanks Analysed (unknown_unit reads (run_length lexicon reads))
+      (supers_of (take (run_length lexicon reads) reads))
   unfolding run_length
   unknown_keeps reads h some =
       let n : ℕ = run_length lexicon reads in
-      let words : AreWords Analysed (surface reads n ∷ (symbol.Star ∷ surface reads n) ∷ []) = (refl, surface_some reads n some (run_front lexicon reads), surface_spelt true reads n h, ((refl, surface_spelt false reads n h), tt), refl) in
-      subst (λ (q : List (List ℕ)). HasSuperblanks Analysed (unknown_unit reads n) q) (sym (run_none reads)) (unit_has_none Analysed (surface reads n ∷ (symbol.Star ∷ surface reads n) ∷ []) words)
+      let words : AreWords Analysed (surface reads n ∷ (symbol.Star ∷ surface reads n) ∷ []) = (
+        refl,
+        surface_some reads n some (run_front lexicon reads),
+        surface_spelt true reads n h,
+        ((refl, surface_spelt false reads n h), tt),
+        refl,
+      ) in
+      subst (λ (q : List (List ℕ)). HasSuperblanks Analysed (unknown_unit reads n) q)
+      (sym (run_none reads)) (unit_has_none Analysed
+      (surface reads n ∷ (symbol.Star ∷ surface reads n) ∷ []) words)
 
   raw_none : MakesNone Raw Analysed unit_bytes
   raw_none [] h = absurd h
@@ -167,42 +222,66 @@ module _ (lexicon : Lexicon) (sensitive : Bool) (gives : GivesReadable lexicon) 
   as_spelled (item.Unit words) = refl
   as_spelled (item.Chunk c) = refl
 
-  copied_keeps : (read : Read) (reads : List Read) → AreRead (read ∷ reads) → StepKeeps (read ∷ reads) (copied (read ∷ reads))
+  copied_keeps : (read : Read) (reads : List Read) → AreRead (read ∷ reads) →
+      StepKeeps (read ∷ reads) (copied (read ∷ reads))
   copied_keeps read reads h =
-      let one : HasSuperblanks Analysed (spelled read.item) (item_supers read.item) = subst (λ (q : List ℕ). HasSuperblanks Analysed q (item_supers read.item)) (as_spelled read.item) (spelled_has Raw Analysed unit_bytes read.item h.0.0 raw_stays raw_none h.0.1) in
-      let text : flat_map (λ (r : Read). spelled r.item) (read ∷ []) ≡ spelled read.item ++ [] = flat_map-cons (λ (r : Read). spelled r.item) read [] in
+      let one : HasSuperblanks Analysed (spelled read.item) (item_supers read.item) =
+      subst (λ (q : List ℕ). HasSuperblanks Analysed q (item_supers read.item))
+      (as_spelled read.item) (spelled_has Raw Analysed unit_bytes read.item h.0.0 raw_stays
+      raw_none h.0.1) in
+      let text : flat_map (λ (r : Read). spelled r.item) (read ∷ []) ≡ spelled read.item ++ [] =
+      flat_map-cons (λ (r : Read). spelled r.item) read [] in
       subst (λ (q : List ℕ). HasSuperblanks Analysed q (supers_of (read ∷ []))) (sym text)
-      (subst (λ (q : List (List ℕ)). HasSuperblanks Analysed (spelled read.item ++ []) q) (sym (supers_more read [])) (joined Analysed (spelled read.item) [] (item_supers read.item) [] one (nothing refl refl)))
+      (subst (λ (q : List (List ℕ)). HasSuperblanks Analysed (spelled read.item ++ []) q)
+      (sym (supers_more read []))
+      (joined Analysed (spelled read.item) [] (item_supers read.item) [] one
+      (nothing refl refl)))
 
-  first_keeps : (read : Read) (reads : List Read) → AreRead (read ∷ reads) → StepKeeps (read ∷ reads) (first_step lexicon sensitive (read ∷ reads))
+  first_keeps : (read : Read) (reads : List Read) → AreRead (read ∷ reads) →
+      StepKeeps (read ∷ reads) (first_step lexicon sensitive (read ∷ reads))
   first_keeps read reads h =
       let whole : List Read = read ∷ reads in
       let k : ℕ = licence lexicon whole in
       first_each lexicon sensitive whole (StepKeeps whole) (λ kind. tt)
-      (λ short some fits. known_keeps whole k h some (licence_greatest lexicon whole).within (passes k some (licence_passes lexicon whole)))
+      (λ short some fits. known_keeps whole k h some (licence_greatest lexicon whole).within
+      (passes k some (licence_passes lexicon whole)))
       (λ some fits. unknown_keeps whole h some)
       (copied_keeps read reads h)
     where
-      passes : (k : ℕ) → 0 < k → (k ≡ 0) ⊎ (is_licensed lexicon (read ∷ reads) k ≡ true) → is_licensed lexicon (read ∷ reads) k ≡ true
+      passes : (k : ℕ) → 0 < k → (k ≡ 0) ⊎ (is_licensed lexicon (read ∷ reads) k ≡ true) →
+          is_licensed lexicon (read ∷ reads) k ≡ true
       passes k some (inl e) = absurd (omega (arith, some, e))
       passes k some (inr t) = t
 
-  drop_pred : (n : ℕ) (read : Read) (reads : List Read) → 0 < n → drop n (read ∷ reads) ≡ drop (pred n) reads
+  drop_pred : (n : ℕ) (read : Read) (reads : List Read) → 0 < n →
+      drop n (read ∷ reads) ≡ drop (pred n) reads
   drop_pred zero read reads some = absurd (omega (arith, some))
   drop_pred (suc n) read reads some = refl
 
   -- the steps from left to right
   abbrev GoesKept : ℕ → List Read → Type 0
-  GoesKept skip reads = (steps (first_step lexicon sensitive) skip reads).fault ≡ None → HasSuperblanks Analysed (steps (first_step lexicon sensitive) skip reads).text (supers_of (drop skip reads))
+  GoesKept skip reads = (steps (first_step lexicon sensitive) skip reads).fault ≡ None →
+      HasSuperblanks Analysed (steps (first_step lexicon sensitive) skip reads).text
+      (supers_of (drop skip reads))
 
-  step_keeps : (read : Read) (reads : List Read) (step : Step) → Uses (read ∷ reads) step → StepKeeps (read ∷ reads) step → ((n : ℕ) → GoesKept n reads)
-      → (goes_on read.place step (λ n. steps (first_step lexicon sensitive) n reads)).fault ≡ None → HasSuperblanks Analysed (goes_on read.place step (λ n. steps (first_step lexicon sensitive) n reads)).text (supers_of (read ∷ reads))
+  step_keeps : (read : Read) (reads : List Read) (step : Step) → Uses (read ∷ reads) step →
+      StepKeeps (read ∷ reads) step → ((n : ℕ) → GoesKept n reads)
+      → (goes_on read.place step (λ n. steps (first_step lexicon sensitive) n reads)).fault ≡ None →
+      HasSuperblanks Analysed (goes_on read.place step
+      (λ n. steps (first_step lexicon sensitive) n reads)).text (supers_of (read ∷ reads))
   step_keeps read reads (Gives n text) u k go e =
-      let on : HasSuperblanks Analysed (steps (first_step lexicon sensitive) (pred n) reads).text (supers_of (drop (pred n) reads)) = go (pred n) e in
-      let cut : take n (read ∷ reads) ++ drop (pred n) reads ≡ read ∷ reads = ap (λ (q : List Read). take n (read ∷ reads) ++ q) (sym (drop_pred n read reads u.0)) ∙ take-append-drop n (read ∷ reads) in
-      let all : supers_of (take n (read ∷ reads)) ++ supers_of (drop (pred n) reads) ≡ supers_of (read ∷ reads) = sym (supers_both (take n (read ∷ reads)) (drop (pred n) reads)) ∙ ap supers_of cut in
-      subst (λ (q : List (List ℕ)). HasSuperblanks Analysed (text ++ (steps (first_step lexicon sensitive) (pred n) reads).text) q) all
-      (joined Analysed text (steps (first_step lexicon sensitive) (pred n) reads).text (supers_of (take n (read ∷ reads))) (supers_of (drop (pred n) reads)) k on)
+      let on : HasSuperblanks Analysed (steps (first_step lexicon sensitive) (pred n) reads).text
+      (supers_of (drop (pred n) reads)) = go (pred n) e in
+      let cut : take n (read ∷ reads) ++ drop (pred n) reads ≡ read ∷ reads =
+      ap (λ (q : List Read). take n (read ∷ reads) ++ q) (sym (drop_pred n read reads u.0))
+      ∙ take-append-drop n (read ∷ reads) in
+      let all : supers_of (take n (read ∷ reads)) ++ supers_of (drop (pred n) reads)
+      ≡ supers_of (read ∷ reads) =
+      sym (supers_both (take n (read ∷ reads)) (drop (pred n) reads)) ∙ ap supers_of cut in
+      subst (λ (q : List (List ℕ)). HasSuperblanks Analysed
+      (text ++ (steps (first_step lexicon sensitive) (pred n) reads).text) q) all
+      (joined Analysed text (steps (first_step lexicon sensitive) (pred n) reads).text
+      (supers_of (take n (read ∷ reads))) (supers_of (drop (pred n) reads)) k on)
   step_keeps read reads (Stops kind) u k go e = absurd (cc)
 
   steps_keep : (skip : ℕ) (reads : List Read) → AreRead reads → GoesKept skip reads
@@ -210,15 +289,22 @@ module _ (lexicon : Lexicon) (sensitive : Bool) (gives : GivesReadable lexicon) 
   steps_keep zero [] h e = nothing refl refl
   steps_keep (suc skip) [] h e = nothing refl refl
   steps_keep (suc skip) (read ∷ reads) h e = steps_keep skip reads h.1 e
-  steps_keep zero (read ∷ reads) h e = step_keeps read reads (first_step lexicon sensitive (read ∷ reads)) (first_uses lexicon sensitive read reads) (first_keeps read reads h) (λ n f. steps_keep n reads h.1 f) e
+  steps_keep zero (read ∷ reads) h e =
+      step_keeps read reads (first_step lexicon sensitive (read ∷ reads))
+      (first_uses lexicon sensitive read reads) (first_keeps read reads h)
+      (λ n f. steps_keep n reads h.1 f) e
 
-pub analysis_keeps : (lexicon : Lexicon) (sensitive : Bool) (text : List ℕ) → GivesReadable lexicon → (analysis lexicon sensitive text Clean).fault ≡ None → HaveSameSuperblanks Raw Analysed text (analysis lexicon sensitive text Clean).text
+pub analysis_keeps : (lexicon : Lexicon) (sensitive : Bool) (text : List ℕ) →
+    GivesReadable lexicon → (analysis lexicon sensitive text Clean).fault ≡ None →
+    HaveSameSuperblanks Raw Analysed text (analysis lexicon sensitive text Clean).text
 analysis_keeps lexicon sensitive text gives e =
     let items : List Read = (reads Raw 0 text).items in
-    let n = neither (analysed lexicon sensitive (reads Raw 0 text).items).fault (reads Raw 0 text).stop e in
+    let n = neither (analysed lexicon sensitive (reads Raw 0 text).items).fault
+    (reads Raw 0 text).stop e in
     let rows = reads_rows Raw 0 text n.1 in
     record {
       superblanks = supers_of (reads Raw 0 text).items;
       before = rows_have Raw text (reads Raw 0 text).items rows;
-      after = steps_keep lexicon sensitive gives 0 (reads Raw 0 text).items (rows_read text (reads Raw 0 text).items rows) n.0;
+      after = steps_keep lexicon sensitive gives 0 (reads Raw 0 text).items
+          (rows_read text (reads Raw 0 text).items rows) n.0;
     }

@@ -23,7 +23,11 @@ fn push_standard(
     case: Case,
     into: &mut Vec<Word>,
 ) -> Result<(), Memory>
-    ensures { OnOk result ((sensitive : Bool) → AreLive compiled.now sensitive (surface reads.now count) lives.now → into.new.items ≡ into.old.items ++ map (carry_lem case) (standard_words (lexicon_of compiled.now sensitive) reads.now count)) }
+    ensures { OnOk result ((sensitive : Bool) →
+        AreLive compiled.now sensitive (surface reads.now count) lives.now →
+        into.new.items ≡ into.old.items
+        ++ map (carry_lem case) (standard_words (lexicon_of compiled.now sensitive)
+        reads.now count)) }
 {
     if begins_alphabetic(compiled, reads, count) {
         Ok(())
@@ -44,7 +48,8 @@ pub(crate) fn readings(
 ) -> Result<Vec<Word>, Memory>
     requires lives { AreLive compiled.now sensitive (surface reads.now count) lives.now }
     requires seen { seen.now ≡ surface reads.now count }
-    ensures { IfOk result (λ words. words.items ≡ readings_at (lexicon_of compiled.now sensitive) sensitive reads.now count) }
+    ensures { IfOk result (λ words. words.items
+        ≡ readings_at (lexicon_of compiled.now sensitive) sensitive reads.now count) }
 {
     let case = case_carried(sensitive, seen.symbols());
     let mut words = Vec::new(alloc);

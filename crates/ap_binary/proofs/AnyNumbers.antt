@@ -22,13 +22,15 @@ digits_front (b ∷ bs) = elim (cases_Bool (is_digit b)) [
       let q : prefix_len is_digit (b ∷ bs) ≡ suc (prefix_len is_digit bs) = rw e (omega arith) in
       let k : list_all is_digit (take (prefix_len is_digit bs) bs) ≡ true = digits_front bs in
       ap (λ i. list_all is_digit (take i (b ∷ bs))) q ∙ rw (e, k) refl
-  | inr e ↦ let q : prefix_len is_digit (b ∷ bs) ≡ zero = rw e refl in ap (λ i. list_all is_digit (take i (b ∷ bs))) q
+  | inr e ↦ let q : prefix_len is_digit (b ∷ bs) ≡ zero = rw e refl in
+      ap (λ i. list_all is_digit (take i (b ∷ bs))) q
 ]
 
 digits_whole : (ds : List ℕ) → list_all is_digit ds ≡ true → prefix_len is_digit ds ≡ length ds
 digits_whole [] h = refl
 digits_whole (d ∷ ds) h =
-    let s : (is_digit d ≡ true) × (list_all is_digit ds ≡ true) = and_parts (is_digit d) (list_all is_digit ds) h in
+    let s : (is_digit d ≡ true) × (list_all is_digit ds ≡ true) =
+    and_parts (is_digit d) (list_all is_digit ds) h in
     let k : prefix_len is_digit ds ≡ length ds = digits_whole ds s.1 in
     rw s.0 (omega arith)
 
@@ -53,47 +55,79 @@ number_found bytes =
     let k : ℕ = prefix_len is_digit bytes in
     let ds : List ℕ = take k bytes in
     chosen_if (is_numeral ds) (limited (value_after 0 ds), drop k bytes) (IsDigitsRead bytes)
-    (λ form. record { digits = ds; n = value_after 0 ds; numeral = record { each = digits_front bytes; form = form; value = refl }; is = sym (take-append-drop k bytes); read = refl })
+    (λ form. record {
+      digits = ds;
+      n = value_after 0 ds;
+      numeral =
+          record { each = digits_front bytes; form = form; value = refl };
+      is =
+          sym (take-append-drop k bytes);
+      read = refl;
+    })
 
 then_found : (b : ℕ) (bytes : List ℕ) → IfSome (number_then b bytes) (IsNumberRead b bytes)
 unfolding number_then
 then_found b bytes =
     let N : Type 0 = Option ℕ × List ℕ in
-    bind_some {A = N} {B = N} (number_at bytes) (λ n. ◌>>=◌ {A = List ℕ} {B = N} (byte_at b n.1) (λ rest. Some (n.0, rest))) (IsNumberRead b bytes)
-    (λ n is. bind_some {A = List ℕ} {B = N} (byte_at b n.1) (λ rest. Some (n.0, rest)) (IsNumberRead b bytes)
+    bind_some {A = N} {B = N} (number_at bytes)
+    (λ n. ◌>>=◌ {A = List ℕ} {B = N} (byte_at b n.1) (λ rest. Some (n.0, rest)))
+    (IsNumberRead b bytes)
+    (λ n is. bind_some {A = List ℕ} {B = N} (byte_at b n.1) (λ rest. Some (n.0, rest))
+    (IsNumberRead b bytes)
     (λ rest is2.
-    let r : IsDigitsRead bytes n = some_holds (number_at bytes) n (IsDigitsRead bytes) (number_found bytes) is in
-    record { digits = r.digits; n = r.n; numeral = r.numeral; is = r.is ∙ ap (λ z. r.digits ++ z) (byte_is b n.1 rest is2); read = r.read }))
+    let r : IsDigitsRead bytes n =
+    some_holds (number_at bytes) n (IsDigitsRead bytes) (number_found bytes) is in
+    record {
+      digits = r.digits;
+      n = r.n;
+      numeral = r.numeral;
+      is =
+          r.is ∙ ap (λ z. r.digits ++ z) (byte_is b n.1 rest is2);
+      read = r.read;
+    }))
 
-pub number_read : (b : ℕ) (bytes : List ℕ) (v : Option ℕ × List ℕ) → number_then b bytes ≡ Some v → IsNumberRead b bytes v
-number_read b bytes v is = some_holds (number_then b bytes) v (IsNumberRead b bytes) (then_found b bytes) is
+pub number_read : (b : ℕ) (bytes : List ℕ) (v : Option ℕ × List ℕ) → number_then b bytes ≡ Some v →
+    IsNumberRead b bytes v
+number_read b bytes v is =
+    some_holds (number_then b bytes) v (IsNumberRead b bytes) (then_found b bytes) is
 
-number_back : (ds : List ℕ) (n b : ℕ) (rest : List ℕ) → IsNumeral ds n → is_digit b ≡ false → number_at (ds ++ b ∷ rest) ≡ Some (limited n, b ∷ rest)
+number_back : (ds : List ℕ) (n b : ℕ) (rest : List ℕ) → IsNumeral ds n → is_digit b ≡ false →
+    number_at (ds ++ b ∷ rest) ≡ Some (limited n, b ∷ rest)
 unfolding number_at
 number_back ds n b rest numeral other =
-    let k : prefix_len is_digit (ds ++ b ∷ rest) ≡ length ds = prefix_all is_digit ds b rest (digits_whole ds numeral.each) other in
-    let t : take (prefix_len is_digit (ds ++ b ∷ rest)) (ds ++ b ∷ rest) ≡ ds = ap (λ (i : ℕ). take i (ds ++ b ∷ rest)) k ∙ take-append_seam ds (b ∷ rest) in
-    let d : drop (prefix_len is_digit (ds ++ b ∷ rest)) (ds ++ b ∷ rest) ≡ b ∷ rest = ap (λ (i : ℕ). drop i (ds ++ b ∷ rest)) k ∙ drop-append_seam ds (b ∷ rest) in
+    let k : prefix_len is_digit (ds ++ b ∷ rest) ≡ length ds =
+    prefix_all is_digit ds b rest (digits_whole ds numeral.each) other in
+    let t : take (prefix_len is_digit (ds ++ b ∷ rest)) (ds ++ b ∷ rest) ≡ ds =
+    ap (λ (i : ℕ). take i (ds ++ b ∷ rest)) k ∙ take-append_seam ds (b ∷ rest) in
+    let d : drop (prefix_len is_digit (ds ++ b ∷ rest)) (ds ++ b ∷ rest) ≡ b ∷ rest =
+    ap (λ (i : ℕ). drop i (ds ++ b ∷ rest)) k ∙ drop-append_seam ds (b ∷ rest) in
     let form : is_numeral ds ≡ true = numeral.form in
     rw (t, d, form, sym numeral.value) refl
 
-pub number_again : (ds : List ℕ) (n b : ℕ) (rest : List ℕ) → IsNumeral ds n → is_digit b ≡ false → number_then b (ds ++ b ∷ rest) ≡ Some (limited n, rest)
+pub number_again : (ds : List ℕ) (n b : ℕ) (rest : List ℕ) → IsNumeral ds n → is_digit b ≡ false →
+    number_then b (ds ++ b ∷ rest) ≡ Some (limited n, rest)
 unfolding number_then
-number_again ds n b rest numeral other = rw (number_back ds n b rest numeral other, byte_back b rest) refl
+number_again ds n b rest numeral other =
+    rw (number_back ds n b rest numeral other, byte_back b rest) refl
 
 -- ---- as numbers of states
 
 abbrev pub clamped : ℕ → ℕ
 clamped n = state_of (limited n)
 
-pub clamped_cases : (n : ℕ) → ((n < 2 ^ 64) × (clamped n ≡ n)) ⊎ ((2 ^ 64 ≤ n) × (clamped n ≡ 2 ^ 64 - 1))
-clamped_cases n = elim (cases_lt n (2 ^ 64)) [ inl lt ↦ inl (lt, ap state_of (limited_some n lt)) | inr le ↦ inr (le, ap state_of (limited_none n le)) ]
+pub clamped_cases : (n : ℕ) → ((n < 2 ^ 64) × (clamped n ≡ n))
+    ⊎ ((2 ^ 64 ≤ n) × (clamped n ≡ 2 ^ 64 - 1))
+clamped_cases n = elim (cases_lt n (2 ^ 64)) [
+  | inl lt ↦ inl (lt, ap state_of (limited_some n lt))
+  | inr le ↦ inr (le, ap state_of (limited_none n le))
+]
 
 pub clamped_below : (n states : ℕ) → states < 2 ^ 64 → nat_lt (clamped n) states ≡ nat_lt n states
 clamped_below n states small = elim (clamped_cases n) [
   | inl h ↦ ap (λ k. nat_lt k states) h.1
   | inr h ↦
-      let a : nat_lt n states ≡ false = let le : 2 ^ 64 ≤ n = h.0 in grind (arith, nat_tests, le, small) in
+      let a : nat_lt n states ≡ false = let le : 2 ^ 64 ≤ n = h.0 in
+      grind (arith, nat_tests, le, small) in
       let b : nat_lt (2 ^ 64 - 1) states ≡ false = grind (arith, nat_tests, small) in
       ap (λ k. nat_lt k states) h.1 ∙ b ∙ sym a
 ]
@@ -102,5 +136,6 @@ clamped_below n states small = elim (clamped_cases n) [
 pub clamped_order : (m n : ℕ) → m < 2 ^ 64 - 1 → nat_cmp m (clamped n) ≡ nat_cmp m n
 clamped_order m n small = elim (clamped_cases n) [
   | inl h ↦ ap (nat_cmp m) h.1
-  | inr h ↦ let le : 2 ^ 64 ≤ n = h.0 in ap (nat_cmp m) h.1 ∙ cmp_less m (2 ^ 64 - 1) small ∙ sym (cmp_less m n (omega arith))
+  | inr h ↦ let le : 2 ^ 64 ≤ n = h.0 in ap (nat_cmp m) h.1 ∙ cmp_less m (2 ^ 64 - 1) small
+      ∙ sym (cmp_less m n (omega arith))
 ]

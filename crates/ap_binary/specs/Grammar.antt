@@ -9,7 +9,8 @@ use Rattle.ap_fst.specs.declared.label.Edge.{Edge}
 use Rattle.ap_binary.specs.Held.{IsHeld}
 use Rattle.ap_binary.specs.Text.{compiled_text}
 
--- A section as a file may have it: a transducer, with states that lead nowhere too, whose labels are plain.
+-- A section as a file may have it: a transducer, with states that lead nowhere too, whose labels
+-- are plain.
 pub record IsRaw (m : Machine) : Type 0 where
   pub sound : IsMachine m
   pub plain : (e : Edge) → IsIn e m.edges → IsTrue (is_plain_label e.label)
@@ -22,13 +23,15 @@ pub record AreRawParts (p : Parts) : Type 0 where
   pub postblank : IsRaw p.postblank
   pub preblank : IsRaw p.preblank
 
--- Of a section without a cycle of edges with an empty left side and without an empty left word, trimming leaves this.
+-- Of a section without a cycle of edges with an empty left side and without an empty left word,
+-- trimming leaves this.
 pub record IsLeftOf (raw m : Machine) : Type 0 where
   pub cycles : HasNoEmptyCycle raw
   pub sides : HasEmptySide raw → ⊥
   pub trimmed : IsTrimOf raw m
 
--- The text is that of a direction or none, an alphabet and four sections, of which trimming leaves this compiled dictionary.
+-- The text is that of a direction or none, an alphabet and four sections, of which trimming leaves
+-- this compiled dictionary.
 pub record IsTextOf (text : List ℕ) (c : Parts) : Type 0 where
   pub raw : Parts
   pub text_is : text ≡ compiled_text raw

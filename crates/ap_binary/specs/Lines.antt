@@ -1,5 +1,5 @@
--- What the lines of a compiled file say, or the first fault among them. Faults of the lines come in the order of the
--- lines, and on one line BadLine comes before OutOfRange.
+-- What the lines of a compiled file say, or the first fault among them. Faults of the lines come in
+-- the order of the lines, and on one line BadLine comes before OutOfRange.
 use Rattle.std.specs.Prelude.{◌≡◌, ℕ, zero, suc, ◌+◌, Bool, true, false, not, ◌&&◌, nat_lt, nat_le, ◌==◌, List, [], ◌∷◌, ◌++◌, length, Option, Some, None, Result, Ok, Err, if◌then◌else◌, codes}
 use Rattle.std.specs.Ordering.{is_lt}
 use Rattle.ap_fst.specs.Order.{edge_cmp}
@@ -20,7 +20,8 @@ use Rattle.ap_binary.specs.declared.sections.Sections.{Sections}
 use Rattle.ap_binary.specs.declared.sections.Written.{Written}
 
 infixl 10 ◌>>=◌
-abbrev pub ◌>>=◌ : {A B : Type 0} → Result A BinaryFault → (A → Result B BinaryFault) → Result B BinaryFault
+abbrev pub ◌>>=◌ : {A B : Type 0} → Result A BinaryFault → (A → Result B BinaryFault) →
+    Result B BinaryFault
 (Ok x) >>= f = f x
 (Err e) >>= f = Err e
 
@@ -61,13 +62,16 @@ judged_edge states before line read =
 unfoldable pub edge_line : ℕ → Option Edge → ℕ → List ℕ → Result (Edge × List ℕ) BinaryFault
 edge_line states before line bytes = on_line line (edge_at bytes) >>= judged_edge states before line
 
-abbrev pub with_edges : List Edge → Result (List Edge × List ℕ) BinaryFault → Result (List Edge × List ℕ) BinaryFault
+abbrev pub with_edges : List Edge → Result (List Edge × List ℕ) BinaryFault →
+    Result (List Edge × List ℕ) BinaryFault
 with_edges front read = read >>= λ x. Ok (front ++ x.0, x.1)
 
 -- so many lines of edges from this line on
 unfoldable pub edges_in : ℕ → ℕ → Option Edge → ℕ → List ℕ → Result (List Edge × List ℕ) BinaryFault
 edges_in zero states before line bytes = Ok ([], bytes)
-edges_in (suc n) states before line bytes = edge_line states before line bytes >>= λ e. with_edges (e.0 ∷ []) (edges_in n states (Some e.0) (line + 1) e.1)
+edges_in (suc n) states before line bytes =
+    edge_line states before line bytes >>= λ e. with_edges (e.0 ∷ [])
+    (edges_in n states (Some e.0) (line + 1) e.1)
 
 -- ---- final states
 
@@ -79,15 +83,19 @@ judged_final states least line read =
 
 -- this line is that of a final state, one that there is, and no less than this
 unfoldable pub final_line : ℕ → ℕ → ℕ → List ℕ → Result (ℕ × List ℕ) BinaryFault
-final_line states least line bytes = on_line line (final_at bytes) >>= judged_final states least line
+final_line states least line bytes =
+    on_line line (final_at bytes) >>= judged_final states least line
 
-abbrev pub with_finals : List ℕ → Result (List ℕ × List ℕ) BinaryFault → Result (List ℕ × List ℕ) BinaryFault
+abbrev pub with_finals : List ℕ → Result (List ℕ × List ℕ) BinaryFault →
+    Result (List ℕ × List ℕ) BinaryFault
 with_finals front read = read >>= λ x. Ok (front ++ x.0, x.1)
 
 -- so many lines of final states from this line on, ascending
 unfoldable pub finals_in : ℕ → ℕ → ℕ → ℕ → List ℕ → Result (List ℕ × List ℕ) BinaryFault
 finals_in zero states least line bytes = Ok ([], bytes)
-finals_in (suc n) states least line bytes = final_line states least line bytes >>= λ s. with_finals (s.0 ∷ []) (finals_in n states (s.0 + 1) (line + 1) s.1)
+finals_in (suc n) states least line bytes =
+    final_line states least line bytes >>= λ s. with_finals (s.0 ∷ [])
+    (finals_in n states (s.0 + 1) (line + 1) s.1)
 
 -- ---- sections
 
@@ -110,7 +118,14 @@ section_in kind line bytes = do
   head ← head_line kind line bytes
   edges ← edges_in head.0.edges head.0.states None (line + 1) head.1
   finals ← finals_in head.0.finals head.0.states 0 (line + 1 + head.0.edges) edges.1
-  Ok (record { fst = record { states = head.0.states; edges = edges.0; finals = finals.0 }; line = line }, finals.1)
+  Ok (
+    record {
+      fst = record { states = head.0.states; edges = edges.0; finals = finals.0 };
+      line =
+          line;
+    },
+    finals.1,
+  )
 
 -- the line behind a section
 abbrev pub line_after : Written → ℕ
@@ -123,7 +138,16 @@ sections_in line bytes = do
   inconditional ← section_in Inconditional (line_after standard.0) standard.1
   postblank ← section_in Postblank (line_after inconditional.0) inconditional.1
   preblank ← section_in Preblank (line_after postblank.0) postblank.1
-  Ok (record { standard = standard.0; inconditional = inconditional.0; postblank = postblank.0; preblank = preblank.0 }, preblank.1)
+  Ok (
+    record {
+      standard = standard.0;
+      inconditional = inconditional.0;
+      postblank =
+          postblank.0;
+      preblank = preblank.0;
+    },
+    preblank.1,
+  )
 
 -- ---- the file
 

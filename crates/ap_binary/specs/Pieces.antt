@@ -1,4 +1,5 @@
--- What stands on the lines of a compiled file, each read from the front: its value, and the bytes behind it.
+-- What stands on the lines of a compiled file, each read from the front: its value, and the bytes
+-- behind it.
 use Rattle.std.specs.Prelude.{ℕ, zero, suc, ◌+◌, ◌-◌, ◌*◌, ◌^◌, Bool, true, false, not, ◌&&◌, ◌||◌, nat_lt, nat_le, ◌==◌, List, [], ◌∷◌, ◌++◌, length, take, drop, slice_index, Option, Some, None, if◌then◌else◌, codes}
 use Rattle.std.specs.List.{prefix_len}
 use Rattle.std.specs.Str.{bytes_eq}
@@ -25,17 +26,20 @@ byte_at b (c ∷ rest) = if c == b then Some rest else None
 
 -- these bytes
 unfoldable pub word_at : List ℕ → List ℕ → Option (List ℕ)
-word_at word bytes = if bytes_eq (take (length word) bytes) word then Some (drop (length word) bytes) else None
+word_at word bytes = if bytes_eq (take (length word) bytes) word
+    then Some (drop (length word) bytes) else None
 
 -- the first of two words that stands there, by what it says
-abbrev pub either_at : {A : Type 0} → A → A → Option (List ℕ) → Option (List ℕ) → Option (A × List ℕ)
+abbrev pub either_at : {A : Type 0} → A → A → Option (List ℕ) → Option (List ℕ) →
+    Option (A × List ℕ)
 either_at a b (Some rest) second = Some (a, rest)
 either_at a b None (Some rest) = Some (b, rest)
 either_at a b None None = None
 
 -- the first line: whether it is `LTC2`, behind which the direction is told, or `LTC1`
 unfoldable pub version_at : List ℕ → Option (Bool × List ℕ)
-version_at text = either_at false true (word_at (codes "LTC1\n") text) (word_at (codes "LTC2\n") text)
+version_at text = either_at false true (word_at (codes "LTC1\n") text)
+    (word_at (codes "LTC2\n") text)
 
 -- the line of the direction
 unfoldable pub way_at : List ℕ → Option (Way × List ℕ)
@@ -51,7 +55,8 @@ value_after n (d ∷ ds) = value_after (n * 10 + (d - 48)) ds
 
 -- a digit at least, and no zero before others
 abbrev pub is_numeral : List ℕ → Bool
-is_numeral digits = nat_lt 0 (length digits) && (not (slice_index digits 0 == 48) || (length digits == 1))
+is_numeral digits = nat_lt 0 (length digits)
+    && (not (slice_index digits 0 == 48) || (length digits == 1))
 
 -- a number as far as 64 bits hold it
 abbrev pub limited : ℕ → Option ℕ
@@ -60,11 +65,15 @@ limited n = if nat_lt n (2 ^ 64) then Some n else None
 -- A number; none in its place where it is over 2 ^ 64 - 1.
 unfoldable pub number_at : List ℕ → Option (Option ℕ × List ℕ)
 number_at bytes =
-    if is_numeral (take (prefix_len is_digit bytes) bytes) then Some (limited (value_after 0 (take (prefix_len is_digit bytes) bytes)), drop (prefix_len is_digit bytes) bytes)
+    if is_numeral (take (prefix_len is_digit bytes) bytes)
+    then Some (
+      limited (value_after 0 (take (prefix_len is_digit bytes) bytes)),
+      drop (prefix_len is_digit bytes) bytes,
+    )
     else None
 
--- The number of a state. One over 2 ^ 64 - 1 is as good as that limit: neither is below a number of states, and both
--- are above each state.
+-- The number of a state. One over 2 ^ 64 - 1 is as good as that limit: neither is below a number of
+-- states, and both are above each state.
 abbrev pub state_of : Option ℕ → ℕ
 state_of None = 2 ^ 64 - 1
 state_of (Some n) = n
@@ -124,7 +133,8 @@ side_at (b ∷ rest) =
     else None
 
 abbrev pub label_of : Option Symbol → Option Symbol → Option Label
-label_of left right = let label : Label = record { left = left; right = right } in if has_side label then Some label else None
+label_of left right = let label : Label = record { left = left; right = right } in if has_side label
+    then Some label else None
 
 -- two sides with a space between them, not both empty
 unfoldable pub label_at : List ℕ → Option (Label × List ℕ)
@@ -191,10 +201,12 @@ with_letters front read = read >>= λ x. Some (front ++ x.0, x.1)
 unfoldable pub letters_in : ℕ → ℕ → List ℕ → Option (List ℕ × List ℕ)
 letters_in zero least bytes = Some ([], bytes)
 letters_in (suc n) least bytes =
-    if begins_with 32 bytes then (next_letter_at least bytes >>= λ c. with_letters (c.0 ∷ []) (letters_in n (c.0 + 1) c.1))
+    if begins_with 32 bytes then
+    (next_letter_at least bytes >>= λ c. with_letters (c.0 ∷ []) (letters_in n (c.0 + 1) c.1))
     else Some ([], bytes)
 
--- The line of the alphabet: ascending letters, closed under case partners. Each takes a byte, so that there are no more than bytes.
+-- The line of the alphabet: ascending letters, closed under case partners. Each takes a byte, so
+-- that there are no more than bytes.
 unfoldable pub alphabet_at : List ℕ → Option (List ℕ × List ℕ)
 alphabet_at bytes = do
   word ← word_at (codes "alphabet") bytes

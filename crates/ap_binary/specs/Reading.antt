@@ -8,7 +8,8 @@ abbrev pub ◌>>=◌ : {A B : Type 0} → Option A → (A → Option B) → Opti
 (Some x) >>= f = f x
 None >>= f = None
 
--- what a reader of the program answers: the value; none where there is none; or want of memory, which says nothing
+-- what a reader of the program answers: the value; none where there is none; or want of memory,
+-- which says nothing
 abbrev pub Fails : {Y : Type 0} → CutError → Option Y → Type 0
 Fails Memory read = Unit {0}
 Fails Bad read = read ≡ None

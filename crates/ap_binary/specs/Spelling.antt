@@ -19,17 +19,19 @@ pub record AreWithin (s : Sections) : Type 0 where
   pub postblank : line_after s.postblank < 2 ^ 64
   pub preblank : line_after s.preblank < 2 ^ 64
 
--- The section, as the file has it, has no cycle of edges with an empty left side, and accepts no label string with an
--- empty left word.
+-- The section, as the file has it, has no cycle of edges with an empty left side, and accepts no
+-- label string with an empty left word.
 pub record IsFine (w : Written) : Type 0 where
   pub cycles : HasNoEmptyCycle w.fst
   pub sides : HasEmptySide w.fst → ⊥
 
--- A section's fault: EmptyCycle on the line of its first edge on such a cycle (the edge of place k stands k lines below
--- the first); and where there is no such cycle, EmptySide on its own line.
+-- A section's fault: EmptyCycle on the line of its first edge on such a cycle (the edge of place k
+-- stands k lines below the first); and where there is no such cycle, EmptySide on its own line.
 pub data IsFaultOf (w : Written) : BinaryFault → Type 0 where
-  cycle : {f : BinaryFault} (j : ℕ) → IsFirstOnEmptyCycle w.fst.edges j → f ≡ fault EmptyCycle (w.line + 1 + j) → IsFaultOf w f
-  side : {f : BinaryFault} → HasNoEmptyCycle w.fst → HasEmptySide w.fst → f ≡ fault EmptySide w.line → IsFaultOf w f
+  cycle : {f : BinaryFault} (j : ℕ) → IsFirstOnEmptyCycle w.fst.edges j →
+      f ≡ fault EmptyCycle (w.line + 1 + j) → IsFaultOf w f
+  side : {f : BinaryFault} → HasNoEmptyCycle w.fst → HasEmptySide w.fst → f ≡ fault EmptySide w.line
+      → IsFaultOf w f
 
 -- the fault of the first section that isn't fine
 abbrev pub IsFirstIn : List Written → BinaryFault → Type 0
@@ -50,17 +52,25 @@ pub record AreSpelled (s : Sections) (t : Trimmed) : Type 0 where
   pub postblank : IsSpelled s.postblank t.postblank
   pub preblank : IsSpelled s.preblank t.preblank
 
--- The text spells this compiled dictionary: its lines say a direction or none, an alphabet and sections, each section is fine, and each is
--- held trimmed.
+-- The text spells this compiled dictionary: its lines say a direction or none, an alphabet and
+-- sections, each section is fine, and each is held trimmed.
 pub record Spells (text : List ℕ) (c : Parts) : Type 0 where
   pub file : File
   pub lines : file_in text ≡ Ok file
   pub way : c.way ≡ file.way
   pub alphabet : c.alphabet ≡ file.alphabet
-  pub sections : AreSpelled file.sections (record { standard = c.standard; inconditional = c.inconditional; postblank = c.postblank; preblank = c.preblank })
+  pub sections : AreSpelled file.sections
+      (record {
+        standard = c.standard;
+        inconditional = c.inconditional;
+        postblank =
+            c.postblank;
+        preblank = c.preblank;
+      })
 
--- This is the first fault of the text: the first of its lines, or, where these have none, that of its first section
--- that isn't fine.
+-- This is the first fault of the text: the first of its lines, or, where these have none, that of
+-- its first section that isn't fine.
 pub data IsFirstFault (text : List ℕ) (f : BinaryFault) : Type 0 where
   in_lines : file_in text ≡ Err f → IsFirstFault text f
-  in_sections : (file : File) → file_in text ≡ Ok file → IsFirstIn (in_order file.sections) f → IsFirstFault text f
+  in_sections : (file : File) → file_in text ≡ Ok file → IsFirstIn (in_order file.sections) f →
+      IsFirstFault text f

@@ -16,12 +16,14 @@ pub fn spells_one()
 
 /// A text has one first fault at most.
 pub fn has_one_fault()
-    ensures { (text : List ℕ) (e f : BinaryFault) → IsFirstFault text e → IsFirstFault text f → e ≡ f }
+    ensures { (text : List ℕ) (e f : BinaryFault) → IsFirstFault text e →
+        IsFirstFault text f → e ≡ f }
 {}
 
-/// The law of the first fault. A fault is the first of a text exactly where the sentences on compiled
-/// files say so: the lines before its line have their forms, are in order and in range, and this one
-/// isn't; or all are, and it is that of the first section with an empty cycle or an empty side.
+/// The law of the first fault. A fault is the first of a text exactly where the sentences on
+/// compiled files say so: the lines before its line have their forms, are in order and in range,
+/// and this one isn't; or all are, and it is that of the first section with an empty cycle or an
+/// empty side.
 pub fn first_fault_in_sentences()
     ensures { (text : List ℕ) (f : BinaryFault) → IsFirstFault text f ↔ HasFirstFault text f }
 {}
@@ -33,7 +35,8 @@ pub fn never_wrong_way()
 
 /// A text that spells a compiled dictionary has no fault.
 pub fn spells_without_fault()
-    ensures { (text : List ℕ) (c : Parts) (f : BinaryFault) → Spells text c → IsFirstFault text f → ⊥ }
+    ensures { (text : List ℕ) (c : Parts) (f : BinaryFault) → Spells text c →
+        IsFirstFault text f → ⊥ }
 {}
 
 /// What a text spells is a compiled dictionary: trimmed, without empty cycles and empty sides.
@@ -47,8 +50,8 @@ pub fn reads_what_is_written()
 {}
 
 /// A text spells a compiled dictionary exactly where it is the text of a direction or none, an
-/// alphabet and four sections, each without an empty cycle and an empty side, of which trimming leaves that
-/// dictionary.
+/// alphabet and four sections, each without an empty cycle and an empty side, of which trimming
+/// leaves that dictionary.
 pub fn spells_texts()
     ensures { (text : List ℕ) (c : Parts) → Spells text c ↔ IsTextOf text c }
 {}

@@ -51,7 +51,8 @@ fn judged_edge<'a>(
     edge: Edge,
     rest: &'a [u8],
 ) -> Result<(Edge, &'a [u8]), BinaryRefusal>
-    ensures gives { Tells (λ x. (x.0, x.1.now)) result (judged_edge states (option_copied before.entry) line (edge, rest.now)) }
+    ensures gives { Tells (λ x. (x.0, x.1.now)) result
+        (judged_edge states (option_copied before.entry) line (edge, rest.now)) }
     ensures rest { IfOk result (λ x. x.1.now ≡ rest.now) }
 {
     if !follows(before, &edge) {
@@ -72,7 +73,8 @@ fn edge_line<'a>(
     line: u64,
     bytes: &'a [u8],
 ) -> Result<(Edge, &'a [u8]), BinaryRefusal>
-    ensures gives { Tells (λ x. (x.0, x.1.now)) result (edge_line states (option_copied before.entry) line bytes.now) }
+    ensures gives { Tells (λ x. (x.0, x.1.now)) result
+        (edge_line states (option_copied before.entry) line bytes.now) }
     ensures shorter { IfOk result (λ x. length x.1.now < length bytes.now) }
 {
     match edge(alloc, bytes) {
@@ -112,7 +114,8 @@ fn judged_final<'a>(
     state: usize,
     rest: &'a [u8],
 ) -> Result<(usize, &'a [u8]), BinaryRefusal>
-    ensures gives { Tells (λ x. (x.0, x.1.now)) result (judged_final states least line (state, rest.now)) }
+    ensures gives { Tells (λ x. (x.0, x.1.now)) result
+        (judged_final states least line (state, rest.now)) }
     ensures rest { IfOk result (λ x. x.1.now ≡ rest.now) }
     ensures within { IfOk result (λ x. x.0 < states) }
 {

@@ -32,7 +32,8 @@ pub(crate) fn after_byte(byte: u8, bytes: &[u8]) -> Result<&[u8], CutError>
 /// What stands behind a word, where it stands at the front.
 #[tactic(auto, unfolding(crate::specs::Pieces::word_at))]
 pub(crate) fn behind_word<'a>(word: &[u8], bytes: &'a [u8]) -> Option<&'a [u8]>
-    ensures gives { MatchOption result (word_at word.now bytes.now ≡ None) (λ x. word_at word.now bytes.now ≡ Some x.now) }
+    ensures gives { MatchOption result (word_at word.now bytes.now ≡ None)
+        (λ x. word_at word.now bytes.now ≡ Some x.now) }
     ensures shorter { IfSome result (λ x. length x.now + length word.now ≡ length bytes.now) }
 {
     bytes.strip_prefix(word)
@@ -198,7 +199,8 @@ fn name_len(bytes: &[u8]) -> usize
 }
 
 fn text_of(bytes: &[u8]) -> Option<&str>
-    ensures { MatchOption result (is_utf8 bytes.now ≡ false) (λ text. (text.now ≡ bytes.now) × (is_utf8 bytes.now ≡ true)) }
+    ensures { MatchOption result (is_utf8 bytes.now ≡ false) (λ text. (text.now ≡ bytes.now)
+        × (is_utf8 bytes.now ≡ true)) }
 {
     match str::from_utf8(bytes) {
         Ok(text) => Some(text),

@@ -15,7 +15,8 @@ use std::alloc::Global;
 /// The fault of the first edge of a section that lies on a cycle of edges with an empty left side.
 fn cycle_fault(alloc: Global, section: &Written) -> Result<Option<BinaryFault>, Memory>
     requires { line_after section.now < 2 ^ 64 }
-    ensures { IfOk result (λ found. MatchOption found (HasNoEmptyCycle section.now.fst) (λ f. IsFaultOf section.now f)) }
+    ensures { IfOk result (λ found. MatchOption found (HasNoEmptyCycle section.now.fst)
+        (λ f. IsFaultOf section.now f)) }
 {
     match empty_cycle(alloc, &section.fst)? {
         None => Ok(None),
@@ -29,7 +30,8 @@ fn cycle_fault(alloc: Global, section: &Written) -> Result<Option<BinaryFault>, 
 /// The fault of a section without such a cycle that accepts a label string with an empty left word.
 fn side_fault(alloc: Global, section: &Written) -> Result<Option<BinaryFault>, Memory>
     requires { HasNoEmptyCycle section.now.fst }
-    ensures { IfOk result (λ found. MatchOption found (IsFine section.now) (λ f. IsFaultOf section.now f)) }
+    ensures { IfOk result (λ found. MatchOption found (IsFine section.now)
+        (λ f. IsFaultOf section.now f)) }
 {
     if empty_side(alloc, &section.fst)? {
         return Ok(Some(BinaryFault {
@@ -42,7 +44,8 @@ fn side_fault(alloc: Global, section: &Written) -> Result<Option<BinaryFault>, M
 
 fn section_fault(alloc: Global, section: &Written) -> Result<Option<BinaryFault>, Memory>
     requires { line_after section.now < 2 ^ 64 }
-    ensures { IfOk result (λ found. MatchOption found (IsFine section.now) (λ f. IsFaultOf section.now f)) }
+    ensures { IfOk result (λ found. MatchOption found (IsFine section.now)
+        (λ f. IsFaultOf section.now f)) }
 {
     match cycle_fault(alloc, section)? {
         Some(fault) => Ok(Some(fault)),
@@ -91,20 +94,21 @@ fn trimmed_sections(alloc: Global, sections: Sections) -> Result<Trimmed, Binary
 
 /// Reads a compiled dictionary: the text that `write_compiled` writes. Its first line is `LTC1`,
 /// and then no direction is told, or `LTC2`, and then the second is `way lr` or `way rl`. Its lines
-/// end with a line feed; its numbers are decimal without leading zeros; a side is `-` for none, `L` and a code
-/// point, `T` and the name of a tag, or `B`, `J`, `Q` or `A` for a mark; the alphabet ascends, is
-/// closed under case partners and holds no white space; edges are in strictly ascending order by
-/// the state that they leave, the label and the state that they enter, and final states ascend.
+/// end with a line feed; its numbers are decimal without leading zeros; a side is `-` for none, `L`
+/// and a code point, `T` and the name of a tag, or `B`, `J`, `Q` or `A` for a mark; the alphabet
+/// ascends, is closed under case partners and holds no white space; edges are in strictly ascending
+/// order by the state that they leave, the label and the state that they enter, and final states
+/// ascend.
 ///
 /// The refusal is `Fault` exactly where the text spells no compiled dictionary, and then it is its
 /// first fault. Faults of lines come first, in the order of the lines: BadHeader where the first
-/// line is neither `LTC1` nor `LTC2`; BadLine where a line isn't of its form or order or is missing, and where
-/// something follows the last; OutOfRange where a state isn't below the number of states, this
-/// number is 0, or a number is over 2 ^ 64 - 1. On one line BadLine comes first. Then for each
-/// section in order come EmptyCycle, on the line of its first edge on a cycle of edges with an
-/// empty left side, and EmptySide, on the section's own line, where it accepts a label string with
-/// an empty left word. It is `Memory` for want of memory alone, which is taken by the lines that
-/// are there, and not by the numbers that they claim.
+/// line is neither `LTC1` nor `LTC2`; BadLine where a line isn't of its form or order or is
+/// missing, and where something follows the last; OutOfRange where a state isn't below the number
+/// of states, this number is 0, or a number is over 2 ^ 64 - 1. On one line BadLine comes first.
+/// Then for each section in order come EmptyCycle, on the line of its first edge on a cycle of
+/// edges with an empty left side, and EmptySide, on the section's own line, where it accepts a
+/// label string with an empty left word. It is `Memory` for want of memory alone, which is taken by
+/// the lines that are there, and not by the numbers that they claim.
 ///
 /// Each section is held trimmed.
 pub fn read_compiled(alloc: Global, text: &[u8]) -> Result<Compiled, BinaryRefusal>

@@ -61,7 +61,8 @@ pub(crate) fn read_sections<'a>(
 ) -> Result<(Sections, &'a [u8]), BinaryRefusal>
     requires { line + length bytes.now < 2 ^ 64 }
     ensures gives { Tells (λ x. (x.0, x.1.now)) result (sections_in line bytes.now) }
-    ensures lines { IfOk result (λ x. line_after x.0.preblank + length x.1.now ≤ line + length bytes.now) }
+    ensures lines { IfOk result
+        (λ x. line_after x.0.preblank + length x.1.now ≤ line + length bytes.now) }
     ensures within { IfOk result (λ x. AreWithin x.0) }
 {
     let (standard, rest) = read_section(alloc, Kind2::Standard, line, bytes)?;

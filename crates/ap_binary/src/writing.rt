@@ -95,7 +95,9 @@ fn put_side_field(side: &Option<Symbol>, into: &mut Bytes) -> Result<(), Memory>
 
 /// The two sides and the spaces behind them.
 fn put_label(label: &Label, into: &mut Bytes) -> Result<(), Memory>
-    ensures text { OnOk result (into.new ≡ into.old ++ (then_space (side_text label.now.left) ++ then_space (side_text label.now.right))) }
+    ensures text { OnOk result
+        (into.new ≡ into.old ++ (then_space (side_text label.now.left)
+        ++ then_space (side_text label.now.right))) }
     ensures held { OnOk result (is_held_label label.now ≡ true) }
 {
     put_side_field(&label.left, into)?;
@@ -149,7 +151,8 @@ pub(crate) fn section_name(kind: Kind2) -> &'static str
 }
 
 fn put_kind(kind: Kind2, into: &mut Bytes) -> Result<(), Memory>
-    ensures { OnOk result (into.new ≡ into.old ++ (codes "section " ++ then_space (section_name kind))) }
+    ensures { OnOk result (into.new ≡ into.old
+        ++ (codes "section " ++ then_space (section_name kind))) }
 {
     into.extend(b"section ")?;
     into.extend(section_name(kind).as_bytes())?;
@@ -157,8 +160,12 @@ fn put_kind(kind: Kind2, into: &mut Bytes) -> Result<(), Memory>
 }
 
 fn put_counts(fst: &Fst, into: &mut Bytes) -> Result<(), Memory>
-    ensures text { OnOk result (into.new ≡ into.old ++ (then_space (decimal fst.now.states) ++ (then_space (decimal (length fst.now.edges)) ++ then_end (decimal (length fst.now.finals))))) }
-    ensures held { OnOk result ((fst.now.states < 2 ^ 64) × (length fst.now.edges < 2 ^ 64) × (length fst.now.finals < 2 ^ 64)) }
+    ensures text { OnOk result
+        (into.new ≡ into.old ++ (then_space (decimal fst.now.states)
+        ++ (then_space (decimal (length fst.now.edges))
+        ++ then_end (decimal (length fst.now.finals))))) }
+    ensures held { OnOk result ((fst.now.states < 2 ^ 64) × (length fst.now.edges < 2 ^ 64)
+        × (length fst.now.finals < 2 ^ 64)) }
 {
     put_field(fst.states() as u64, into)?;
     put_field(fst.edges().len() as u64, into)?;
@@ -167,7 +174,8 @@ fn put_counts(fst: &Fst, into: &mut Bytes) -> Result<(), Memory>
 
 fn put_head(kind: Kind2, fst: &Fst, into: &mut Bytes) -> Result<(), Memory>
     ensures text { OnOk result (into.new ≡ into.old ++ head_text kind fst.now) }
-    ensures held { OnOk result ((fst.now.states < 2 ^ 64) × (length fst.now.edges < 2 ^ 64) × (length fst.now.finals < 2 ^ 64)) }
+    ensures held { OnOk result ((fst.now.states < 2 ^ 64) × (length fst.now.edges < 2 ^ 64)
+        × (length fst.now.finals < 2 ^ 64)) }
 {
     put_kind(kind, into)?;
     put_counts(fst, into)
@@ -210,7 +218,8 @@ fn put_alphabet(letters: &[char], into: &mut Bytes) -> Result<(), Memory>
 }
 
 fn put_section_of(compiled: &Compiled, kind: Kind2, into: &mut Bytes) -> Result<(), Memory>
-    ensures text { OnOk result (into.new ≡ into.old ++ section_text kind (section_of compiled.now kind)) }
+    ensures text { OnOk result
+        (into.new ≡ into.old ++ section_text kind (section_of compiled.now kind)) }
     ensures held { OnOk result (IsHeldMachine (section_of compiled.now kind)) }
 {
     put_section(kind, compiled.section(kind), into)
@@ -238,7 +247,9 @@ fn put_header(way: Way, into: &mut Bytes) -> Result<(), Memory>
 }
 
 fn put_front(compiled: &Compiled, into: &mut Bytes) -> Result<(), Memory>
-    ensures text { OnOk result (into.new ≡ into.old ++ (header_text compiled.now.way ++ alphabet_text compiled.now.alphabet)) }
+    ensures text { OnOk result
+        (into.new ≡ into.old ++ (header_text compiled.now.way
+        ++ alphabet_text compiled.now.alphabet)) }
     ensures held { OnOk result (list_all is_character compiled.now.alphabet ≡ true) }
     ensures sound { OnOk result (IsCompiled compiled.now) }
 {
@@ -247,7 +258,8 @@ fn put_front(compiled: &Compiled, into: &mut Bytes) -> Result<(), Memory>
 }
 
 fn put_rest(compiled: &Compiled, into: &mut Bytes) -> Result<(), Memory>
-    ensures text { OnOk result (into.new ≡ into.old ++ (sections_text compiled.now ++ codes "end\n")) }
+    ensures text { OnOk result
+        (into.new ≡ into.old ++ (sections_text compiled.now ++ codes "end\n")) }
     ensures held { OnOk result (AreHeldSections compiled.now) }
 {
     put_sections(compiled, into)?;
@@ -258,8 +270,8 @@ fn put_rest(compiled: &Compiled, into: &mut Bytes) -> Result<(), Memory>
 /// `way lr` or `way rl`; the alphabet by its code points; for each kind of
 /// sections in the order standard, inconditional, postblank, preblank a line with the numbers of
 /// states, edges and final states, then the edges and then the final states, a line each; and
-/// `end`. Numbers are decimal, and fields are parted by spaces. `read_compiled` reads it again as the
-/// same value. The error means want of memory.
+/// `end`. Numbers are decimal, and fields are parted by spaces. `read_compiled` reads it again as
+/// the same value. The error means want of memory.
 #[tactic(auto, unfolding(crate::specs::Text::compiled_text))]
 pub fn write_compiled(alloc: Global, compiled: &Compiled) -> Result<Bytes, Memory>
     ensures text { IfOk result (λ text. text ≡ compiled_text compiled.now) }

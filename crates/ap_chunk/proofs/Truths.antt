@@ -34,28 +34,38 @@ left_out true g true false k s = s
 left_out true g false false k s = s
 left_out false g h f k s = s
 
-filtered : (b : Bool) (test : ℕ → Bool) (x n : ℕ) (xs : List ℕ) → test x ≡ b → has (filter test xs) n ≡ (has xs n && test n) → has (cond b (x ∷ filter test xs) (filter test xs)) n ≡ (((x == n) || has xs n) && test n)
-filtered true test x n xs e h = passes (x == n) (has (filter test xs) n) (has xs n) (test n) (λ k. ap test (sym (eqb-true x n k)) ∙ e) h
-filtered false test x n xs e h = left_out (x == n) (has (filter test xs) n) (has xs n) (test n) (λ k. ap test (sym (eqb-true x n k)) ∙ e) h
+filtered : (b : Bool) (test : ℕ → Bool) (x n : ℕ) (xs : List ℕ) → test x ≡ b →
+    has (filter test xs) n ≡ (has xs n && test n) →
+    has (cond b (x ∷ filter test xs) (filter test xs)) n ≡ (((x == n) || has xs n) && test n)
+filtered true test x n xs e h =
+    passes (x == n) (has (filter test xs) n) (has xs n) (test n)
+    (λ k. ap test (sym (eqb-true x n k)) ∙ e) h
+filtered false test x n xs e h =
+    left_out (x == n) (has (filter test xs) n) (has xs n) (test n)
+    (λ k. ap test (sym (eqb-true x n k)) ∙ e) h
 
 -- what a filter keeps
-pub has_filter : (test : ℕ → Bool) (xs : List ℕ) (n : ℕ) → has (filter test xs) n ≡ (has xs n && test n)
+pub has_filter : (test : ℕ → Bool) (xs : List ℕ) (n : ℕ) →
+    has (filter test xs) n ≡ (has xs n && test n)
 has_filter test [] n = refl
 has_filter test (x ∷ xs) n = filtered (test x) test x n xs refl (has_filter test xs n)
 
 pub has_append : (xs ys : List ℕ) (n : ℕ) → has (xs ++ ys) n ≡ (has xs n || has ys n)
 has_append [] ys n = refl
-has_append (x ∷ xs) ys n = ap (λ b. (x == n) || b) (has_append xs ys n) ∙ sym (or_assoc (x == n) (has xs n) (has ys n))
+has_append (x ∷ xs) ys n = ap (λ b. (x == n) || b) (has_append xs ys n)
+    ∙ sym (or_assoc (x == n) (has xs n) (has ys n))
 
 -- the least of some numbers
-pub least_same : (test same : ℕ → Bool) (least : Option ℕ) → ((n : ℕ) → test n ≡ same n) → IsLeast test least → IsLeast same least
+pub least_same : (test same : ℕ → Bool) (least : Option ℕ) → ((n : ℕ) → test n ≡ same n) →
+    IsLeast test least → IsLeast same least
 least_same test same None e h = λ n. sym (e n) ∙ h n
 least_same test same (Some m) e h = (sym (e m) ∙ h.0, λ n k. h.1 n (e n ∙ k))
 
 itself : (n : ℕ) → (n == n) ≡ true
 itself n = eq-eqb n n refl
 
-lesser_at : (b : Bool) (test : ℕ → Bool) (m n : ℕ) → nat_lt n m ≡ b → IsLeast test (Some m) → IsLeast (λ r. test r || (n == r)) (cond b (Some n) (Some m))
+lesser_at : (b : Bool) (test : ℕ → Bool) (m n : ℕ) → nat_lt n m ≡ b → IsLeast test (Some m) →
+    IsLeast (λ r. test r || (n == r)) (cond b (Some n) (Some m))
 lesser_at true test m n e h = (
   or_right (test n) (n == n) (itself n),
   λ r k. elim (or_cases (test r) (n == r) k) [
@@ -71,7 +81,8 @@ lesser_at false test m n e h = (
   ],
 )
 
-lesser_is : (test : ℕ → Bool) (least : Option ℕ) (n : ℕ) → IsLeast test least → IsLeast (λ r. test r || (n == r)) (lesser least n)
+lesser_is : (test : ℕ → Bool) (least : Option ℕ) (n : ℕ) → IsLeast test least →
+    IsLeast (λ r. test r || (n == r)) (lesser least n)
 lesser_is test None n h = (
   or_right (test n) (n == n) (itself n),
   λ r k. elim (or_cases (test r) (n == r) k) [
@@ -81,8 +92,11 @@ lesser_is test None n h = (
 )
 lesser_is test (Some m) n h = lesser_at (nat_lt n m) test m n refl h
 
-pub least_of : (test : ℕ → Bool) (least : Option ℕ) (ns : List ℕ) → IsLeast test least → IsLeast (λ r. test r || has ns r) (least_from least ns)
-least_of test least [] h = least_same test (λ r. test r || false) least (λ r. sym (or_false (test r))) h
+pub least_of : (test : ℕ → Bool) (least : Option ℕ) (ns : List ℕ) → IsLeast test least →
+    IsLeast (λ r. test r || has ns r) (least_from least ns)
+least_of test least [] h =
+    least_same test (λ r. test r || false) least (λ r. sym (or_false (test r))) h
 least_of test least (n ∷ ns) h =
-    least_same (λ r. (test r || (n == r)) || has ns r) (λ r. test r || ((n == r) || has ns r)) (least_from (lesser least n) ns) (λ r. or_assoc (test r) (n == r) (has ns r))
+    least_same (λ r. (test r || (n == r)) || has ns r) (λ r. test r || ((n == r) || has ns r))
+    (least_from (lesser least n) ns) (λ r. or_assoc (test r) (n == r) (has ns r))
     (least_of (λ r. test r || (n == r)) (lesser least n) ns (lesser_is test least n h))

@@ -30,11 +30,12 @@ pub record IsDivided (word lemma tags : List Symbol) : Type 0 where
   pub before : list_any is_tag lemma ≡ false
   pub behind : list_all is_tag tags ≡ true
 
--- The parts of an item take these tags, all of them and in order: a star takes one or more, any other part takes one that
--- is equal to it.
+-- The parts of an item take these tags, all of them and in order: a star takes one or more, any
+-- other part takes one that is equal to it.
 abbrev pub TakeTags : List Symbol → List Symbol → Type 0
 TakeTags [] tags = tags ≡ []
-TakeTags (Star ∷ parts) tags = (taken rest : List Symbol) × (tags ≡ taken ++ rest) × (0 < length taken) × TakeTags parts rest
+TakeTags (Star ∷ parts) tags = (taken rest : List Symbol) × (tags ≡ taken ++ rest)
+    × (0 < length taken) × TakeTags parts rest
 TakeTags (part ∷ parts) tags = (rest : List Symbol) × (tags ≡ part ∷ rest) × TakeTags parts rest
 
 -- upper case of the word fits lower case of the item
@@ -42,7 +43,8 @@ abbrev pub FitsLemma : Option (List Symbol) → List Symbol → Type 0
 FitsLemma None lemma = Unit {0}
 FitsLemma (Some wanted) lemma = IsTrue (lists_fit false wanted lemma)
 
--- an item of transfer or interchunk: its tags are the word's, and its lemma, where it is given, fits the word's
+-- an item of transfer or interchunk: its tags are the word's, and its lemma, where it is given,
+-- fits the word's
 pub record TakesTagged (item : CatItem) (lemma tags : List Symbol) : Type 0 where
   pub fit : FitsLemma item.lemma lemma
   pub taken : TakeTags item.tags tags
@@ -53,8 +55,8 @@ ItemTakes Transfer item lemma tags = TakesTagged item lemma tags
 ItemTakes Interchunk item lemma tags = TakesTagged item lemma tags
 ItemTakes Postchunk item lemma tags = IsTrue (lists_fit false item.name lemma)
 
--- A category takes a word where one of its items does. No category takes a word that begins with `*` or `@`, or one that
--- has anything else than tags behind its first tag.
+-- A category takes a word where one of its items does. No category takes a word that begins with
+-- `*` or `@`, or one that has anything else than tags behind its first tag.
 pub record Takes (form : Form) (category : DefCat) (word : List Symbol) : Type 0 where
   pub unmarked : is_marked word ≡ false
   pub lemma : List Symbol

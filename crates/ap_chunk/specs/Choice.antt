@@ -1,5 +1,6 @@
--- The choice of a rule: the longest pattern that fits, and among equally long ones the rule earlier in the file. A unit is
--- the test of its categories, a rule the number of its pattern, counted from 0.
+-- The choice of a rule: the longest pattern that fits, and among equally long ones the rule earlier
+-- in the file. A unit is the test of its categories, a rule the number of its pattern, counted from
+-- 0.
 use Rattle.std.specs.Prelude.{◌≡◌, ◌⊎◌, ℕ, ◌≤◌, Bool, true, false, ◌&&◌, List, [], ◌∷◌, length, take, map, Option, Some, None, slice_get}
 use Rattle.std.specs.declared.vec.Vec.{Vec}
 use Rattle.std.specs.declared.alloc.Global.{Global}
@@ -23,13 +24,15 @@ fits (c ∷ cs) [] = false
 fits (c ∷ cs) (u ∷ units) = u c && fits cs units
 
 -- the pattern of the rule has n items, and the first n units fit their categories
-pub record RuleFits (patterns : List (List ℕ)) (rule : ℕ) (units : List (ℕ → Bool)) (n : ℕ) : Type 0 where
+pub record RuleFits (patterns : List (List ℕ)) (rule : ℕ) (units : List (ℕ → Bool))
+    (n : ℕ) : Type 0 where
   pub pattern : List ℕ
   pub at : slice_get patterns rule ≡ Some pattern
   pub size : n ≡ length pattern
   pub fit : fits pattern units ≡ true
 
-pub record IsBest (patterns : List (List ℕ)) (units : List (ℕ → Bool)) (choice : Choice) : Type 0 where
+pub record IsBest (patterns : List (List ℕ)) (units : List (ℕ → Bool))
+    (choice : Choice) : Type 0 where
   pub fitting : RuleFits patterns choice.rule units choice.size
   pub longest : (rule n : ℕ) → RuleFits patterns rule units n → n ≤ choice.size
   pub first : (rule : ℕ) → RuleFits patterns rule units choice.size → choice.rule ≤ rule
@@ -52,7 +55,8 @@ pub record SomeOpens (patterns : List (List ℕ)) (units : List (ℕ → Bool)) 
   pub at : slice_get patterns rule ≡ Some pattern
   pub fit : opens pattern units ≡ true
 
--- the greatest number of units from the front that fit the beginning of the pattern of some rule; 0 where there is no rule
+-- the greatest number of units from the front that fit the beginning of the pattern of some rule; 0
+-- where there is no rule
 pub record IsSpan (patterns : List (List ℕ)) (units : List (ℕ → Bool)) (n : ℕ) : Type 0 where
   pub within : n ≤ length units
   pub reached : (n ≡ 0) ⊎ SomeOpens patterns (take n units)

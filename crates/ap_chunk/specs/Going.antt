@@ -1,4 +1,5 @@
--- The choice of a rule as a function that tries every rule on the whole list, and going on unit by unit.
+-- The choice of a rule as a function that tries every rule on the whole list, and going on unit by
+-- unit.
 use Rattle.std.specs.Prelude.{◌≡◌, ℕ, ◌+◌, List, [], ◌∷◌, length, Bool, if◌then◌else◌, nat_le, Option, Some, None}
 use Rattle.ap_chunk.specs.declared.choice.Choice.{Choice}
 use Rattle.ap_chunk.specs.Choice.{fits, IsChosen}
@@ -20,7 +21,8 @@ longer (Some a) None = Some a
 longer (Some a) (Some b) = if nat_le b.size a.size then Some a else Some b
 
 abbrev pub fit : ℕ → Place → List (ℕ → Bool) → Option Choice
-fit n p units = if fits p.rest units then Some (record { rule = p.rule; size = n + length p.rest }) else None
+fit n p units = if fits p.rest units
+    then Some (record { rule = p.rule; size = n + length p.rest }) else None
 
 -- every rule is tried on the whole list; n units stand before
 abbrev pub chosen : ℕ → List Place → List (ℕ → Bool) → Option Choice
@@ -60,10 +62,13 @@ gone_on n places (u ∷ units) = or_else (gone_on (n + 1) (stepped u places) uni
 
 -- the laws
 abbrev pub GoesOnAlike : Type 0
-GoesOnAlike = (units : List (ℕ → Bool)) (places : List Place) → gone_on 0 places units ≡ chosen 0 places units
+GoesOnAlike = (units : List (ℕ → Bool)) (places : List Place) →
+    gone_on 0 places units ≡ chosen 0 places units
 
 abbrev pub TriesAll : Type 0
-TriesAll = (patterns : List (List ℕ)) (units : List (ℕ → Bool)) → IsChosen patterns units (chosen_of patterns units)
+TriesAll = (patterns : List (List ℕ)) (units : List (ℕ → Bool)) →
+    IsChosen patterns units (chosen_of patterns units)
 
 abbrev pub OneIsChosen : Type 0
-OneIsChosen = (patterns : List (List ℕ)) (units : List (ℕ → Bool)) (a b : Option Choice) → IsChosen patterns units a → IsChosen patterns units b → a ≡ b
+OneIsChosen = (patterns : List (List ℕ)) (units : List (ℕ → Bool)) (a b : Option Choice) →
+    IsChosen patterns units a → IsChosen patterns units b → a ≡ b

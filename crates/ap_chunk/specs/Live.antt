@@ -1,4 +1,5 @@
--- Going on unit by unit: the rules that are live after so many units, and the least one whose pattern is over there.
+-- Going on unit by unit: the rules that are live after so many units, and the least one whose
+-- pattern is over there.
 use Rattle.std.specs.Prelude.{◌≡◌, ℕ, ◌<◌, ◌≤◌, Bool, true, false, ◌&&◌, List, [], ◌∷◌, length, drop, Option, Some, None, slice_get, nat_lt, if◌then◌else◌}
 use Rattle.ap_chunk.specs.declared.keeping.Met.{Met}
 use Rattle.ap_chunk.specs.declared.keeping.Met.TheVariants as met
@@ -36,13 +37,15 @@ IsLeast test (Some least) = (test least ≡ true) × ((rule : ℕ) → test rule
 
 -- these are the live rules, in any order; before the first unit they are not listed
 abbrev pub AreLive : List (List ℕ) → List (ℕ → Bool) → List ℕ → Type 0
-AreLive patterns units live = 0 < length units → (rule : ℕ) → has live rule ≡ is_live patterns units rule
+AreLive patterns units live = 0 < length units → (rule : ℕ) →
+    has live rule ≡ is_live patterns units rule
 
 pub record SomeLive (patterns : List (List ℕ)) (units : List (ℕ → Bool)) : Type 0 where
   pub rule : ℕ
   pub live : is_live patterns units rule ≡ true
 
--- how far a choice has come: the patterns, the number of units, the live rules, and the least rule whose pattern is over
+-- how far a choice has come: the patterns, the number of units, the live rules, and the least rule
+-- whose pattern is over
 pub record Standing : Type 0 where
   pub patterns : List (List ℕ)
   pub count : ℕ
@@ -97,4 +100,5 @@ begun unit below patterns test rule = starts unit below (list_at patterns rule) 
 
 -- these are those of such rules that stay live with the unit, the first one
 abbrev pub AreBegun : (ℕ → Bool) → ℕ → List (List ℕ) → List ℕ → Type 0
-AreBegun unit below patterns live = (rule : ℕ) → has live rule ≡ begun unit below patterns (stays patterns 0 unit) rule
+AreBegun unit below patterns live = (rule : ℕ) →
+    has live rule ≡ begun unit below patterns (stays patterns 0 unit) rule

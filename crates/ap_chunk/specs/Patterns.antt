@@ -1,4 +1,5 @@
--- Patterns, each the categories of its items in order. Rules and categories are numbers counted from 0.
+-- Patterns, each the categories of its items in order. Rules and categories are numbers counted
+-- from 0.
 use Rattle.std.specs.Prelude.{◌≡◌, ℕ, suc, Bool, true, false, ◌||◌, ◌==◌, List, [], ◌∷◌, map, Option, Some, None, slice_get, if◌then◌else◌}
 use Rattle.std.specs.List.{list_any}
 use Rattle.std.specs.declared.vec.Vec.{Vec}
@@ -43,7 +44,8 @@ first_empty (p ∷ patterns) = if is_filled p then suc (first_empty patterns) el
 
 -- for each category the rules whose pattern begins with it
 abbrev pub IsIndex : List (List ℕ) → List (List ℕ) → Type 0
-IsIndex patterns beginning = (category rule : ℕ) → has (list_at beginning category) rule ≡ begins_with category (list_at patterns rule)
+IsIndex patterns beginning = (category rule : ℕ) → has (list_at beginning category) rule
+    ≡ begins_with category (list_at patterns rule)
 
 -- what is kept beside the patterns
 pub record AreKept (patterns beginning : List (List ℕ)) (empty : ℕ) (filled : Bool) : Type 0 where

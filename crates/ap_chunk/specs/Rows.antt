@@ -12,7 +12,9 @@ if_some test (Some category) = test category
 
 -- there is a category of that number, and it takes the word
 abbrev pub number_takes : Rules → List Symbol → ℕ → Bool
-number_takes rules word n = if_some (λ category. takes rules.form category word) (slice_get rules.categories n)
+number_takes rules word n =
+    if_some (λ category. takes rules.form category word) (slice_get rules.categories n)
 
 abbrev pub RowsTell : Type 0
-RowsTell = (rules : Rules) (word : List Symbol) (n : ℕ) → unit_of (row_of rules word) n ≡ number_takes rules word n
+RowsTell = (rules : Rules) (word : List Symbol) (n : ℕ) → unit_of (row_of rules word) n
+    ≡ number_takes rules word n

@@ -54,7 +54,8 @@ item_takes Postchunk item lemma tags = lists_fit false item.name lemma
 
 abbrev pub takes_at : Form → DefCat → List Symbol → Option ℕ → Bool
 takes_at form category word None = false
-takes_at form category word (Some at) = list_any (λ item. item_takes form item (take at word) (drop at word)) category.items
+takes_at form category word (Some at) =
+    list_any (λ item. item_takes form item (take at word) (drop at word)) category.items
 
 -- the category takes the word
 abbrev pub takes : Form → DefCat → List Symbol → Bool

@@ -18,7 +18,8 @@ meeting_of (Some part) tag = cond (fits_lem true part tag) meeting.Fits meeting.
 -- what stands behind the last star fits at a place after the one at which it was tried last
 abbrev pub fits_later : List Symbol → List Symbol → Option LastStar → Bool
 fits_later parts tags None = false
-fits_later parts tags (Some star) = some_later (take_tags (drop star.part parts)) (drop star.tag tags)
+fits_later parts tags (Some star) =
+    some_later (take_tags (drop star.part parts)) (drop star.tag tags)
 
 -- the place at which it was tried last; 0 before a star, since a star takes a tag
 abbrev pub tried_at : Option LastStar → ℕ
@@ -26,10 +27,15 @@ tried_at None = 0
 tried_at (Some star) = star.tag
 
 pub record IsTried (parts tags : List Symbol) (trial : Trial) : Type 0 where
-  -- the parts take the tags where those that are left do, or those behind the last star do at a later place
-  pub whole : take_tags parts tags ≡ (take_tags (drop trial.part parts) (drop trial.tag tags) || fits_later parts tags trial.star)
-  -- and then those that are left fit at a later place too: so a star before this place may be forgotten
-  pub forgotten : fits_later parts tags trial.star ≡ true → some_later (take_tags (drop trial.part parts)) (drop trial.tag tags) ≡ true
+  -- the parts take the tags where those that are left do, or those behind the last star do at a
+  -- later place
+  pub whole : take_tags parts tags
+      ≡ (take_tags (drop trial.part parts) (drop trial.tag tags)
+      || fits_later parts tags trial.star)
+  -- and then those that are left fit at a later place too: so a star before this place may be
+  -- forgotten
+  pub forgotten : fits_later parts tags trial.star ≡ true →
+      some_later (take_tags (drop trial.part parts)) (drop trial.tag tags) ≡ true
   pub order : tried_at trial.star ≤ trial.tag
   pub within : trial.tag ≤ length tags
 

@@ -31,7 +31,13 @@ impl Model for Choosing {
 
     ghost Value = { Standing };
 
-    ghost view = { λ c. record { patterns = c.patterns; count = c.count; live = c.live.items; over = c.over } };
+    ghost view = { λ c. record {
+      patterns = c.patterns;
+      count = c.count;
+      live =
+          c.live.items;
+      over = c.over;
+    } };
 }
 
 impl Choosing {
@@ -67,7 +73,8 @@ impl Choosing {
     /// step.
     pub fn step(&mut self, unit: &[bool]) -> Result<(), Memory>
         ensures patterns { self.new.patterns ≡ self.old.patterns }
-        ensures stands { OnOk result ((units : List (ℕ → Bool)) → length units + 1 < 2 ^ 64 → Stands self.old units → Stands self.new (units ++ unit_of unit.now ∷ [])) }
+        ensures stands { OnOk result ((units : List (ℕ → Bool)) → length units + 1 < 2 ^ 64 →
+            Stands self.old units → Stands self.new (units ++ unit_of unit.now ∷ [])) }
     {
         let over = go_on(
             &self.patterns,
@@ -84,7 +91,8 @@ impl Choosing {
 
     /// Whether some rule is live: more units can lead to a longer match.
     pub fn goes_on(&self) -> bool
-        ensures { (units : List (ℕ → Bool)) → Stands self.now units → IsTrue result ↔ SomeLive self.now.patterns units }
+        ensures { (units : List (ℕ → Bool)) → Stands self.now units →
+            IsTrue result ↔ SomeLive self.now.patterns units }
     {
         if self.count == 0 {
             return self.patterns.some_goes_on();
@@ -109,7 +117,9 @@ impl Choosing {
     /// What is chosen after one more unit: where a pattern is over there, its rule, and else what
     /// was chosen before.
     fn better(&self, before: Option<Choice>) -> Option<Choice>
-        ensures more { (units : List (ℕ → Bool)) (u : ℕ → Bool) → Stands self.now (units ++ u ∷ []) → IsChosen self.now.patterns units before → IsChosen self.now.patterns (units ++ u ∷ []) result }
+        ensures more { (units : List (ℕ → Bool)) (u : ℕ → Bool) → Stands self.now (units ++ u ∷ [])
+            → IsChosen self.now.patterns units before →
+            IsChosen self.now.patterns (units ++ u ∷ []) result }
         ensures first { before ≡ None → Stands self.now [] → IsChosen self.now.patterns [] result }
     {
         match self.over {
@@ -124,7 +134,9 @@ impl Choosing {
     /// The span after one more unit: all units, where some rule is live or a pattern is over, and
     /// else what it was before.
     fn wider(&self, before: usize) -> usize
-        ensures { (units : List (ℕ → Bool)) (u : ℕ → Bool) → Stands self.now (units ++ u ∷ []) → IsSpan self.now.patterns units before → IsSpan self.now.patterns (units ++ u ∷ []) result }
+        ensures { (units : List (ℕ → Bool)) (u : ℕ → Bool) → Stands self.now (units ++ u ∷ []) →
+            IsSpan self.now.patterns units before →
+            IsSpan self.now.patterns (units ++ u ∷ []) result }
     {
         match self.over {
             None => { if self.goes_on() { self.count } else { before } }
@@ -137,9 +149,12 @@ impl Choosing {
     /// The error means want of memory.
     pub fn choose(&mut self, rows: &[Vec<bool>]) -> Result<Found, Memory>
         ensures patterns { self.new.patterns ≡ self.old.patterns }
-        ensures choice { IfOk result (λ found. IsChosen self.old.patterns (units_of rows.now) found.choice) }
-        ensures exact { IfOk result (λ found. found.choice ≡ chosen_of self.old.patterns (units_of rows.now)) }
-        ensures span { IfOk result (λ found. IsSpan self.old.patterns (units_of rows.now) found.span) }
+        ensures choice { IfOk result
+            (λ found. IsChosen self.old.patterns (units_of rows.now) found.choice) }
+        ensures exact { IfOk result
+            (λ found. found.choice ≡ chosen_of self.old.patterns (units_of rows.now)) }
+        ensures span { IfOk result
+            (λ found. IsSpan self.old.patterns (units_of rows.now) found.span) }
     {
         self.begin();
         let mut choice = self.better(None);

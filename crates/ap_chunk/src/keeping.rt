@@ -80,8 +80,11 @@ fn keep_one(
     over: Option<usize>,
     kept: &mut Vec<usize>,
 ) -> Result<Option<usize>, Memory>
-    ensures kept { OnOk result (kept.new.items ≡ kept.old.items ++ filter (stays patterns.now count (unit_of unit.now)) (rule ∷ [])) }
-    ensures over { IfOk result (λ least. least ≡ least_from over (filter (finishes patterns.now count (unit_of unit.now)) (rule ∷ []))) }
+    ensures kept { OnOk result (kept.new.items ≡ kept.old.items
+        ++ filter (stays patterns.now count (unit_of unit.now)) (rule ∷ [])) }
+    ensures over { IfOk result
+        (λ least. least ≡ least_from over
+        (filter (finishes patterns.now count (unit_of unit.now)) (rule ∷ []))) }
 {
     match meet_at(patterns.pattern(rule), count, unit) {
         Met::Fails => Ok(over),
@@ -103,8 +106,11 @@ fn keep(
     over: Option<usize>,
     kept: &mut Vec<usize>,
 ) -> Result<Option<usize>, Memory>
-    ensures kept { OnOk result (kept.new.items ≡ kept.old.items ++ filter (stays patterns.now count (unit_of unit.now)) live.now) }
-    ensures over { IfOk result (λ least. least ≡ least_from over (filter (finishes patterns.now count (unit_of unit.now)) live.now)) }
+    ensures kept { OnOk result (kept.new.items ≡ kept.old.items
+        ++ filter (stays patterns.now count (unit_of unit.now)) live.now) }
+    ensures over { IfOk result
+        (λ least. least ≡ least_from over
+        (filter (finishes patterns.now count (unit_of unit.now)) live.now)) }
 {
     let mut least = over;
     'rules: for rule in live {
@@ -124,8 +130,13 @@ fn keep_category(
     kept: &mut Vec<usize>,
 ) -> Result<Option<usize>, Memory>
     requires { category < length unit.now }
-    ensures kept { OnOk result (AreBegun (unit_of unit.now) category patterns.now kept.old.items → AreBegun (unit_of unit.now) (category + 1) patterns.now kept.new.items) }
-    ensures over { IfOk result (λ least. IsLeast (begun (unit_of unit.now) category patterns.now (finishes patterns.now 0 (unit_of unit.now))) over → IsLeast (begun (unit_of unit.now) (category + 1) patterns.now (finishes patterns.now 0 (unit_of unit.now))) least) }
+    ensures kept { OnOk result (AreBegun (unit_of unit.now) category patterns.now kept.old.items →
+        AreBegun (unit_of unit.now) (category + 1) patterns.now kept.new.items) }
+    ensures over { IfOk result
+        (λ least. IsLeast (begun (unit_of unit.now) category patterns.now
+        (finishes patterns.now 0 (unit_of unit.now))) over →
+        IsLeast (begun (unit_of unit.now) (category + 1) patterns.now
+        (finishes patterns.now 0 (unit_of unit.now))) least) }
 {
     if unit[category] {
         let rules = patterns.beginning_with(category);
@@ -143,8 +154,10 @@ fn keep_first(
     kept: &mut Vec<usize>,
 ) -> Result<Option<usize>, Memory>
     requires { kept.old.items ≡ [] }
-    ensures kept { OnOk result ((r : ℕ) → has kept.new.items r ≡ is_live patterns.now (unit_of unit.now ∷ []) r) }
-    ensures over { IfOk result (λ least. IsLeast (is_over patterns.now (unit_of unit.now ∷ [])) least) }
+    ensures kept { OnOk result ((r : ℕ) →
+        has kept.new.items r ≡ is_live patterns.now (unit_of unit.now ∷ []) r) }
+    ensures over { IfOk result
+        (λ least. IsLeast (is_over patterns.now (unit_of unit.now ∷ [])) least) }
 {
     let mut least = None;
     'categories: for category in 0..unit.len() {
@@ -163,8 +176,12 @@ pub(crate) fn go_on(
     live: &[usize],
     kept: &mut Vec<usize>,
 ) -> Result<Option<usize>, Memory>
-    ensures kept { OnOk result ((units : List (ℕ → Bool)) → count ≡ length units → AreLive patterns.now units live.now → AreLive patterns.now (units ++ unit_of unit.now ∷ []) kept.new.items) }
-    ensures over { IfOk result (λ least. (units : List (ℕ → Bool)) → count ≡ length units → AreLive patterns.now units live.now → IsLeast (is_over patterns.now (units ++ unit_of unit.now ∷ [])) least) }
+    ensures kept { OnOk result ((units : List (ℕ → Bool)) → count ≡ length units →
+        AreLive patterns.now units live.now →
+        AreLive patterns.now (units ++ unit_of unit.now ∷ []) kept.new.items) }
+    ensures over { IfOk result (λ least. (units : List (ℕ → Bool)) → count ≡ length units →
+        AreLive patterns.now units live.now →
+        IsLeast (is_over patterns.now (units ++ unit_of unit.now ∷ [])) least) }
 {
     kept.clear();
     if count == 0 {

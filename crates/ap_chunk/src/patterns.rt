@@ -29,7 +29,8 @@ impl Model for Patterns {
 
     ghost view = { λ p. lists p.patterns.items };
 
-    ghost invariant = { λ p. AreKept (lists p.patterns.items) (lists p.beginning.items) p.empty p.filled };
+    ghost invariant = { λ p. AreKept (lists p.patterns.items) (lists p.beginning.items)
+        p.empty p.filled };
 }
 
 /// The categories of a rule's pattern.
@@ -87,7 +88,8 @@ fn some_with_items(patterns: &[Vec<usize>]) -> bool
 
 /// Lengthens a list of lists by empty ones, so that there is one of this number.
 fn lengthen(alloc: Global, number: usize, into: &mut Vec<Vec<usize>>) -> Result<(), Memory>
-    ensures same { OnOk result ((n : ℕ) → list_at (lists into.new.items) n ≡ list_at (lists into.old.items) n) }
+    ensures same { OnOk result ((n : ℕ) → list_at (lists into.new.items) n
+        ≡ list_at (lists into.old.items) n) }
     ensures within { OnOk result (number < length into.new.items) }
 {
     'room: while into.len() <= number {
@@ -103,7 +105,8 @@ fn add_rule(
     rule: usize,
     into: &mut Vec<Vec<usize>>,
 ) -> Result<(), Memory>
-    ensures { OnOk result ((c r : ℕ) → has (list_at (lists into.new.items) c) r ≡ (has (list_at (lists into.old.items) c) r || ((category == c) && (rule == r)))) }
+    ensures { OnOk result ((c r : ℕ) → has (list_at (lists into.new.items) c) r
+        ≡ (has (list_at (lists into.old.items) c) r || ((category == c) && (rule == r)))) }
 {
     lengthen(alloc, category, into)?;
     into[category].push(rule)?;
@@ -117,7 +120,9 @@ fn index_rule(
     rule: usize,
     into: &mut Vec<Vec<usize>>,
 ) -> Result<(), Memory>
-    ensures { OnOk result ((c r : ℕ) → has (list_at (lists into.new.items) c) r ≡ (has (list_at (lists into.old.items) c) r || (begins_with c pattern.now && (rule == r)))) }
+    ensures { OnOk result ((c r : ℕ) → has (list_at (lists into.new.items) c) r
+        ≡ (has (list_at (lists into.old.items) c) r
+        || (begins_with c pattern.now && (rule == r)))) }
 {
     match pattern {
         [] => Ok(()),

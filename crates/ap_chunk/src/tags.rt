@@ -62,7 +62,9 @@ fn go_back(parts: &[Symbol], tags: &[Symbol], trial: Trial) -> Option<Trial>
     requires tried { IsTried parts.now tags.now trial }
     requires within { trial.tag < length tags.now }
     requires fails { take_tags (drop trial.part parts.now) (drop trial.tag tags.now) ≡ false }
-    ensures { MatchOption result (take_tags parts.now tags.now ≡ false) (λ next. IsTried parts.now tags.now next × (steps_left (length tags.now) next < steps_left (length tags.now) trial)) }
+    ensures { MatchOption result (take_tags parts.now tags.now ≡ false)
+        (λ next. IsTried parts.now tags.now next
+        × (steps_left (length tags.now) next < steps_left (length tags.now) trial)) }
 {
     match trial.star {
         None => None,
@@ -85,7 +87,9 @@ fn go_back(parts: &[Symbol], tags: &[Symbol], trial: Trial) -> Option<Trial>
 fn step(parts: &[Symbol], tags: &[Symbol], trial: Trial) -> Option<Trial>
     requires tried { IsTried parts.now tags.now trial }
     requires within { trial.tag < length tags.now }
-    ensures { MatchOption result (take_tags parts.now tags.now ≡ false) (λ next. IsTried parts.now tags.now next × (steps_left (length tags.now) next < steps_left (length tags.now) trial)) }
+    ensures { MatchOption result (take_tags parts.now tags.now ≡ false)
+        (λ next. IsTried parts.now tags.now next
+        × (steps_left (length tags.now) next < steps_left (length tags.now) trial)) }
 {
     match compare(part_at(parts, trial.part), &tags[trial.tag]) {
         Meeting::Many => {

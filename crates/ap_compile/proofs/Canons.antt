@@ -21,36 +21,74 @@ use Rattle.ap_compile.specs.Compiling.{AcceptsStrings, IsCompiledFrom, HaveSameS
 use Rattle.ap_compile.proofs.Lettering.{has_in, in_has}
 
 abbrev One : Type 0
-One = (a b : Machine) → IsCanonical a → IsCanonical b → ((labels : List Label) → AcceptsLabels a labels ↔ AcceptsLabels b labels) → a ≡ b
+One = (a b : Machine) → IsCanonical a → IsCanonical b →
+    ((labels : List Label) → AcceptsLabels a labels ↔ AcceptsLabels b labels) → a ≡ b
 
 abbrev Least : Type 0
-Least = (a b : Machine) → IsCanonical a → IsMachine b → IsDeterministic b → ((labels : List Label) → AcceptsLabels a labels ↔ AcceptsLabels b labels) → a.states ≤ b.states
+Least = (a b : Machine) → IsCanonical a → IsMachine b → IsDeterministic b →
+    ((labels : List Label) → AcceptsLabels a labels ↔ AcceptsLabels b labels) → a.states ≤ b.states
 
-same_letters : (a b : List ℕ) → Ascends nat_cmp a → Ascends nat_cmp b → ((c : ℕ) → has_letter a c ≡ has_letter b c) → a ≡ b
-same_letters a b up up' h = ascends_same nat_cmp nat_cmp_total a b up up' (λ c i. has_in b c (sym (h c) ∙ in_has a c i)) (λ c i. has_in a c (h c ∙ in_has b c i))
+same_letters : (a b : List ℕ) → Ascends nat_cmp a → Ascends nat_cmp b →
+    ((c : ℕ) → has_letter a c ≡ has_letter b c) → a ≡ b
+same_letters a b up up' h =
+    ascends_same nat_cmp nat_cmp_total a b up up' (λ c i. has_in b c (sym (h c) ∙ in_has a c i))
+    (λ c i. has_in a c (h c ∙ in_has b c i))
 
-same_section : One → (d e : Dictionary) (direction : Direction) (kind : Kind) (m n : Machine) → IsCanonical m → IsCanonical n → AcceptsStrings d direction kind m → AcceptsStrings e direction kind n → HaveSameStrings d e direction → m ≡ n
+same_section : One → (d e : Dictionary) (direction : Direction) (kind : Kind) (m n : Machine) →
+    IsCanonical m → IsCanonical n → AcceptsStrings d direction kind m →
+    AcceptsStrings e direction kind n → HaveSameStrings d e direction → m ≡ n
 same_section law d e direction kind m n c k f g same =
-    law m n c k (λ w. ((λ a. (g w).1 ((same kind (derived_labels w)).0 ((f w).0 a))), (λ a. (f w).1 ((same kind (derived_labels w)).1 ((g w).0 a)))))
+    law m n c k (λ w. (
+      (λ a. (g w).1 ((same kind (derived_labels w)).0 ((f w).0 a))),
+      (λ a. (f w).1 ((same kind (derived_labels w)).1 ((g w).0 a))),
+    ))
 
-pub one_compiled : One → (d e : Dictionary) (direction : Direction) (a b : Parts) → IsCompiledFrom d direction a → IsCompiledFrom e direction b → HaveSameStrings d e direction → HaveOneClosure d.alphabet e.alphabet → a ≡ b
+pub one_compiled : One → (d e : Dictionary) (direction : Direction) (a b : Parts) →
+    IsCompiledFrom d direction a → IsCompiledFrom e direction b → HaveSameStrings d e direction →
+    HaveOneClosure d.alphabet e.alphabet → a ≡ b
 one_compiled law d e direction a b f g same closure =
-    let alphabet : a.alphabet ≡ b.alphabet = same_letters a.alphabet b.alphabet f.sound.letters.ascend g.sound.letters.ascend (λ c. f.alphabet c ∙ closure c ∙ sym (g.alphabet c)) in
+    let alphabet : a.alphabet ≡ b.alphabet =
+    same_letters a.alphabet b.alphabet f.sound.letters.ascend g.sound.letters.ascend
+    (λ c. f.alphabet c ∙ closure c ∙ sym (g.alphabet c)) in
     let way : a.way ≡ b.way = f.way ∙ sym g.way in
-    let standard : a.standard ≡ b.standard = same_section law d e direction Standard a.standard b.standard f.canonical.standard_canonical g.canonical.standard_canonical f.standard g.standard same in
+    let standard : a.standard ≡ b.standard =
+    same_section law d e direction Standard a.standard b.standard f.canonical.standard_canonical
+    g.canonical.standard_canonical f.standard g.standard same in
     let inconditional : a.inconditional ≡ b.inconditional =
-    same_section law d e direction Inconditional a.inconditional b.inconditional f.canonical.inconditional_canonical g.canonical.inconditional_canonical f.inconditional g.inconditional same in
-    let postblank : a.postblank ≡ b.postblank = same_section law d e direction Postblank a.postblank b.postblank f.canonical.postblank_canonical g.canonical.postblank_canonical f.postblank g.postblank same in
-    let preblank : a.preblank ≡ b.preblank = same_section law d e direction Preblank a.preblank b.preblank f.canonical.preblank_canonical g.canonical.preblank_canonical f.preblank g.preblank same in
-    λ i. record { alphabet = alphabet i; way = way i; standard = standard i; inconditional = inconditional i; postblank = postblank i; preblank = preblank i }
+    same_section law d e direction Inconditional a.inconditional b.inconditional
+    f.canonical.inconditional_canonical g.canonical.inconditional_canonical f.inconditional
+    g.inconditional same in
+    let postblank : a.postblank ≡ b.postblank =
+    same_section law d e direction Postblank a.postblank b.postblank
+    f.canonical.postblank_canonical g.canonical.postblank_canonical f.postblank
+    g.postblank same in
+    let preblank : a.preblank ≡ b.preblank =
+    same_section law d e direction Preblank a.preblank b.preblank f.canonical.preblank_canonical
+    g.canonical.preblank_canonical f.preblank g.preblank same in
+    λ i. record {
+      alphabet = alphabet i;
+      way = way i;
+      standard = standard i;
+      inconditional =
+          inconditional i;
+      postblank = postblank i;
+      preblank = preblank i;
+    }
 
-least_section : Least → (d : Dictionary) (direction : Direction) (kind : Kind) (m : Machine) → IsCanonical m → AcceptsStrings d direction kind m → IsLeast d direction kind m
-least_section law d direction kind m c f other sound one g = law m other c sound one (λ w. ((λ a. (g w).1 ((f w).0 a)), (λ a. (f w).1 ((g w).0 a))))
+least_section : Least → (d : Dictionary) (direction : Direction) (kind : Kind) (m : Machine) →
+    IsCanonical m → AcceptsStrings d direction kind m → IsLeast d direction kind m
+least_section law d direction kind m c f other sound one g =
+    law m other c sound one (λ w. ((λ a. (g w).1 ((f w).0 a)), (λ a. (f w).1 ((g w).0 a))))
 
-pub least_compiled : Least → (d : Dictionary) (direction : Direction) (c : Parts) → IsCompiledFrom d direction c → AreLeast d direction c
+pub least_compiled : Least → (d : Dictionary) (direction : Direction) (c : Parts) →
+    IsCompiledFrom d direction c → AreLeast d direction c
 least_compiled law d direction c f = record {
-  standard_least = least_section law d direction Standard c.standard f.canonical.standard_canonical f.standard;
-  inconditional_least = least_section law d direction Inconditional c.inconditional f.canonical.inconditional_canonical f.inconditional;
-  postblank_least = least_section law d direction Postblank c.postblank f.canonical.postblank_canonical f.postblank;
-  preblank_least = least_section law d direction Preblank c.preblank f.canonical.preblank_canonical f.preblank;
+  standard_least = least_section law d direction Standard c.standard
+      f.canonical.standard_canonical f.standard;
+  inconditional_least = least_section law d direction Inconditional c.inconditional
+      f.canonical.inconditional_canonical f.inconditional;
+  postblank_least = least_section law d direction Postblank c.postblank
+      f.canonical.postblank_canonical f.postblank;
+  preblank_least = least_section law d direction Preblank c.preblank
+      f.canonical.preblank_canonical f.preblank;
 }

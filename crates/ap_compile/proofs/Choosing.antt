@@ -23,10 +23,15 @@ in_either x [] ys h = inr h
 in_either x (y ∷ xs) ys (inl e) = inl (inl e)
 in_either x (y ∷ xs) ys (inr h) = elim (in_either x xs ys h) [ inl k ↦ inl (inr k) | inr k ↦ inr k ]
 
-pub any_last : {X : Type 0} (Q : X → List EntryLabel → Type 0) (xs : List X) (x : X) (w : List EntryLabel) → (Any Q xs w ⊎ Q x w) ↔ Any Q (xs ++ x ∷ []) w
+pub any_last : {X : Type 0} (Q : X → List EntryLabel → Type 0) (xs : List X) (x : X)
+    (w : List EntryLabel) → (Any Q xs w ⊎ Q x w) ↔ Any Q (xs ++ x ∷ []) w
 any_last Q xs x w = (
   (λ h. elim h [
-    | inl s ↦ record { item = s.item; listed = in_front s.item xs (x ∷ []) s.listed; holds = s.holds }
+    | inl s ↦ record {
+      item = s.item;
+      listed = in_front s.item xs (x ∷ []) s.listed;
+      holds = s.holds;
+    }
     | inr q ↦ record { item = x; listed = in_back x xs (x ∷ []) (inl refl); holds = q }
   ]),
   (λ s. elim (in_either s.item xs (x ∷ []) s.listed) [
@@ -36,13 +41,20 @@ any_last Q xs x w = (
 )
 
 -- an item more
-pub any_more : {X : Type 0} (Q : X → List EntryLabel → Type 0) (a made : Sketch) (xs : List X) (x d : X) (i : ℕ) → i < length xs → x ≡ get_or xs i d → IsDraftOf (Any Q (take i xs)) a → IsMoreBy (Q x) a made → IsDraftOf (Any Q (take (i + 1) xs)) made
+pub any_more : {X : Type 0} (Q : X → List EntryLabel → Type 0) (a made : Sketch) (xs : List X)
+    (x d : X) (i : ℕ) → i < length xs → x ≡ get_or xs i d → IsDraftOf (Any Q (take i xs)) a →
+    IsMoreBy (Q x) a made → IsDraftOf (Any Q (take (i + 1) xs)) made
 any_more Q a made xs x d i lt is ha hm =
-    let e : take (i + 1) xs ≡ take i xs ++ x ∷ [] = take_more xs i d lt ∙ ap (λ z. take i xs ++ z ∷ []) (sym is) in
-    subst (λ zs. IsDraftOf (Any Q zs) made) (sym e) (same_draft (λ w. Any Q (take i xs) w ⊎ Q x w) (Any Q (take i xs ++ x ∷ [])) made (more_added (Any Q (take i xs)) (Q x) a made ha hm) (λ w. any_last Q (take i xs) x w))
+    let e : take (i + 1) xs ≡ take i xs ++ x ∷ [] =
+    take_more xs i d lt ∙ ap (λ z. take i xs ++ z ∷ []) (sym is) in
+    subst (λ zs. IsDraftOf (Any Q zs) made) (sym e)
+    (same_draft (λ w. Any Q (take i xs) w ⊎ Q x w) (Any Q (take i xs ++ x ∷ [])) made
+    (more_added (Any Q (take i xs)) (Q x) a made ha hm) (λ w. any_last Q (take i xs) x w))
 
-pub any_none : {X : Type 0} (Q : X → List EntryLabel → Type 0) (made : Sketch) → ((w : List Label) → Accepts made w → ⊥) → IsDraftOf (Any Q []) made
+pub any_none : {X : Type 0} (Q : X → List EntryLabel → Type 0) (made : Sketch) →
+    ((w : List Label) → Accepts made w → ⊥) → IsDraftOf (Any Q []) made
 any_none Q made h = no_draft (Any Q []) made h (λ w s. elim s.listed [ ])
 
-pub any_all : {X : Type 0} (Q : X → List EntryLabel → Type 0) (made : Sketch) (xs : List X) (i : ℕ) → length xs ≤ i → IsDraftOf (Any Q (take i xs)) made → IsDraftOf (Any Q xs) made
+pub any_all : {X : Type 0} (Q : X → List EntryLabel → Type 0) (made : Sketch) (xs : List X) (i : ℕ)
+    → length xs ≤ i → IsDraftOf (Any Q (take i xs)) made → IsDraftOf (Any Q xs) made
 any_all Q made xs i le h = subst (λ zs. IsDraftOf (Any Q zs) made) (take_all i xs le) h

@@ -30,45 +30,74 @@ derived_built (l ∷ w) = ap (λ z. l ∷ z) (derived_built w)
 pub derived_injective : (v w : List Label) → derived_labels v ≡ derived_labels w → v ≡ w
 derived_injective v w e = sym (built_derived v) ∙ ap built_labels e ∙ built_derived w
 
-pub same_draft : (P Q : List EntryLabel → Type 0) (made : Sketch) → IsDraftOf P made → ((w : List EntryLabel) → P w ↔ Q w) → IsDraftOf Q made
+pub same_draft : (P Q : List EntryLabel → Type 0) (made : Sketch) → IsDraftOf P made →
+    ((w : List EntryLabel) → P w ↔ Q w) → IsDraftOf Q made
 same_draft P Q made h same = record {
-  exact = λ w. ((λ a. (same (derived_labels w)).0 ((h.exact w).0 a)), (λ q. (h.exact w).1 ((same (derived_labels w)).1 q)));
+  exact = λ w. (
+    (λ a. (same (derived_labels w)).0 ((h.exact w).0 a)),
+    (λ q. (h.exact w).1 ((same (derived_labels w)).1 q)),
+  );
   plain = h.plain;
 }
 
-pub none_draft : (made : Sketch) → ((w : List Label) → Accepts made w ↔ (w ≡ [])) → IsDraftOf (λ w. w ≡ []) made
+pub none_draft : (made : Sketch) → ((w : List Label) → Accepts made w ↔ (w ≡ [])) →
+    IsDraftOf (λ w. w ≡ []) made
 none_draft made h = record {
   exact = λ w. ((λ a. ap derived_labels ((h w).0 a)), (λ q. (h w).1 (derived_injective w [] q)));
   plain = λ w a. subst (λ (z : List Label). ArePlain z) (sym ((h w).0 a)) refl;
 }
 
-pub letter_draft : (made : Sketch) (label : Label) → ((w : List Label) → Accepts made w ↔ (w ≡ label ∷ [])) → IsTrue (is_plain_label label) → IsDraftOf (λ w. w ≡ derived_label label ∷ []) made
+pub letter_draft : (made : Sketch) (label : Label) →
+    ((w : List Label) → Accepts made w ↔ (w ≡ label ∷ [])) → IsTrue (is_plain_label label) →
+    IsDraftOf (λ w. w ≡ derived_label label ∷ []) made
 letter_draft made label h p = record {
-  exact = λ w. ((λ a. ap derived_labels ((h w).0 a)), (λ q. (h w).1 (derived_injective w (label ∷ []) q)));
-  plain = λ w a. subst (λ (z : List Label). ArePlain z) (sym ((h w).0 a)) (and_from (is_plain_label label) true p refl);
+  exact = λ w. (
+    (λ a. ap derived_labels ((h w).0 a)),
+    (λ q. (h w).1 (derived_injective w (label ∷ []) q)),
+  );
+  plain = λ w a. subst (λ (z : List Label). ArePlain z) (sym ((h w).0 a))
+      (and_from (is_plain_label label) true p refl);
 }
 
-plain_both : (front back w : List Label) → w ≡ front ++ back → ArePlain front → ArePlain back → ArePlain w
-plain_both front back w e f b = ap (list_all is_plain_label) e ∙ list_all-append is_plain_label front back ∙ and_from (list_all is_plain_label front) (list_all is_plain_label back) f b
+plain_both : (front back w : List Label) → w ≡ front ++ back → ArePlain front →
+    ArePlain back → ArePlain w
+plain_both front back w e f b = ap (list_all is_plain_label) e
+    ∙ list_all-append is_plain_label front back
+    ∙ and_from (list_all is_plain_label front) (list_all is_plain_label back) f b
 
-pub joined_draft : (P Q : List EntryLabel → Type 0) (a b made : Sketch) → IsDraftOf P a → IsDraftOf Q b → ((w : List Label) → Accepts made w ↔ IsJoined a b w) → IsDraftOf (IsCut P Q) made
+pub joined_draft : (P Q : List EntryLabel → Type 0) (a b made : Sketch) → IsDraftOf P a →
+    IsDraftOf Q b → ((w : List Label) → Accepts made w ↔ IsJoined a b w) →
+    IsDraftOf (IsCut P Q) made
 joined_draft P Q a b made ha hb hm = record {
   exact = λ w. (
     (λ h. let j : IsJoined a b w = (hm w).0 h in
-        record { front = derived_labels j.front; back = derived_labels j.back; whole = ap derived_labels j.whole ∙ map-append derived_label j.front j.back; first = (ha.exact j.front).0 j.first; second = (hb.exact j.back).0 j.second }),
+        record {
+          front = derived_labels j.front;
+          back = derived_labels j.back;
+          whole =
+              ap derived_labels j.whole ∙ map-append derived_label j.front j.back;
+          first =
+              (ha.exact j.front).0 j.first;
+          second = (hb.exact j.back).0 j.second;
+        }),
     (λ (c : IsCut P Q (derived_labels w)).
         (hm w).1 (record {
           front = built_labels c.front;
           back = built_labels c.back;
-          whole = sym (built_derived w) ∙ ap built_labels c.whole ∙ map-append built_label c.front c.back;
-          first = (ha.exact (built_labels c.front)).1 (subst P (sym (derived_built c.front)) c.first);
-          second = (hb.exact (built_labels c.back)).1 (subst Q (sym (derived_built c.back)) c.second);
+          whole = sym (built_derived w) ∙ ap built_labels c.whole
+              ∙ map-append built_label c.front c.back;
+          first = (ha.exact (built_labels c.front)).1
+              (subst P (sym (derived_built c.front)) c.first);
+          second = (hb.exact (built_labels c.back)).1
+              (subst Q (sym (derived_built c.back)) c.second);
         })),
   );
-  plain = λ w h. let j : IsJoined a b w = (hm w).0 h in plain_both j.front j.back w j.whole (ha.plain j.front j.first) (hb.plain j.back j.second);
+  plain = λ w h. let j : IsJoined a b w = (hm w).0 h in
+      plain_both j.front j.back w j.whole (ha.plain j.front j.first) (hb.plain j.back j.second);
 }
 
-pub more_draft : (Q : List EntryLabel → Type 0) (a b made : Sketch) → IsDraftOf Q b → ((w : List Label) → Accepts made w ↔ IsEither a b w) → IsMoreBy Q a made
+pub more_draft : (Q : List EntryLabel → Type 0) (a b made : Sketch) → IsDraftOf Q b →
+    ((w : List Label) → Accepts made w ↔ IsEither a b w) → IsMoreBy Q a made
 more_draft Q a b made hb hm = record {
   exact = λ w. (
     (λ h. elim ((hm w).0 h) [ inl q ↦ inl q | inr q ↦ inr ((hb.exact w).0 q) ]),
@@ -77,27 +106,53 @@ more_draft Q a b made hb hm = record {
   plain = λ old w h. elim ((hm w).0 h) [ inl q ↦ old w q | inr q ↦ hb.plain w q ];
 }
 
-pub same_more : (Q R : List EntryLabel → Type 0) (a made : Sketch) → IsMoreBy Q a made → ((w : List EntryLabel) → Q w ↔ R w) → IsMoreBy R a made
+pub same_more : (Q R : List EntryLabel → Type 0) (a made : Sketch) → IsMoreBy Q a made →
+    ((w : List EntryLabel) → Q w ↔ R w) → IsMoreBy R a made
 same_more Q R a made h same = record {
-  exact = λ w. ((λ x. elim ((h.exact w).0 x) [ inl q ↦ inl q | inr q ↦ inr ((same (derived_labels w)).0 q) ]), (λ x. (h.exact w).1 (elim x [ inl q ↦ inl q | inr q ↦ inr ((same (derived_labels w)).1 q) ])));
+  exact = λ w. (
+    (λ x. elim ((h.exact w).0 x) [
+      | inl q ↦ inl q
+      | inr q ↦
+          inr ((same (derived_labels w)).0 q)
+    ]),
+    (λ x. (h.exact w).1 (elim x [
+      | inl q ↦ inl q
+      | inr q ↦
+          inr ((same (derived_labels w)).1 q)
+    ])),
+  );
   plain = h.plain;
 }
 
-pub no_more : (Q : List EntryLabel → Type 0) (a : Sketch) → ((w : List EntryLabel) → Q w → ⊥) → IsMoreBy Q a a
+pub no_more : (Q : List EntryLabel → Type 0) (a : Sketch) → ((w : List EntryLabel) → Q w → ⊥) →
+    IsMoreBy Q a a
 no_more Q a none = record {
-  exact = λ w. ((λ x. inl x), (λ x. elim x [ inl q ↦ q | inr q ↦ absurd (none (derived_labels w) q) ]));
+  exact = λ w. (
+    (λ x. inl x),
+    (λ x. elim x [ inl q ↦ q | inr q ↦ absurd (none (derived_labels w) q) ]),
+  );
   plain = λ old. old;
 }
 
-pub more_added : (P Q : List EntryLabel → Type 0) (a made : Sketch) → IsDraftOf P a → IsMoreBy Q a made → IsDraftOf (λ w. P w ⊎ Q w) made
+pub more_added : (P Q : List EntryLabel → Type 0) (a made : Sketch) → IsDraftOf P a →
+    IsMoreBy Q a made → IsDraftOf (λ w. P w ⊎ Q w) made
 more_added P Q a made h m = record {
-  exact = λ w. ((λ x. elim ((m.exact w).0 x) [ inl q ↦ inl ((h.exact w).0 q) | inr q ↦ inr q ]), (λ x. (m.exact w).1 (elim x [ inl q ↦ inl ((h.exact w).1 q) | inr q ↦ inr q ])));
+  exact = λ w. (
+    (λ x. elim ((m.exact w).0 x) [ inl q ↦ inl ((h.exact w).0 q) | inr q ↦ inr q ]),
+    (λ x. (m.exact w).1 (elim x [ inl q ↦ inl ((h.exact w).1 q) | inr q ↦ inr q ])),
+  );
   plain = m.plain h.plain;
 }
 
-pub no_draft : (P : List EntryLabel → Type 0) (made : Sketch) → ((w : List Label) → Accepts made w → ⊥) → ((w : List EntryLabel) → P w → ⊥) → IsDraftOf P made
-no_draft P made h none = record { exact = λ w. ((λ a. absurd (h w a)), (λ q. absurd (none (derived_labels w) q))); plain = λ w a. absurd (h w a) }
+pub no_draft : (P : List EntryLabel → Type 0) (made : Sketch) →
+    ((w : List Label) → Accepts made w → ⊥) → ((w : List EntryLabel) → P w → ⊥) → IsDraftOf P made
+no_draft P made h none =
+    record {
+      exact = λ w. ((λ a. absurd (h w a)), (λ q. absurd (none (derived_labels w) q)));
+      plain = λ w a. absurd (h w a);
+    }
 
-pub if_ok_more : {T F : Type 0} (r : Result T F) (P Q : T → Type 0) → ((x : T) → P x → Q x) → IfOk r P → IfOk r Q
+pub if_ok_more : {T F : Type 0} (r : Result T F) (P Q : T → Type 0) → ((x : T) → P x → Q x) →
+    IfOk r P → IfOk r Q
 if_ok_more (Ok x) P Q f h = f x h
 if_ok_more (Err e) P Q f h = h

@@ -16,9 +16,11 @@ use Rattle.ap_fst.specs.declared.label.Label.{Label}
 use Rattle.ap_min.specs.Canonical.{IsCanonical}
 use Rattle.ap_compile.specs.Labels.{derived_labels}
 
--- The transducer accepts exactly the label strings that the kept entries of the sections of that kind derive.
+-- The transducer accepts exactly the label strings that the kept entries of the sections of that
+-- kind derive.
 abbrev pub AcceptsStrings : Dictionary → Direction → Kind → Machine → Type 0
-AcceptsStrings d direction kind m = (w : List Label) → AcceptsLabels m w ↔ Strings d direction kind (derived_labels w)
+AcceptsStrings d direction kind m = (w : List Label) →
+    AcceptsLabels m w ↔ Strings d direction kind (derived_labels w)
 
 -- At most one edge with a label leaves each state of each section.
 pub record AreDeterministic (c : Parts) : Type 0 where
@@ -39,8 +41,9 @@ abbrev pub way_of : Direction → Way
 way_of Lr = told.Lr
 way_of Rl = told.Rl
 
--- A compiled dictionary of these sections, with the alphabet closed under case partners and the direction told. Its sections
--- are trimmed, have no empty cycle and no empty side, and at most one edge per state and label; and they are canonical.
+-- A compiled dictionary of these sections, with the alphabet closed under case partners and the
+-- direction told. Its sections are trimmed, have no empty cycle and no empty side, and at most one
+-- edge per state and label; and they are canonical.
 pub record IsCompiledFrom (d : Dictionary) (direction : Direction) (c : Parts) : Type 0 where
   pub alphabet : IsClosure d.alphabet c.alphabet
   pub way : c.way ≡ way_of direction
@@ -54,15 +57,18 @@ pub record IsCompiledFrom (d : Dictionary) (direction : Direction) (c : Parts) :
 
 -- The dictionaries derive the same label strings in each kind of section.
 abbrev pub HaveSameStrings : Dictionary → Dictionary → Direction → Type 0
-HaveSameStrings d e direction = (kind : Kind) (labels : List EntryLabel) → Strings d direction kind labels ↔ Strings e direction kind labels
+HaveSameStrings d e direction = (kind : Kind) (labels : List EntryLabel) →
+    Strings d direction kind labels ↔ Strings e direction kind labels
 
 -- The alphabets have one closure under case partners.
 abbrev pub HaveOneClosure : List ℕ → List ℕ → Type 0
 HaveOneClosure a b = (c : ℕ) → is_in_closure a c ≡ is_in_closure b c
 
--- No transducer with at most one edge per state and label that accepts the strings of that kind has fewer states.
+-- No transducer with at most one edge per state and label that accepts the strings of that kind has
+-- fewer states.
 abbrev pub IsLeast : Dictionary → Direction → Kind → Machine → Type 0
-IsLeast d direction kind m = (other : Machine) → IsMachine other → IsDeterministic other → AcceptsStrings d direction kind other → m.states ≤ other.states
+IsLeast d direction kind m = (other : Machine) → IsMachine other → IsDeterministic other →
+    AcceptsStrings d direction kind other → m.states ≤ other.states
 
 pub record AreLeast (d : Dictionary) (direction : Direction) (c : Parts) : Type 0 where
   pub standard_least : IsLeast d direction Standard c.standard

@@ -20,7 +20,8 @@ pub record IsDraftOf (P : List EntryLabel → Type 0) (draft : Sketch) : Type 0 
 -- The second draft accepts the strings of the first and these, whose labels are plain.
 pub record IsMoreBy (Q : List EntryLabel → Type 0) (old new : Sketch) : Type 0 where
   pub exact : (w : List Label) → Accepts new w ↔ (Accepts old w ⊎ Q (derived_labels w))
-  pub plain : ((w : List Label) → Accepts old w → ArePlain w) → (w : List Label) → Accepts new w → ArePlain w
+  pub plain : ((w : List Label) → Accepts old w → ArePlain w) → (w : List Label) →
+      Accepts new w → ArePlain w
 
 -- labels of the first, and then labels of the second
 pub record IsCut (P Q : List EntryLabel → Type 0) (w : List EntryLabel) : Type 0 where
@@ -31,27 +32,32 @@ pub record IsCut (P Q : List EntryLabel → Type 0) (w : List EntryLabel) : Type
   pub second : Q back
 
 -- one of the items has this with the labels
-pub record Any {X : Type 0} (Q : X → List EntryLabel → Type 0) (items : List X) (labels : List EntryLabel) : Type 0 where
+pub record Any {X : Type 0} (Q : X → List EntryLabel → Type 0) (items : List X)
+    (labels : List EntryLabel) : Type 0 where
   pub item : X
   pub listed : IsIn item items
   pub holds : Q item labels
 
 -- the entry is kept and derives the labels
-pub record Spells (d : Dictionary) (direction : Direction) (entry : Entry) (labels : List EntryLabel) : Type 0 where
+pub record Spells (d : Dictionary) (direction : Direction) (entry : Entry)
+    (labels : List EntryLabel) : Type 0 where
   pub kept : IsTrue (is_kept direction entry)
   pub derived : Derives d direction entry.parts labels
 
 -- a kept entry of the section, which is of that kind, derives the labels
-pub record SpellsIn (d : Dictionary) (direction : Direction) (kind : Kind) (section : Section) (labels : List EntryLabel) : Type 0 where
+pub record SpellsIn (d : Dictionary) (direction : Direction) (kind : Kind) (section : Section)
+    (labels : List EntryLabel) : Type 0 where
   pub of_kind : section.kind ≡ kind
   pub spells : Any (Spells d direction) section.entries labels
 
 -- a kept entry of the paradigm of that number derives the labels
-pub record SpellsAt (d : Dictionary) (direction : Direction) (n : ℕ) (labels : List EntryLabel) : Type 0 where
+pub record SpellsAt (d : Dictionary) (direction : Direction) (n : ℕ)
+    (labels : List EntryLabel) : Type 0 where
   pub pardef : Pardef
   pub at : slice_get d.pardefs n ≡ Some pardef
   pub spells : Any (Spells d direction) pardef.entries labels
 
 -- drafts of the first paradigms, in order
 pub record AreDrafts (d : Dictionary) (direction : Direction) (drafts : List Sketch) : Type 0 where
-  pub each : (n : ℕ) (draft : Sketch) → slice_get drafts n ≡ Some draft → IsDraftOf (SpellsAt d direction n) draft
+  pub each : (n : ℕ) (draft : Sketch) → slice_get drafts n ≡ Some draft →
+      IsDraftOf (SpellsAt d direction n) draft

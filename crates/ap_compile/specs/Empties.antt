@@ -21,7 +21,8 @@ pub record IsEmptyEntry (d : Dictionary) (direction : Direction) (entry : Entry)
   pub silent : IsSilent d direction entry.parts
 
 -- one of the entries is such
-pub record HasEmptyEntry (d : Dictionary) (direction : Direction) (entries : List Entry) : Type 0 where
+pub record HasEmptyEntry (d : Dictionary) (direction : Direction)
+    (entries : List Entry) : Type 0 where
   pub entry : Entry
   pub listed : IsIn entry entries
   pub empty : IsEmptyEntry d direction entry
@@ -34,10 +35,12 @@ pub record IsEmptyAt (d : Dictionary) (direction : Direction) (n : ℕ) : Type 0
 
 -- for each of the first paradigms whether it has such an entry
 pub record AreEmpties (d : Dictionary) (direction : Direction) (empties : List Bool) : Type 0 where
-  pub each : (n : ℕ) (empty : Bool) → slice_get empties n ≡ Some empty → IsTrue empty ↔ IsEmptyAt d direction n
+  pub each : (n : ℕ) (empty : Bool) → slice_get empties n ≡ Some empty →
+      IsTrue empty ↔ IsEmptyAt d direction n
 
 -- the first such entry begins on the line
-pub record IsFirstEmpty (d : Dictionary) (direction : Direction) (entries : List Entry) (line : ℕ) : Type 0 where
+pub record IsFirstEmpty (d : Dictionary) (direction : Direction) (entries : List Entry)
+    (line : ℕ) : Type 0 where
   pub before : List Entry
   pub entry : Entry
   pub after : List Entry

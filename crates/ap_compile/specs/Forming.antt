@@ -29,7 +29,9 @@ pub record IsOfSpan (first end : ℕ) (string : List Symbol) : Type 0 where
 abbrev pub range_first : Range → ℕ
 range_first r = r.first
 
--- the codes before this one that are not before the first of range `i` lie in one of the ranges below `i`: it is 0 or
--- ends one of those
+-- the codes before this one that are not before the first of range `i` lie in one of the ranges
+-- below `i`: it is 0 or ends one of those
 abbrev pub IsCovered : List Range → ℕ → ℕ → Type 0
-IsCovered ranges i next = (next ≡ 0) ⊎ ((k : ℕ) × (k < i) × (next ≡ (get_or ranges k (record { first = 0; last = 0 })).last + 1))
+IsCovered ranges i next =
+    (next ≡ 0) ⊎ ((k : ℕ) × (k < i)
+    × (next ≡ (get_or ranges k (record { first = 0; last = 0 })).last + 1))

@@ -28,7 +28,8 @@ pub record HasPlace (entries : List Entry) (places : List Place) (entry : Entry)
   pub at : IsPlace entries place entry
 
 -- the entry at the place is kept and derives the labels
-pub record SpellsFrom (d : Dictionary) (direction : Direction) (entries : List Entry) (place : Place) (labels : List EntryLabel) : Type 0 where
+pub record SpellsFrom (d : Dictionary) (direction : Direction) (entries : List Entry)
+    (place : Place) (labels : List EntryLabel) : Type 0 where
   pub entry : Entry
   pub at : IsPlace entries place entry
   pub spells : Spells d direction entry labels
@@ -43,19 +44,23 @@ pub record Tells (draft : Sketch) (labels : List EntryLabel) : Type 0 where
 abbrev pub endings : List Level → List EntryPart
 endings levels = map (λ (l : Level). l.ending.now) levels
 
--- what entries of the innermost of these levels share at their end: its part, then those of the levels around it, from the
--- innermost on, and then these
+-- what entries of the innermost of these levels share at their end: its part, then those of the
+-- levels around it, from the innermost on, and then these
 abbrev pub shared : List EntryPart → List EntryPart → List EntryPart
 shared back [] = back
 shared back (part ∷ parts) = shared (part ∷ back) parts
 
--- labels of what stands before the shared parts of one of the levels, and then labels that these derive
-abbrev pub InLevels : Dictionary → Direction → List EntryPart → List Level → List EntryLabel → Type 0
+-- labels of what stands before the shared parts of one of the levels, and then labels that these
+-- derive
+abbrev pub InLevels : Dictionary → Direction → List EntryPart → List Level →
+    List EntryLabel → Type 0
 InLevels d direction back [] labels = ⊥
 InLevels d direction back (l ∷ levels) labels =
-    IsCut (Tells l.fronts) (Derives d direction (l.ending.now ∷ back)) labels ⊎ InLevels d direction (l.ending.now ∷ back) levels labels
+    IsCut (Tells l.fronts) (Derives d direction (l.ending.now ∷ back)) labels
+    ⊎ InLevels d direction (l.ending.now ∷ back) levels labels
 
--- What a gathering accepts as a whole: what the draft of those done with accepts, or labels in its levels.
+-- What a gathering accepts as a whole: what the draft of those done with accepts, or labels in its
+-- levels.
 abbrev pub Gathers : Dictionary → Direction → Gathering → List EntryLabel → Type 0
 Gathers d direction g labels = Tells g.made labels ⊎ InLevels d direction [] g.levels.items labels
 
@@ -69,15 +74,18 @@ pub record IsPlainGathering (g : Gathering) : Type 0 where
   pub fronts : (l : Level) → IsIn l g.levels.items → IsPlainDraft l.fronts
 
 -- The gathering accepts exactly these label strings, and their labels are plain.
-pub record IsGatheringOf (d : Dictionary) (direction : Direction) (P : List EntryLabel → Type 0) (g : Gathering) : Type 0 where
+pub record IsGatheringOf (d : Dictionary) (direction : Direction) (P : List EntryLabel → Type 0)
+    (g : Gathering) : Type 0 where
   pub exact : (labels : List EntryLabel) → Gathers d direction g labels ↔ P labels
   pub plain : IsPlainGathering g
 
--- The second gathering accepts more than the first, before what the innermost level shares: there is no level, and it is
--- among what is done with; or it stands before the part of that level.
+-- The second gathering accepts more than the first, before what the innermost level shares: there
+-- is no level, and it is among what is done with; or it stands before the part of that level.
 pub data IsGrown (old : Gathering) (more : Sketch) (new : Gathering) : Type 0 where
-  among_made : old.levels.items ≡ [] → new.levels.items ≡ [] → ((w : List Label) → Accepts new.made w ↔ IsEither old.made more w) → IsGrown old more new
-  before_shared : (levels : List Level) (l m : Level) → old.levels.items ≡ levels ++ l ∷ [] → new.levels.items ≡ levels ++ m ∷ [] → new.made ≡ old.made → m.ending.now ≡ l.ending.now
+  among_made : old.levels.items ≡ [] → new.levels.items ≡ [] →
+      ((w : List Label) → Accepts new.made w ↔ IsEither old.made more w) → IsGrown old more new
+  before_shared : (levels : List Level) (l m : Level) → old.levels.items ≡ levels ++ l ∷ [] →
+      new.levels.items ≡ levels ++ m ∷ [] → new.made ≡ old.made → m.ending.now ≡ l.ending.now
       → ((w : List Label) → Accepts m.fronts w ↔ IsEither l.fronts more w) → IsGrown old more new
 
 -- each of the parts is sound where so many paradigms stand above

@@ -50,7 +50,8 @@ fn compiled_section(
     requires sound { IsSound dictionary.now }
     requires drafts { AreDrafts dictionary.now direction drafts.now }
     requires count { length drafts.now ≡ length dictionary.now.pardefs }
-    requires none { HasEmptyEntry dictionary.now direction (section_entries dictionary.now.sections) → ⊥ }
+    requires none { HasEmptyEntry dictionary.now direction
+        (section_entries dictionary.now.sections) → ⊥ }
     ensures strings { IfOk result (λ fst. AcceptsStrings dictionary.now direction kind fst) }
     ensures section { IfOk result (λ fst. IsSection fst) }
     ensures canonical { IfOk result (λ fst. IsCanonical fst) }
@@ -76,7 +77,8 @@ fn compiled(
     direction: Direction,
 ) -> Result<Compiled, Memory>
     requires sound { IsSound dictionary.now }
-    requires none { HasEmptyEntry dictionary.now direction (section_entries dictionary.now.sections) → ⊥ }
+    requires none { HasEmptyEntry dictionary.now direction
+        (section_entries dictionary.now.sections) → ⊥ }
     ensures { IfOk result (λ made. IsCompiledFrom dictionary.now direction made) }
 {
     let alphabet = closure(alloc, &dictionary.alphabet)?;
@@ -99,10 +101,10 @@ fn compiled(
 /// The dictionary as four transducers, one for each kind of section, in a direction. Each is the
 /// canonical one of exactly the label strings that the kept entries of its sections derive (the
 /// Apertium dictionary format), so that none with at most one edge per state and label has fewer
-/// states; from right to left the sides of each label change places. The alphabet is the dictionary's,
-/// closed under case partners, in ascending order, and the compiled dictionary tells the direction. It
-/// is refused exactly where a kept entry of a section derives labels with an empty input side, but for
-/// want of memory.
+/// states; from right to left the sides of each label change places. The alphabet is the
+/// dictionary's, closed under case partners, in ascending order, and the compiled dictionary tells
+/// the direction. It is refused exactly where a kept entry of a section derives labels with an
+/// empty input side, but for want of memory.
 pub fn compile(
     alloc: Global,
     dictionary: &Dictionary,
@@ -110,8 +112,11 @@ pub fn compile(
 ) -> Result<Compiled, CompileRefusal>
     requires { IsSound dictionary.now }
     ensures made { IfOk result (λ made. IsCompiledFrom dictionary.now direction made) }
-    ensures none { IfOk result (λ made. HasEmptyEntry dictionary.now direction (section_entries dictionary.now.sections) → ⊥) }
-    ensures refused { (line : ℕ) → result ≡ Err (EmptySide line) → IsFirstEmpty dictionary.now direction (section_entries dictionary.now.sections) line }
+    ensures none { IfOk result
+        (λ made. HasEmptyEntry dictionary.now direction
+        (section_entries dictionary.now.sections) → ⊥) }
+    ensures refused { (line : ℕ) → result ≡ Err (EmptySide line) →
+        IsFirstEmpty dictionary.now direction (section_entries dictionary.now.sections) line }
 {
     match first_empty(alloc, direction, dictionary)? {
         Some(line) => Err(CompileRefusal::EmptySide { line }),

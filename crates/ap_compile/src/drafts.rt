@@ -63,7 +63,8 @@ fn faced_draft(
 ) -> Result<Draft, Memory>
     requires left { IsTrue (list_all is_entry_symbol left.now) }
     requires right { IsTrue (list_all is_entry_symbol right.now) }
-    ensures { IfOk result (λ made. IsDraftOf (λ w. w ≡ facing direction (paired left.now right.now)) made) }
+    ensures { IfOk result (λ made. IsDraftOf
+        (λ w. w ≡ facing direction (paired left.now right.now)) made) }
 {
     match direction {
         Direction::Lr => words_draft(alloc, left.symbols(), right.symbols()),
@@ -79,7 +80,8 @@ pub fn part_draft(
     part: &EntryPart,
 ) -> Result<Draft, Memory>
     requires { IsTrue (is_sound_part (length drafts.now) part.now) }
-    ensures { IfOk result (λ made. (d : Lexicon) → AreDrafts d direction drafts.now → IsDraftOf (Derives d direction (part.now ∷ [])) made) }
+    ensures { IfOk result (λ made. (d : Lexicon) → AreDrafts d direction drafts.now →
+        IsDraftOf (Derives d direction (part.now ∷ [])) made) }
 {
     match part {
         EntryPart::Identity(word) => faced_draft(alloc, direction, word, word),
@@ -100,7 +102,8 @@ pub fn parts_draft(
     parts: &[EntryPart],
 ) -> Result<Draft, Memory>
     requires { IsTrue (list_all (is_sound_part (length drafts.now)) parts.now) }
-    ensures { IfOk result (λ made. (d : Lexicon) → AreDrafts d direction drafts.now → IsDraftOf (Derives d direction parts.now) made) }
+    ensures { IfOk result (λ made. (d : Lexicon) → AreDrafts d direction drafts.now →
+        IsDraftOf (Derives d direction parts.now) made) }
 {
     let mut made = Draft::empty(alloc)?;
     for part in parts {

@@ -25,7 +25,8 @@ fn reads_nothing(direction: Direction, left: &Word, right: &Word) -> bool
 /// Whether the part derives labels with an empty input side. The list says it of the paradigms.
 fn is_part_silent(direction: Direction, empties: &[bool], part: &EntryPart) -> bool
     requires { IsTrue (is_sound_part (length empties.now) part.now) }
-    ensures { (d : Lexicon) → AreEmpties d direction empties.now → IsTrue result ↔ IsSilent d direction (part.now ∷ []) }
+    ensures { (d : Lexicon) → AreEmpties d direction empties.now →
+        IsTrue result ↔ IsSilent d direction (part.now ∷ []) }
 {
     match part {
         EntryPart::Identity(word) => reads_nothing(direction, word, word),
@@ -37,7 +38,8 @@ fn is_part_silent(direction: Direction, empties: &[bool], part: &EntryPart) -> b
 
 fn are_parts_silent(direction: Direction, empties: &[bool], parts: &[EntryPart]) -> bool
     requires { IsTrue (list_all (is_sound_part (length empties.now)) parts.now) }
-    ensures { (d : Lexicon) → AreEmpties d direction empties.now → IsTrue result ↔ IsSilent d direction parts.now }
+    ensures { (d : Lexicon) → AreEmpties d direction empties.now →
+        IsTrue result ↔ IsSilent d direction parts.now }
 {
     for part in parts {
         if !is_part_silent(direction, empties, part) {
@@ -49,7 +51,8 @@ fn are_parts_silent(direction: Direction, empties: &[bool], parts: &[EntryPart])
 
 fn is_entry_empty(direction: Direction, empties: &[bool], entry: &Entry) -> bool
     requires { IsTrue (is_sound_entry (length empties.now) entry.now) }
-    ensures { (d : Lexicon) → AreEmpties d direction empties.now → IsTrue result ↔ IsEmptyEntry d direction entry.now }
+    ensures { (d : Lexicon) → AreEmpties d direction empties.now →
+        IsTrue result ↔ IsEmptyEntry d direction entry.now }
 {
     is_entry_kept(direction, entry) && are_parts_silent(direction, empties, entry.parts.as_slice())
 }
@@ -57,7 +60,9 @@ fn is_entry_empty(direction: Direction, empties: &[bool], entry: &Entry) -> bool
 /// The line of the first of the entries that is kept and derives labels with an empty input side.
 fn first_empty_entry(direction: Direction, empties: &[bool], entries: &[Entry]) -> Option<u64>
     requires { IsTrue (list_all (is_sound_entry (length empties.now)) entries.now) }
-    ensures { (d : Lexicon) → AreEmpties d direction empties.now → MatchOption result (HasEmptyEntry d direction entries.now → ⊥) (λ line. IsFirstEmpty d direction entries.now line) }
+    ensures { (d : Lexicon) → AreEmpties d direction empties.now →
+        MatchOption result (HasEmptyEntry d direction entries.now → ⊥)
+        (λ line. IsFirstEmpty d direction entries.now line) }
 {
     for entry in entries {
         if is_entry_empty(direction, empties, entry) {
@@ -86,8 +91,12 @@ fn paradigm_empties(
 }
 
 fn first_empty_in(direction: Direction, empties: &[bool], sections: &[Section]) -> Option<u64>
-    requires { IsTrue (list_all (λ (section : Section). list_all (is_sound_entry (length empties.now)) section.entries) sections.now) }
-    ensures { (d : Lexicon) → AreEmpties d direction empties.now → MatchOption result (HasEmptyEntry d direction (section_entries sections.now) → ⊥) (λ line. IsFirstEmpty d direction (section_entries sections.now) line) }
+    requires { IsTrue (list_all
+        (λ (section : Section). list_all (is_sound_entry (length empties.now)) section.entries)
+        sections.now) }
+    ensures { (d : Lexicon) → AreEmpties d direction empties.now →
+        MatchOption result (HasEmptyEntry d direction (section_entries sections.now) → ⊥)
+        (λ line. IsFirstEmpty d direction (section_entries sections.now) line) }
 {
     for section in sections {
         if let Some(line) = first_empty_entry(direction, empties, section.entries.as_slice()) {
@@ -105,7 +114,10 @@ pub fn first_empty(
     dictionary: &Dictionary,
 ) -> Result<Option<u64>, Memory>
     requires { IsSound dictionary.now }
-    ensures { IfOk result (λ first. MatchOption first (HasEmptyEntry dictionary.now direction (section_entries dictionary.now.sections) → ⊥) (λ line. IsFirstEmpty dictionary.now direction (section_entries dictionary.now.sections) line)) }
+    ensures { IfOk result (λ first. MatchOption first
+        (HasEmptyEntry dictionary.now direction (section_entries dictionary.now.sections) → ⊥)
+        (λ line. IsFirstEmpty dictionary.now direction
+        (section_entries dictionary.now.sections) line)) }
 {
     let empties = paradigm_empties(alloc, direction, dictionary)?;
     Ok(first_empty_in(

@@ -15,7 +15,8 @@ use std::alloc::Global;
 
 /// Accepts the symbol with itself.
 fn symbol_draft(alloc: Global, symbol: &Symbol) -> Result<Draft, Memory>
-    ensures { IfOk result (λ made. IsTrue (is_one_symbol symbol.now) → IsDraftOf (OfStrings (λ s. s ≡ symbol.now ∷ [])) made) }
+    ensures { IfOk result (λ made. IsTrue (is_one_symbol symbol.now) →
+        IsDraftOf (OfStrings (λ s. s ≡ symbol.now ∷ [])) made) }
 {
     let label = Label {
         left: Some(symbol.copy(alloc)?),
@@ -62,15 +63,16 @@ fn copied(alloc: Global, ranges: &[Range]) -> Result<Vec<Range>, Memory>
 /// The ranges in the order of their first characters.
 fn sorted_ranges(alloc: Global, ranges: &[Range]) -> Result<Vec<Range>, Memory>
     ensures sorted { IfOk result (λ sorted. IsNonDecreasingBy range_first sorted.items) }
-    ensures same { IfOk result (λ sorted. (c : ℕ) → IsTrue (list_any (spans c) sorted.items) ↔ IsTrue (list_any (spans c) ranges.now)) }
+    ensures same { IfOk result (λ sorted. (c : ℕ) → IsTrue (list_any (spans c) sorted.items)
+        ↔ IsTrue (list_any (spans c) ranges.now)) }
 {
     let mut sorted = copied(alloc, ranges)?;
     sorted.sort_unstable_by_key(|range| range.first as u32);
     Ok(sorted)
 }
 
-/// Accepts each character of the ranges with itself, each once: what an earlier range held is passed
-/// over.
+/// Accepts each character of the ranges with itself, each once: what an earlier range held is
+/// passed over.
 fn ranges_draft(alloc: Global, ranges: &[Range]) -> Result<Draft, Memory>
     requires { IsNonDecreasingBy range_first ranges.now }
     ensures { IfOk result (λ made. IsDraftOf (OfStrings (IsOfClass ranges.now)) made) }
@@ -96,7 +98,8 @@ fn class_draft(alloc: Global, ranges: &[Range]) -> Result<Draft, Memory>
 /// Accepts a string of each expression, one after another.
 #[cycle(form)]
 fn sequence_draft(alloc: Global, es: &[Expr]) -> Result<Draft, Memory>
-    ensures { IfOk result (λ made. IsTrue (are_sound_forms (forms_of (map plain es.now))) → IsDraftOf (OfStrings (LangAll (forms_of (map plain es.now)))) made) }
+    ensures { IfOk result (λ made. IsTrue (are_sound_forms (forms_of (map plain es.now))) →
+        IsDraftOf (OfStrings (LangAll (forms_of (map plain es.now)))) made) }
 {
     let mut made = Draft::empty(alloc)?;
     for e in es {
@@ -108,7 +111,8 @@ fn sequence_draft(alloc: Global, es: &[Expr]) -> Result<Draft, Memory>
 /// Accepts a string of one of the expressions.
 #[cycle(form)]
 fn choice_draft(alloc: Global, es: &[Expr]) -> Result<Draft, Memory>
-    ensures { IfOk result (λ made. IsTrue (are_sound_forms (forms_of (map plain es.now))) → IsDraftOf (OfStrings (LangSome (forms_of (map plain es.now)))) made) }
+    ensures { IfOk result (λ made. IsTrue (are_sound_forms (forms_of (map plain es.now))) →
+        IsDraftOf (OfStrings (LangSome (forms_of (map plain es.now)))) made) }
 {
     let mut made = Draft::nothing(alloc)?;
     for e in es {
@@ -117,11 +121,12 @@ fn choice_draft(alloc: Global, es: &[Expr]) -> Result<Draft, Memory>
     Ok(made)
 }
 
-/// Accepts the strings of the expression, which is sound, each symbol with itself. A class has a move for each
-/// character that it holds.
+/// Accepts the strings of the expression, which is sound, each symbol with itself. A class has a
+/// move for each character that it holds.
 #[cycle(form)]
 pub fn expression_draft(alloc: Global, e: &Expr) -> Result<Draft, Memory>
-    ensures { IfOk result (λ made. IsTrue (is_sound_form (plain e.now)) → IsDraftOf (OfStrings (Lang (plain e.now))) made) }
+    ensures { IfOk result (λ made. IsTrue (is_sound_form (plain e.now)) →
+        IsDraftOf (OfStrings (Lang (plain e.now))) made) }
 {
     match e {
         Expr::One(symbol) => symbol_draft(alloc, symbol),

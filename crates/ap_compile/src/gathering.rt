@@ -23,9 +23,9 @@ struct Level<'a> {
     fronts: Draft,
 }
 
-/// Entries that are gathered by the parts that they end with: the draft of those that are done with,
-/// and levels for those that end alike, from the last part inwards. A part that is shared is drafted
-/// once, when its level is closed.
+/// Entries that are gathered by the parts that they end with: the draft of those that are done
+/// with, and levels for those that end alike, from the last part inwards. A part that is shared is
+/// drafted once, when its level is closed.
 #[derive(Drop)]
 struct Gathering<'a> {
     made: Draft,
@@ -53,7 +53,8 @@ fn is_same_part(a: &EntryPart, b: &EntryPart) -> bool
     }
 }
 
-/// What stands before the first paradigm among the parts, and the rest, which other entries may share.
+/// What stands before the first paradigm among the parts, and the rest, which other entries may
+/// share.
 fn split_tail(parts: &[EntryPart]) -> (&[EntryPart], &[EntryPart])
     ensures { parts.now ≡ result.0.now ++ result.1.now }
 {
@@ -68,7 +69,8 @@ fn split_tail(parts: &[EntryPart]) -> (&[EntryPart], &[EntryPart])
 /// How many of the levels, from the outermost on, are the last parts of these.
 fn agreed(levels: &[Level<'_>], parts: &[EntryPart]) -> usize
     ensures most { result ≤ length levels.now }
-    ensures front { (front : List LexiconPart) × (parts.now ≡ front ++ shared [] (take result (endings levels.now))) }
+    ensures front { (front : List LexiconPart)
+        × (parts.now ≡ front ++ shared [] (take result (endings levels.now))) }
 {
     let mut rest = parts;
     for count in 0..levels.len() {
@@ -83,8 +85,8 @@ fn agreed(levels: &[Level<'_>], parts: &[EntryPart]) -> usize
     levels.len()
 }
 
-/// Labels more, before the shared parts of the innermost level; where there is no level, among those
-/// that are done with.
+/// Labels more, before the shared parts of the innermost level; where there is no level, among
+/// those that are done with.
 fn with_more<'a>(gathering: Gathering<'a>, more: Draft) -> Result<Gathering<'a>, Memory>
     ensures { IfOk result (λ all. IsGrown gathering.entry more all) }
 {
@@ -107,7 +109,10 @@ fn closed(
     level: Level<'_>,
 ) -> Result<Draft, Memory>
     requires { IsTrue (is_sound_part (length drafts.now) level.ending.now) }
-    ensures { IfOk result (λ made. (d : Lexicon) → AreDrafts d direction drafts.now → IsPlainDraft level.entry.fronts → IsDraftOf (IsCut (Tells level.entry.fronts) (Derives d direction (level.entry.ending.now ∷ []))) made) }
+    ensures { IfOk result (λ made. (d : Lexicon) → AreDrafts d direction drafts.now →
+        IsPlainDraft level.entry.fronts →
+        IsDraftOf (IsCut (Tells level.entry.fronts)
+        (Derives d direction (level.entry.ending.now ∷ []))) made) }
 {
     let Level { ending, fronts } = level;
     let part = part_draft(alloc, direction, drafts, ending)?;
@@ -123,8 +128,11 @@ fn with_last_closed<'a>(
     gathering: Gathering<'a>,
 ) -> Result<Gathering<'a>, Memory>
     requires { AreSoundParts (length drafts.now) (endings gathering.levels.items) }
-    ensures same { IfOk result (λ all. (d : Lexicon) → AreDrafts d direction drafts.now → IsPlainGathering gathering.entry → IsGatheringOf d direction (Gathers d direction gathering.entry) all) }
-    ensures endings { IfOk result (λ all. endings all.levels.items ≡ take (length gathering.entry.levels.items - 1) (endings gathering.entry.levels.items)) }
+    ensures same { IfOk result (λ all. (d : Lexicon) → AreDrafts d direction drafts.now →
+        IsPlainGathering gathering.entry →
+        IsGatheringOf d direction (Gathers d direction gathering.entry) all) }
+    ensures endings { IfOk result (λ all. endings all.levels.items
+        ≡ take (length gathering.entry.levels.items - 1) (endings gathering.entry.levels.items)) }
 {
     let Gathering { made, mut levels } = gathering;
     let Some(level) = levels.pop() else {
@@ -145,8 +153,11 @@ fn closed_to<'a>(
 ) -> Result<Gathering<'a>, Memory>
     requires sound { AreSoundParts (length drafts.now) (endings gathering.levels.items) }
     requires count { count ≤ length gathering.levels.items }
-    ensures same { IfOk result (λ all. (d : Lexicon) → AreDrafts d direction drafts.now → IsPlainGathering gathering.entry → IsGatheringOf d direction (Gathers d direction gathering.entry) all) }
-    ensures endings { IfOk result (λ all. endings all.levels.items ≡ take count (endings gathering.entry.levels.items)) }
+    ensures same { IfOk result (λ all. (d : Lexicon) → AreDrafts d direction drafts.now →
+        IsPlainGathering gathering.entry →
+        IsGatheringOf d direction (Gathers d direction gathering.entry) all) }
+    ensures endings { IfOk result (λ all. endings all.levels.items
+        ≡ take count (endings gathering.entry.levels.items)) }
 {
     let more = gathering.levels.len() - count;
     let mut all = gathering;
@@ -162,8 +173,11 @@ fn with_level<'a>(
     gathering: Gathering<'a>,
     ending: &'a EntryPart,
 ) -> Result<Gathering<'a>, Memory>
-    ensures same { IfOk result (λ all. (d : Lexicon) (direction : Direction) → IsPlainGathering gathering.entry → IsGatheringOf d direction (Gathers d direction gathering.entry) all) }
-    ensures endings { IfOk result (λ all. endings all.levels.items ≡ endings gathering.entry.levels.items ++ ending.now ∷ []) }
+    ensures same { IfOk result (λ all. (d : Lexicon) (direction : Direction) →
+        IsPlainGathering gathering.entry →
+        IsGatheringOf d direction (Gathers d direction gathering.entry) all) }
+    ensures endings { IfOk result (λ all. endings all.levels.items
+        ≡ endings gathering.entry.levels.items ++ ending.now ∷ []) }
 {
     let Gathering { made, mut levels } = gathering;
     let fronts = Draft::nothing(alloc)?;
@@ -177,8 +191,11 @@ fn opened_to<'a>(
     gathering: Gathering<'a>,
     tail: &'a [EntryPart],
 ) -> Result<Gathering<'a>, Memory>
-    requires { (front : List LexiconPart) × (tail.now ≡ front ++ shared [] (endings gathering.levels.items)) }
-    ensures same { IfOk result (λ all. (d : Lexicon) (direction : Direction) → IsPlainGathering gathering.entry → IsGatheringOf d direction (Gathers d direction gathering.entry) all) }
+    requires { (front : List LexiconPart)
+        × (tail.now ≡ front ++ shared [] (endings gathering.levels.items)) }
+    ensures same { IfOk result (λ all. (d : Lexicon) (direction : Direction) →
+        IsPlainGathering gathering.entry →
+        IsGatheringOf d direction (Gathers d direction gathering.entry) all) }
     ensures shared { IfOk result (λ all. shared [] (endings all.levels.items) ≡ tail.now) }
 {
     let first = gathering.levels.len();
@@ -200,8 +217,12 @@ fn with_entry<'a>(
 ) -> Result<Gathering<'a>, Memory>
     requires entry { IsTrue (is_sound_entry (length drafts.now) entry.now) }
     requires sound { AreSoundParts (length drafts.now) (endings gathering.levels.items) }
-    ensures sound { IfOk result (λ all. AreSoundParts (length drafts.now) (endings all.levels.items)) }
-    ensures strings { IfOk result (λ all. (d : Lexicon) → AreDrafts d direction drafts.now → IsPlainGathering gathering.entry → IsGatheringOf d direction (λ w. Gathers d direction gathering.entry w ⊎ Spells d direction entry.now w) all) }
+    ensures sound { IfOk result
+        (λ all. AreSoundParts (length drafts.now) (endings all.levels.items)) }
+    ensures strings { IfOk result (λ all. (d : Lexicon) → AreDrafts d direction drafts.now →
+        IsPlainGathering gathering.entry →
+        IsGatheringOf d direction (λ w. Gathers d direction gathering.entry w
+        ⊎ Spells d direction entry.now w) all) }
 {
     if !is_entry_kept(direction, entry) {
         return Ok(gathering);
@@ -233,8 +254,12 @@ fn with_place<'a>(
 ) -> Result<Gathering<'a>, Memory>
     requires entries { IsTrue (list_all (is_sound_entry (length drafts.now)) entries.now) }
     requires sound { AreSoundParts (length drafts.now) (endings gathering.levels.items) }
-    ensures sound { IfOk result (λ all. AreSoundParts (length drafts.now) (endings all.levels.items)) }
-    ensures strings { IfOk result (λ all. (d : Lexicon) → AreDrafts d direction drafts.now → IsPlainGathering gathering.entry → IsGatheringOf d direction (λ w. Gathers d direction gathering.entry w ⊎ SpellsFrom d direction entries.now place.now w) all) }
+    ensures sound { IfOk result
+        (λ all. AreSoundParts (length drafts.now) (endings all.levels.items)) }
+    ensures strings { IfOk result (λ all. (d : Lexicon) → AreDrafts d direction drafts.now →
+        IsPlainGathering gathering.entry →
+        IsGatheringOf d direction (λ w. Gathers d direction gathering.entry w
+        ⊎ SpellsFrom d direction entries.now place.now w) all) }
 {
     match entry_at(entries, place.entry) {
         None => Ok(gathering),
@@ -251,8 +276,10 @@ fn gathered<'a>(
     places: &[Place],
 ) -> Result<Gathering<'a>, Memory>
     requires { IsTrue (list_all (is_sound_entry (length drafts.now)) entries.now) }
-    ensures sound { IfOk result (λ all. AreSoundParts (length drafts.now) (endings all.levels.items)) }
-    ensures strings { IfOk result (λ all. (d : Lexicon) → AreDrafts d direction drafts.now → IsGatheringOf d direction (Any (SpellsFrom d direction entries.now) places.now) all) }
+    ensures sound { IfOk result
+        (λ all. AreSoundParts (length drafts.now) (endings all.levels.items)) }
+    ensures strings { IfOk result (λ all. (d : Lexicon) → AreDrafts d direction drafts.now →
+        IsGatheringOf d direction (Any (SpellsFrom d direction entries.now) places.now) all) }
 {
     let mut gathering = Gathering {
         made: Draft::nothing(alloc)?,
@@ -273,7 +300,8 @@ pub fn entries_draft(
     entries: &[Entry],
 ) -> Result<Draft, Memory>
     requires { IsTrue (list_all (is_sound_entry (length drafts.now)) entries.now) }
-    ensures { IfOk result (λ made. (d : Lexicon) → AreDrafts d direction drafts.now → IsDraftOf (Any (Spells d direction) entries.now) made) }
+    ensures { IfOk result (λ made. (d : Lexicon) → AreDrafts d direction drafts.now →
+        IsDraftOf (Any (Spells d direction) entries.now) made) }
 {
     let places = places_by_ending(alloc, entries)?;
     let gathering = gathered(alloc, direction, drafts, entries, places.as_slice())?;

@@ -31,7 +31,8 @@ fn paradigm_draft(
     entries: &[Entry],
 ) -> Result<Draft, Memory>
     requires { IsTrue (list_all (is_sound_entry (length drafts.now)) entries.now) }
-    ensures { IfOk result (λ made. (d : Lexicon) → AreDrafts d direction drafts.now → IsDraftOf (Any (Spells d direction) entries.now) made) }
+    ensures { IfOk result (λ made. (d : Lexicon) → AreDrafts d direction drafts.now →
+        IsDraftOf (Any (Spells d direction) entries.now) made) }
 {
     let draft = entries_draft(alloc, direction, drafts, entries)?;
     let made = small_draft(alloc, draft)?;

@@ -7,8 +7,8 @@ use ap_dix::{Entry, EntryPart};
 use ap_symbol::{Memory, Word};
 use std::alloc::Global;
 
-/// The place of an entry among others, and codes of its parts from the last one on. Entries that end
-/// alike have codes that begin alike; that is a hint alone.
+/// The place of an entry among others, and codes of its parts from the last one on. Entries that
+/// end alike have codes that begin alike; that is a hint alone.
 #[derive(Debug, Drop)]
 pub(crate) struct Place {
     pub(crate) codes: Vec<u64>,
@@ -46,7 +46,8 @@ fn codes_of(alloc: Global, parts: &[EntryPart]) -> Result<Vec<u64>, Memory> {
 
 /// The place of each of the entries, in order.
 fn places_of(alloc: Global, entries: &[Entry]) -> Result<Vec<Place>, Memory>
-    ensures { IfOk result (λ places. (entry : LexiconEntry) → IsIn entry entries.now → HasPlace entries.now places.items entry) }
+    ensures { IfOk result (λ places. (entry : LexiconEntry) → IsIn entry entries.now →
+        HasPlace entries.now places.items entry) }
 {
     let mut places = Vec::new(alloc);
     for at in 0..entries.len() {
@@ -58,7 +59,8 @@ fn places_of(alloc: Global, entries: &[Entry]) -> Result<Vec<Place>, Memory>
 
 /// The places of the entries, those that end alike side by side.
 pub(crate) fn places_by_ending(alloc: Global, entries: &[Entry]) -> Result<Vec<Place>, Memory>
-    ensures { IfOk result (λ places. (entry : LexiconEntry) → IsIn entry entries.now → HasPlace entries.now places.items entry) }
+    ensures { IfOk result (λ places. (entry : LexiconEntry) → IsIn entry entries.now →
+        HasPlace entries.now places.items entry) }
 {
     let mut places = places_of(alloc, entries)?;
     places.sort_unstable_by(|a, b| a.codes.cmp(&b.codes));

@@ -25,7 +25,8 @@ fn with_section(
     section: &Section,
 ) -> Result<Draft, Memory>
     requires { IsTrue (list_all (is_sound_entry (length drafts.now)) section.now.entries) }
-    ensures { IfOk result (λ all. (d : Lexicon) → AreDrafts d direction drafts.now → IsMoreBy (SpellsIn d direction kind section.now) made all) }
+    ensures { IfOk result (λ all. (d : Lexicon) → AreDrafts d direction drafts.now →
+        IsMoreBy (SpellsIn d direction kind section.now) made all) }
 {
     if section.kind != kind {
         return Ok(made);
@@ -42,8 +43,11 @@ fn kind_draft(
     kind: Kind,
     sections: &[Section],
 ) -> Result<Draft, Memory>
-    requires { IsTrue (list_all (λ (section : Section). list_all (is_sound_entry (length drafts.now)) section.entries) sections.now) }
-    ensures { IfOk result (λ made. (d : Lexicon) → AreDrafts d direction drafts.now → IsDraftOf (Any (SpellsIn d direction kind) sections.now) made) }
+    requires { IsTrue (list_all
+        (λ (section : Section). list_all (is_sound_entry (length drafts.now)) section.entries)
+        sections.now) }
+    ensures { IfOk result (λ made. (d : Lexicon) → AreDrafts d direction drafts.now →
+        IsDraftOf (Any (SpellsIn d direction kind) sections.now) made) }
 {
     let mut made = Draft::nothing(alloc)?;
     for section in sections {
@@ -52,8 +56,8 @@ fn kind_draft(
     Ok(made)
 }
 
-/// The transducer of the sections of a kind: the canonical one of exactly the label strings that a kept
-/// entry of such a section derives in the direction. The drafts are those of the paradigms.
+/// The transducer of the sections of a kind: the canonical one of exactly the label strings that a
+/// kept entry of such a section derives in the direction. The drafts are those of the paradigms.
 pub fn section(
     alloc: Global,
     direction: Direction,
@@ -64,7 +68,8 @@ pub fn section(
     requires sound { IsSound dictionary.now }
     requires drafts { AreDrafts dictionary.now direction drafts.now }
     requires count { length drafts.now ≡ length dictionary.now.pardefs }
-    ensures strings { IfOk result (λ fst. (w : List Label) → AcceptsLabels fst w ↔ Strings dictionary.now direction kind (derived_labels w)) }
+    ensures strings { IfOk result (λ fst. (w : List Label) →
+        AcceptsLabels fst w ↔ Strings dictionary.now direction kind (derived_labels w)) }
     ensures plain { IfOk result (λ fst. (w : List Label) → AcceptsLabels fst w → ArePlain w) }
     ensures canonical { IfOk result (λ fst. IsCanonical fst) }
 {

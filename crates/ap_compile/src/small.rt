@@ -36,8 +36,8 @@ fn determined(alloc: Global, draft: Draft) -> Result<Dfst, Memory>
     Ok(one)
 }
 
-/// The canonical transducer of what a draft accepts. Each step lets go what it is made from, so that
-/// at most two forms are held at a time. The error means want of memory.
+/// The canonical transducer of what a draft accepts. Each step lets go what it is made from, so
+/// that at most two forms are held at a time. The error means want of memory.
 pub fn canonical_form(alloc: Global, draft: Draft) -> Result<Fst, Memory>
     ensures same { IfOk result (λ fst. (w : List Label) → AcceptsLabels fst w ↔ Accepts draft w) }
     ensures canonical { IfOk result (λ fst. IsCanonical fst) }

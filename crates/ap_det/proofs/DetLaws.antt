@@ -1,4 +1,5 @@
--- What is made of all sets is a transducer with at most one edge per state and label, and accepts the same.
+-- What is made of all sets is a transducer with at most one edge per state and label, and accepts
+-- the same.
 use Rattle.std.proofs.Common.{◌≡◌, inl, inr, ◌⊎◌, ℕ, ◌<◌, ◌≤◌, zero, suc, List, [], ◌∷◌, ◌++◌, length, refl, sym, ◌∙◌, ap, subst, arith, Some}
 use Rattle.std.specs.Prelude.{◌↔◌, slice_get}
 use Rattle.std.specs.Ordering.{nat_cmp, ordering_then}
@@ -22,27 +23,39 @@ use Rattle.ap_det.proofs.Grouping.{label_itself}
 
 -- ---- the order
 
-start_less : (a b c : Ordering) → ordering_then a b ≡ Less → ordering_then a (ordering_then b c) ≡ Less
+start_less : (a b c : Ordering) → ordering_then a b ≡ Less →
+    ordering_then a (ordering_then b c) ≡ Less
 start_less Less b c h = refl
 start_less Equal b c h = ap (λ o. ordering_then o c) h
 start_less Greater b c h = cc
 
 ascends_edges : (edges : List Edge) → Ascends start_cmp edges → Ascends edge_cmp edges
 ascends_edges [] a = tt
-ascends_edges (x ∷ edges) a = (λ y i. start_less (nat_cmp x.from y.from) (label_cmp x.label y.label) (nat_cmp x.to y.to) (a.0 y i), ascends_edges edges a.1)
+ascends_edges (x ∷ edges) a = (
+  λ y i. start_less (nat_cmp x.from y.from) (label_cmp x.label y.label) (nat_cmp x.to y.to)
+      (a.0 y i),
+  ascends_edges edges a.1,
+)
 
 start_same : (d e : Edge) → start_cmp d e ≡ Less → d.from ≡ e.from → d.label ≡ e.label → ⊥
 start_same d e less from label =
     let f : nat_cmp d.from e.from ≡ Equal = cmp_same d.from e.from from in
-    let l : label_cmp d.label e.label ≡ Equal = ap (λ z. label_cmp z e.label) label ∙ label_itself e.label in
-    let both : start_cmp d e ≡ Equal = ap (λ o. ordering_then o (label_cmp d.label e.label)) f ∙ l in
+    let l : label_cmp d.label e.label ≡ Equal = ap (λ z. label_cmp z e.label) label
+    ∙ label_itself e.label in
+    let both : start_cmp d e ≡ Equal =
+    ap (λ o. ordering_then o (label_cmp d.label e.label)) f ∙ l in
     cc
 
-ascends_one : (edges : List Edge) → Ascends start_cmp edges → (d e : Edge) → IsIn d edges → IsIn e edges → d.from ≡ e.from → d.label ≡ e.label → d ≡ e
+ascends_one : (edges : List Edge) → Ascends start_cmp edges → (d e : Edge) → IsIn d edges →
+    IsIn e edges → d.from ≡ e.from → d.label ≡ e.label → d ≡ e
 ascends_one [] a d e i k from label = elim i [ ]
 ascends_one (x ∷ edges) a d e (inl p) (inl q) from label = p ∙ sym q
-ascends_one (x ∷ edges) a d e (inl p) (inr k) from label = absurd (start_same d e (subst (λ (z : Edge). start_cmp z e ≡ Less) (sym p) (a.0 e k)) from label)
-ascends_one (x ∷ edges) a d e (inr i) (inl q) from label = absurd (start_same e d (subst (λ (z : Edge). start_cmp z d ≡ Less) (sym q) (a.0 d i)) (sym from) (sym label))
+ascends_one (x ∷ edges) a d e (inl p) (inr k) from label =
+    absurd (start_same d e (subst (λ (z : Edge). start_cmp z e ≡ Less) (sym p)
+    (a.0 e k)) from label)
+ascends_one (x ∷ edges) a d e (inr i) (inl q) from label =
+    absurd (start_same e d (subst (λ (z : Edge). start_cmp z d ≡ Less) (sym q) (a.0 d i))
+    (sym from) (sym label))
 ascends_one (x ∷ edges) a d e (inr i) (inr k) from label = ascends_one edges a.1 d e i k from label
 
 -- ---- a trimmed transducer with an edge
@@ -59,29 +72,40 @@ not_in_nil : {X : Type 0} (x : X) (xs : List X) → xs ≡ [] → IsIn x xs → 
 not_in_nil {X} x xs e i = elim (subst (λ (z : List X). IsIn x z) e i) [ ]
 
 -- where one state is all, it is final
-lone_finishing : (m : Machine) → IsMachine m → IsTrimmed m → (d : Edge) → IsIn d m.edges → m.states ≤ 1 → IsFinishing m 0
+lone_finishing : (m : Machine) → IsMachine m → IsTrimmed m → (d : Edge) → IsIn d m.edges →
+    m.states ≤ 1 → IsFinishing m 0
 lone_finishing m ok t d listed few = elim (some_or_none m.finals) [
-  | inl none ↦ absurd (not_in_nil d m.edges (t.nothing (λ w h. not_in_nil h.last m.finals none h.final)).1 listed)
+  | inl none ↦ absurd (not_in_nil d m.edges
+      (t.nothing (λ w h. not_in_nil h.last m.finals none h.final)).1 listed)
   | inr some ↦
       let low : some.0 < m.states = ok.finals_in some.0 some.1 in
       let zero_is : 0 ≡ some.0 = omega arith in
       record { labels = []; last = some.0; final = some.1; walk = ends zero_is }
 ]
 
-start_finishing : (m : Machine) → IsMachine m → IsTrimmed m → (d : Edge) → IsIn d m.edges → IsFinishing m 0
+start_finishing : (m : Machine) → IsMachine m → IsTrimmed m → (d : Edge) → IsIn d m.edges →
+    IsFinishing m 0
 start_finishing m ok t d listed = elim (cases_lt 1 m.states) [
   | inl more ↦
       let r : IsReached m 1 = t.reached 1 (omega arith) more in
       let f : IsFinishing m 1 = t.finishing 1 (omega arith) more in
-      record { labels = r.labels ++ f.labels; last = f.last; final = f.final; walk = walk_then m.edges 0 1 f.last r.labels f.labels r.walk f.walk }
+      record {
+        labels = r.labels ++ f.labels;
+        last = f.last;
+        final = f.final;
+        walk =
+            walk_then m.edges 0 1 f.last r.labels f.labels r.walk f.walk;
+      }
   | inr few ↦ lone_finishing m ok t d listed few
 ]
 
-state_finishing : (m : Machine) → IsMachine m → IsTrimmed m → (d : Edge) → IsIn d m.edges → (i : ℕ) → i < m.states → IsFinishing m i
+state_finishing : (m : Machine) → IsMachine m → IsTrimmed m → (d : Edge) → IsIn d m.edges →
+    (i : ℕ) → i < m.states → IsFinishing m i
 state_finishing m ok t d listed zero lt = start_finishing m ok t d listed
 state_finishing m ok t d listed (suc i) lt = t.finishing (suc i) (omega arith) lt
 
-module _ (m made : Machine) (n : ℕ) (sets : List (List ℕ)) (s : AreSubsets m n sets made.edges made.finals) where
+module _ (m made : Machine) (n : ℕ) (sets : List (List ℕ))
+    (s : AreSubsets m n sets made.edges made.finals) where
   pub is_deterministic : IsDeterministic made
   is_deterministic = record { one = ascends_one made.edges s.ascend }
 
@@ -113,11 +137,19 @@ module _ (m made : Machine) (n : ℕ) (sets : List (List ℕ)) (s : AreSubsets m
     pub target_at : slice_get sets j ≡ Some target
     pub each : (t : ℕ) → IsIn t target → HasWalk set w t
 
-  spread : (i j : ℕ) (set : List ℕ) (w : List Label) → slice_get sets i ≡ Some set → Walk made.edges i w j → IsSpread set w j
-  spread i j set w at (ends e) = record { target = set; target_at = ap (slice_get sets) (sym e) ∙ at; each = λ t k. record { state = t; listed = k; walk = ends refl } }
+  spread : (i j : ℕ) (set : List ℕ) (w : List Label) → slice_get sets i ≡ Some set →
+      Walk made.edges i w j → IsSpread set w j
+  spread i j set w at (ends e) =
+      record {
+        target = set;
+        target_at = ap (slice_get sets) (sym e) ∙ at;
+        each =
+            λ t k. record { state = t; listed = k; walk = ends refl };
+      }
   spread i j set w at (goes {labels = labels} k e here from whole rest) =
       let h : IsSetEdge m sets e = s.sound e (in_from_place made.edges k e here) in
-      let own : h.set ≡ set = same_Some h.set set (sym h.set_at ∙ ap (slice_get sets) (sym from) ∙ at) in
+      let own : h.set ≡ set = same_Some h.set set
+      (sym h.set_at ∙ ap (slice_get sets) (sym from) ∙ at) in
       let r : IsSpread h.target labels j = spread e.to j h.target labels h.target_at rest in
       record {
         target = r.target;
@@ -129,7 +161,8 @@ module _ (m made : Machine) (n : ℕ) (sets : List (List ℕ)) (s : AreSubsets m
             record {
               state = l.edge.from;
               listed = subst (λ (z : List ℕ). IsIn l.edge.from z) own l.from_in;
-              walk = goes p.place l.edge p.at refl (whole ∙ ap (λ z. z ∷ labels) (sym l.label_is)) (subst (λ (z : ℕ). Walk m.edges z labels t) l.to_is v.walk);
+              walk = goes p.place l.edge p.at refl (whole ∙ ap (λ z. z ∷ labels) (sym l.label_is))
+                  (subst (λ (z : ℕ). Walk m.edges z labels t) l.to_is v.walk);
             };
       }
 
@@ -142,23 +175,45 @@ module _ (m made : Machine) (n : ℕ) (sets : List (List ℕ)) (s : AreSubsets m
     pub listed : IsIn t target
     pub walk : Walk made.edges i w last
 
-  gather : length sets ≤ n → (i a t : ℕ) (set : List ℕ) (w : List Label) → slice_get sets i ≡ Some set → IsIn a set → Walk m.edges a w t → IsGathered i w t
-  gather done i a t set w at inside (ends e) = record { last = i; target = set; target_at = at; listed = subst (λ (z : ℕ). IsIn z set) e inside; walk = ends refl }
+  gather : length sets ≤ n → (i a t : ℕ) (set : List ℕ) (w : List Label) →
+      slice_get sets i ≡ Some set → IsIn a set → Walk m.edges a w t → IsGathered i w t
+  gather done i a t set w at inside (ends e) =
+      record {
+        last = i;
+        target = set;
+        target_at = at;
+        listed =
+            subst (λ (z : ℕ). IsIn z set) e inside;
+        walk = ends refl;
+      }
   gather done i a t set w at inside (goes {labels = labels} k d here from whole rest) =
       let low : i < length sets = slice_get_within sets i set at in
-      let l : Leaves made.edges i d.label = s.all i set d (omega arith) at (in_from_place m.edges k d here) (subst (λ (z : ℕ). IsIn z set) from inside) in
+      let l : Leaves made.edges i d.label =
+      s.all i set d (omega arith) at (in_from_place m.edges k d here)
+      (subst (λ (z : ℕ). IsIn z set) from inside) in
       let h : IsSetEdge m sets l.edge = s.sound l.edge l.listed in
-      let own : set ≡ h.set = same_Some set h.set (sym at ∙ ap (slice_get sets) (sym l.from_is) ∙ h.set_at) in
+      let own : set ≡ h.set = same_Some set h.set (sym at ∙ ap (slice_get sets) (sym l.from_is)
+      ∙ h.set_at) in
       let next : IsIn d.to h.target = (h.exactly d.to).1 (record {
         edge = d;
         listed = in_from_place m.edges k d here;
-        from_in = subst (λ (z : List ℕ). IsIn d.from z) own (subst (λ (z : ℕ). IsIn z set) from inside);
+        from_in = subst (λ (z : List ℕ). IsIn d.from z) own
+            (subst (λ (z : ℕ). IsIn z set) from inside);
         label_is = sym l.label_is;
         to_is = refl;
       }) in
-      let r : IsGathered l.edge.to labels t = gather done l.edge.to d.to t h.target labels h.target_at next rest in
+      let r : IsGathered l.edge.to labels t =
+      gather done l.edge.to d.to t h.target labels h.target_at next rest in
       let p : IsPlaced l.edge made.edges = placed_in l.edge made.edges l.listed in
-      record { last = r.last; target = r.target; target_at = r.target_at; listed = r.listed; walk = goes {t = r.last} p.place l.edge p.at (sym l.from_is) (whole ∙ ap (λ z. z ∷ labels) (sym l.label_is)) r.walk }
+      record {
+        last = r.last;
+        target = r.target;
+        target_at = r.target_at;
+        listed = r.listed;
+        walk =
+            goes {t = r.last} p.place l.edge p.at (sym l.from_is)
+            (whole ∙ ap (λ z. z ∷ labels) (sym l.label_is)) r.walk;
+      }
 
   -- ---- the same label strings
 
@@ -171,8 +226,14 @@ module _ (m made : Machine) (n : ℕ) (sets : List (List ℕ)) (s : AreSubsets m
       let f : IsFinalSet m n sets h.last = (s.final h.last).0 h.final in
       let r : IsSpread (0 ∷ []) w h.last = spread 0 h.last (0 ∷ []) w s.first h.walk in
       let own : f.set ≡ r.target = same_Some f.set r.target (sym f.set_at ∙ r.target_at) in
-      let v : HasWalk (0 ∷ []) w f.holds.state = r.each f.holds.state (subst (λ (z : List ℕ). IsIn f.holds.state z) own f.holds.listed) in
-      record { last = f.holds.state; final = f.holds.final; walk = subst (λ (z : ℕ). Walk m.edges z w f.holds.state) (start_is v.state v.listed) v.walk }
+      let v : HasWalk (0 ∷ []) w f.holds.state =
+      r.each f.holds.state (subst (λ (z : List ℕ). IsIn f.holds.state z) own f.holds.listed) in
+      record {
+        last = f.holds.state;
+        final = f.holds.final;
+        walk =
+            subst (λ (z : ℕ). Walk m.edges z w f.holds.state) (start_is v.state v.listed) v.walk;
+      }
 
   accepts_in : length sets ≤ n → (w : List Label) → AcceptsLabels m w → AcceptsLabels made w
   accepts_in done w h =
@@ -180,7 +241,14 @@ module _ (m made : Machine) (n : ℕ) (sets : List (List ℕ)) (s : AreSubsets m
       let low : r.last < length sets = slice_get_within sets r.last r.target r.target_at in
       record {
         last = r.last;
-        final = (s.final r.last).1 (record { below = omega arith; set = r.target; set_at = r.target_at; holds = record { state = h.last; listed = r.listed; final = h.final } });
+        final = (s.final r.last).1
+            (record {
+              below = omega arith;
+              set = r.target;
+              set_at = r.target_at;
+              holds =
+                  record { state = h.last; listed = r.listed; final = h.final };
+            });
         walk = r.walk;
       }
 
@@ -196,21 +264,37 @@ module _ (m made : Machine) (n : ℕ) (sets : List (List ℕ)) (s : AreSubsets m
       let e : IsEntered made.edges (suc i) = s.entered (suc i) (omega arith) low in
       let up : e.edge.from < suc i = e.rises in
       let r : IsReached made e.edge.from = reach b e.edge.from (omega arith) (omega arith) in
-      record { labels = r.labels ++ e.edge.label ∷ []; walk = subst (λ (z : ℕ). Walk made.edges 0 (r.labels ++ e.edge.label ∷ []) z) e.to_is (walk_edge made.edges 0 r.labels e.edge e.listed r.walk) }
+      record {
+        labels = r.labels ++ e.edge.label ∷ [];
+        walk =
+            subst (λ (z : ℕ). Walk made.edges 0 (r.labels ++ e.edge.label ∷ []) z) e.to_is
+            (walk_edge made.edges 0 r.labels e.edge e.listed r.walk);
+      }
 
-  finish : IsMachine m → IsTrimmed m → length sets ≤ n → (i : ℕ) → 0 < i → i < length sets → IsFinishing made i
+  finish : IsMachine m → IsTrimmed m → length sets ≤ n → (i : ℕ) → 0 < i → i < length sets →
+      IsFinishing made i
   finish ok trimmed done i pos low =
       let e : IsEntered made.edges i = s.entered i pos low in
       let h : IsSetEdge m sets e.edge = s.sound e.edge e.listed in
       let l : LeadsFrom m h.set e.edge.label h.state = (h.exactly h.state).0 h.held in
-      let within : h.state < m.states = subst (λ (z : ℕ). z < m.states) (sym l.to_is) (ok.each l.edge l.listed).to_in in
+      let within : h.state < m.states =
+      subst (λ (z : ℕ). z < m.states) (sym l.to_is) (ok.each l.edge l.listed).to_in in
       let f : IsFinishing m h.state = state_finishing m ok trimmed l.edge l.listed h.state within in
-      let r : IsGathered i f.labels f.last = gather done i h.state f.last h.target f.labels (ap (slice_get sets) (sym e.to_is) ∙ h.target_at) h.held f.walk in
+      let r : IsGathered i f.labels f.last =
+      gather done i h.state f.last h.target f.labels (ap (slice_get sets) (sym e.to_is)
+      ∙ h.target_at) h.held f.walk in
       let last_low : r.last < length sets = slice_get_within sets r.last r.target r.target_at in
       record {
         labels = f.labels;
         last = r.last;
-        final = (s.final r.last).1 (record { below = omega arith; set = r.target; set_at = r.target_at; holds = record { state = f.last; listed = r.listed; final = f.final } });
+        final = (s.final r.last).1
+            (record {
+              below = omega arith;
+              set = r.target;
+              set_at = r.target_at;
+              holds =
+                  record { state = f.last; listed = r.listed; final = f.final };
+            });
         walk = r.walk;
       }
 
@@ -224,11 +308,13 @@ module _ (m made : Machine) (n : ℕ) (sets : List (List ℕ)) (s : AreSubsets m
   one_set none =
       let some : 0 < length sets = slice_get_within sets 0 (0 ∷ []) s.first in
       elim (cases_lt 1 (length sets)) [
-        | inl more ↦ let e : IsEntered made.edges 1 = s.entered 1 (omega arith) more in absurd (no_edge none e.edge e.listed)
+        | inl more ↦ let e : IsEntered made.edges 1 = s.entered 1 (omega arith) more in
+            absurd (no_edge none e.edge e.listed)
         | inr few ↦ omega arith
       ]
 
-  pub is_trimmed : made.states ≡ length sets → length sets ≤ n → IsMachine m → IsTrimmed m → IsTrimmed made
+  pub is_trimmed : made.states ≡ length sets → length sets ≤ n → IsMachine m → IsTrimmed m →
+      IsTrimmed made
   is_trimmed long done ok trimmed = record {
     reached = λ i pos lt. reach (suc i) i (omega arith) (omega arith);
     finishing = λ i pos lt. finish ok trimmed done i pos (omega arith);

@@ -5,4 +5,5 @@ use Rattle.ap_fst.specs.declared.label.Edge.{Edge}
 
 -- At most one edge with a label leaves a state.
 pub record IsDeterministic (m : Machine) : Type 0 where
-  pub one : (d e : Edge) → IsIn d m.edges → IsIn e m.edges → d.from ≡ e.from → d.label ≡ e.label → d ≡ e
+  pub one : (d e : Edge) → IsIn d m.edges → IsIn e m.edges → d.from ≡ e.from →
+      d.label ≡ e.label → d ≡ e

@@ -36,7 +36,8 @@ pub record IsPlaceFrom (edges : List Edge) (set : List ℕ) (p : ℕ) : Type 0 w
 
 -- labels do not fall
 pub record RisesByLabel (edge_of : ℕ → Option Edge) : Type 0 where
-  pub no_fall : (i j : ℕ) (a b : Edge) → i ≤ j → edge_of i ≡ Some a → edge_of j ≡ Some b → label_cmp b.label a.label ≡ Less → ⊥
+  pub no_fall : (i j : ℕ) (a b : Edge) → i ≤ j → edge_of i ≡ Some a → edge_of j ≡ Some b →
+      label_cmp b.label a.label ≡ Less → ⊥
 
 -- the edge with this number has the label
 pub record HasLabel (edge_of : ℕ → Option Edge) (k : ℕ) (label : Label) : Type 0 where
@@ -71,15 +72,18 @@ pub record LeadsBy (edge_of : ℕ → Option Edge) (label : Label) (t : ℕ) : T
   pub label_is : edge.label ≡ label
   pub to_is : t ≡ edge.to
 
--- the edges from low up to high, all with one label, give one edge: it leads to the number of the set of the states that they lead to
-pub record AddsGroup (edge_of : ℕ → Option Edge) (from low high : ℕ) (old_sets sets : List (List ℕ)) (old new : List Edge) : Type 0 where
+-- the edges from low up to high, all with one label, give one edge: it leads to the number of the
+-- set of the states that they lead to
+pub record AddsGroup (edge_of : ℕ → Option Edge) (from low high : ℕ) (old_sets sets : List (List ℕ))
+    (old new : List Edge) : Type 0 where
   pub edge : Edge
   pub grown : new ≡ old ++ edge ∷ []
   pub from_is : edge.from ≡ from
   pub rises : low < high
   pub first : HasLabel edge_of low edge.label
   pub same : (k : ℕ) (d : Edge) → low ≤ k → k < high → edge_of k ≡ Some d → d.label ≡ edge.label
-  pub after : (k : ℕ) (d : Edge) → high ≤ k → edge_of k ≡ Some d → label_cmp edge.label d.label ≡ Less
+  pub after : (k : ℕ) (d : Edge) → high ≤ k → edge_of k ≡ Some d →
+      label_cmp edge.label d.label ≡ Less
   pub target : List ℕ
   pub target_at : slice_get sets edge.to ≡ Some target
   pub exactly : (t : ℕ) → IsIn t target ↔ LeadsWithin edge_of low high t
@@ -111,13 +115,15 @@ pub record LeadsInto (edges : List Edge) (i : ℕ) : Type 0 where
   pub to_is : edge.to ≡ i
 
 -- the edges below a number were grouped by label: one edge for each label
-pub record AddsOuts (edge_of : ℕ → Option Edge) (from low : ℕ) (old_sets sets : List (List ℕ)) (old new : List Edge) : Type 0 where
+pub record AddsOuts (edge_of : ℕ → Option Edge) (from low : ℕ) (old_sets sets : List (List ℕ))
+    (old new : List Edge) : Type 0 where
   pub outs : List Edge
   pub grown : new ≡ old ++ outs
   pub from_is : (e : Edge) → IsIn e outs → e.from ≡ from
   pub sound : (e : Edge) → IsIn e outs → IsOut edge_of sets e
   pub all : (k : ℕ) (d : Edge) → k < low → edge_of k ≡ Some d → HoldsLabel outs d.label
   pub ascend : Ascends (λ a b. label_cmp a.label b.label) outs
-  pub below : (e : Edge) (k : ℕ) (d : Edge) → IsIn e outs → low ≤ k → edge_of k ≡ Some d → label_cmp e.label d.label ≡ Less
+  pub below : (e : Edge) (k : ℕ) (d : Edge) → IsIn e outs → low ≤ k → edge_of k ≡ Some d →
+      label_cmp e.label d.label ≡ Less
   pub keeps : (i : ℕ) (set : List ℕ) → slice_get old_sets i ≡ Some set → slice_get sets i ≡ Some set
   pub entered : (i : ℕ) → length old_sets ≤ i → i < length sets → LeadsInto outs i

@@ -27,7 +27,8 @@ pub record LeadsFrom (m : Machine) (set : List ℕ) (label : Label) (t : ℕ) : 
   pub label_is : edge.label ≡ label
   pub to_is : t ≡ edge.to
 
--- an edge between the numbers of two sets: the second has the states to which its label leads from the first, and there are some
+-- an edge between the numbers of two sets: the second has the states to which its label leads from
+-- the first, and there are some
 pub record IsSetEdge (m : Machine) (sets : List (List ℕ)) (e : Edge) : Type 0 where
   pub set : List ℕ
   pub set_at : slice_get sets e.from ≡ Some set
@@ -63,12 +64,15 @@ pub record IsFinalSet (m : Machine) (bound : ℕ) (sets : List (List ℕ)) (numb
 abbrev pub start_cmp : Edge → Edge → Ordering
 start_cmp a b = ordering_then (nat_cmp a.from b.from) (label_cmp a.label b.label)
 
--- Sets of states have numbers, the set of the start is the first, each other one is entered from a set before it, and of the first so many all edges are made.
-pub record AreSubsets (m : Machine) (bound : ℕ) (sets : List (List ℕ)) (edges : List Edge) (finals : List ℕ) : Type 0 where
+-- Sets of states have numbers, the set of the start is the first, each other one is entered from a
+-- set before it, and of the first so many all edges are made.
+pub record AreSubsets (m : Machine) (bound : ℕ) (sets : List (List ℕ)) (edges : List Edge)
+    (finals : List ℕ) : Type 0 where
   pub first : slice_get sets 0 ≡ Some (0 ∷ [])
   pub sound : (e : Edge) → IsIn e edges → IsSetEdge m sets e
   pub below : (e : Edge) → IsIn e edges → e.from < bound
-  pub all : (i : ℕ) (set : List ℕ) (d : Edge) → i < bound → slice_get sets i ≡ Some set → IsIn d m.edges → IsIn d.from set → Leaves edges i d.label
+  pub all : (i : ℕ) (set : List ℕ) (d : Edge) → i < bound → slice_get sets i ≡ Some set →
+      IsIn d m.edges → IsIn d.from set → Leaves edges i d.label
   pub entered : (i : ℕ) → 0 < i → i < length sets → IsEntered edges i
   pub ascend : Ascends start_cmp edges
   pub final : (i : ℕ) → IsIn i finals ↔ IsFinalSet m bound sets i

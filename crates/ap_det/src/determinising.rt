@@ -13,13 +13,14 @@ use ap_fst::{Edges, Finals, Fst};
 use ap_symbol::Memory;
 use std::alloc::Global;
 
-/// The same label strings, with at most one edge per state and label. A state of the result is a set
-/// of states that some labels lead to; sets are numbered in the order in which they are met, so only
-/// states that are reached are there, and what was trimmed stays trimmed. Their number may double with
-/// each state, so want of memory, which is the only error, may come early. A transducer that has at
-/// most one edge per state and label already takes about the time of a copy.
+/// The same label strings, with at most one edge per state and label. A state of the result is a
+/// set of states that some labels lead to; sets are numbered in the order in which they are met, so
+/// only states that are reached are there, and what was trimmed stays trimmed. Their number may
+/// double with each state, so want of memory, which is the only error, may come early. A transducer
+/// that has at most one edge per state and label already takes about the time of a copy.
 pub fn determinise(alloc: Global, fst: &Fst) -> Result<Dfst, Memory>
-    ensures same { IfOk result (λ made. (labels : List Label) → AcceptsLabels made labels ↔ AcceptsLabels fst.now labels) }
+    ensures same { IfOk result (λ made. (labels : List Label) → AcceptsLabels made labels
+        ↔ AcceptsLabels fst.now labels) }
     ensures one { IfOk result (λ made. IsDeterministic made) }
     ensures trimmed { IfOk result (λ made. IsTrimmed fst.now → IsTrimmed made) }
 {

@@ -50,7 +50,8 @@ fn add_target(
     number: usize,
     targets: &mut Vec<usize>,
 ) -> Result<(), Memory>
-    ensures { OnOk result (AddsWhere (LeadsAt (edge_at edges.now places.now) number) targets.old.items targets.new.items) }
+    ensures { OnOk result (AddsWhere (LeadsAt (edge_at edges.now places.now) number)
+        targets.old.items targets.new.items) }
 {
     if let Some(edge) = edge_of(edges, places, number) {
         targets.push(edge.to)?;
@@ -65,7 +66,8 @@ fn targets_listed(
     low: usize,
     high: usize,
 ) -> Result<Vec<usize>, Memory>
-    ensures { IfOk result (λ targets. (t : ℕ) → IsIn t targets.items ↔ LeadsWithin (edge_at edges.now places.now) low high t) }
+    ensures { IfOk result (λ targets. (t : ℕ) →
+        IsIn t targets.items ↔ LeadsWithin (edge_at edges.now places.now) low high t) }
 {
     let mut targets = Vec::new(alloc);
     for number in low..high {
@@ -82,7 +84,8 @@ fn targets_of(
     low: usize,
     high: usize,
 ) -> Result<Vec<usize>, Memory>
-    ensures { IfOk result (λ targets. (t : ℕ) → IsIn t targets.items ↔ LeadsWithin (edge_at edges.now places.now) low high t) }
+    ensures { IfOk result (λ targets. (t : ℕ) →
+        IsIn t targets.items ↔ LeadsWithin (edge_at edges.now places.now) low high t) }
 {
     let mut targets = targets_listed(alloc, edges, places, low, high)?;
     targets.dedup();
@@ -102,7 +105,9 @@ fn add_group(
     requires rises { RisesByLabel (edge_at edges.now places.now) }
     requires there { (k : ℕ) → k < length places.now → edge_at edges.now places.now k ≢ None }
     requires within { low < length places.now }
-    ensures group { IfOk result (λ high. AddsGroup (edge_at edges.now places.now) from low high sets.old sets.new made.old made.new) }
+    ensures group { IfOk result
+        (λ high. AddsGroup (edge_at edges.now places.now) from low high sets.old sets.new
+        made.old made.new) }
     ensures bound { IfOk result (λ high. high ≤ length places.now) }
 {
     let Some(first) = edge_of(edges, places, low) else {
@@ -128,7 +133,8 @@ pub(crate) fn add_groups(
 ) -> Result<(), Memory>
     requires rises { RisesByLabel (edge_at edges.now places.now) }
     requires there { (k : ℕ) → k < length places.now → edge_at edges.now places.now k ≢ None }
-    ensures { OnOk result (AddsOuts (edge_at edges.now places.now) from (length places.now) sets.old sets.new made.old made.new) }
+    ensures { OnOk result (AddsOuts (edge_at edges.now places.now) from (length places.now) sets.old
+        sets.new made.old made.new) }
 {
     let mut low = 0;
     'groups: while low < places.len() {

@@ -1,4 +1,5 @@
-//! Determinisation of transducers: the same label strings, with at most one edge per state and label.
+//! Determinisation of transducers: the same label strings, with at most one edge per state and
+//! label.
 #![tactic(auto)]
 
 mod determinising;

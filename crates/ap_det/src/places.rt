@@ -68,7 +68,8 @@ fn add_places(
     state: usize,
     places: &mut Vec<usize>,
 ) -> Result<(), Memory>
-    ensures { OnOk result (AddsWhere (IsPlaceOf fst.now.edges state) places.old.items places.new.items) }
+    ensures { OnOk result (AddsWhere (IsPlaceOf fst.now.edges state) places.old.items
+        places.new.items) }
 {
     let guess = guess_at(begins, state);
     let (low, high) = fst.span_near(state, guess);
@@ -79,7 +80,8 @@ fn add_places(
 }
 
 fn gathered(alloc: Global, fst: &Fst, begins: &[usize], set: &[usize]) -> Result<Vec<usize>, Memory>
-    ensures { IfOk result (λ places. (p : ℕ) → IsIn p places.items ↔ IsPlaceFrom fst.now.edges set.now p) }
+    ensures { IfOk result (λ places. (p : ℕ) →
+        IsIn p places.items ↔ IsPlaceFrom fst.now.edges set.now p) }
 {
     let mut places = Vec::new(alloc);
     for state in set {
@@ -95,7 +97,8 @@ pub(crate) fn places_from(
     begins: &[usize],
     set: &[usize],
 ) -> Result<Vec<usize>, Memory>
-    ensures exactly { IfOk result (λ places. (p : ℕ) → IsIn p places.items ↔ IsPlaceFrom fst.now.edges set.now p) }
+    ensures exactly { IfOk result (λ places. (p : ℕ) →
+        IsIn p places.items ↔ IsPlaceFrom fst.now.edges set.now p) }
     ensures rises { IfOk result (λ places. RisesByLabel (edge_at fst.now.edges places.items)) }
 {
     let mut places = gathered(alloc, fst, begins, set)?;

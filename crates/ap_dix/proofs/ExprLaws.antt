@@ -18,14 +18,18 @@ reads : (text : List ℕ) (e : Form) → SpellsExpr text e → expression text �
 unfolding expression
 reads text e s =
     let one = pieces-complete text s.pieces s.cut in
-    let two = goes_on (pieces_of text) tokens_of s.pieces (Some s.tokens) one (tokens-complete s.pieces s.tokens s.told) in
-    let three = goes_on (on_some (pieces_of text) tokens_of) choices_of s.tokens (Some s.choices) two (choices-complete s.tokens s.choices s.built) in
-    goes_on (on_some (on_some (pieces_of text) tokens_of) choices_of) (λ choices. Some (either (forms_of choices))) s.choices (Some e) three (ap Some (sym s.is))
+    let two = goes_on (pieces_of text) tokens_of s.pieces (Some s.tokens) one
+    (tokens-complete s.pieces s.tokens s.told) in
+    let three = goes_on (on_some (pieces_of text) tokens_of) choices_of s.tokens (Some s.choices)
+    two (choices-complete s.tokens s.choices s.built) in
+    goes_on (on_some (on_some (pieces_of text) tokens_of) choices_of)
+    (λ choices. Some (either (forms_of choices))) s.choices (Some e) three (ap Some (sym s.is))
 
 spells : (text : List ℕ) (e : Form) → expression text ≡ Some e → SpellsExpr text e
 unfolding expression
 spells text e h =
-    let f = came_from (on_some (on_some (pieces_of text) tokens_of) choices_of) (λ choices. Some (either (forms_of choices))) e h in
+    let f = came_from (on_some (on_some (pieces_of text) tokens_of) choices_of)
+    (λ choices. Some (either (forms_of choices))) e h in
     let g = came_from (on_some (pieces_of text) tokens_of) choices_of f.value f.was in
     let k = came_from (pieces_of text) tokens_of g.value g.was in
     record {
@@ -48,16 +52,29 @@ one_expression text e f s t = some_same e f (sym (reads text e s) ∙ reads text
 
 pub no_pieces : (text : List ℕ) → pieces_of text ≡ None → None ≡ expression text
 unfolding expression
-no_pieces text p = sym (ap (λ z. on_some (on_some (on_some z tokens_of) choices_of) (λ all. Some (either (forms_of all)))) p)
+no_pieces text p = sym (ap
+    (λ z. on_some (on_some (on_some z tokens_of) choices_of)
+    (λ all. Some (either (forms_of all)))) p)
 
-pub no_tokens : (text : List ℕ) (pieces : List Piece) → pieces_of text ≡ Some pieces → tokens_of pieces ≡ None → None ≡ expression text
+pub no_tokens : (text : List ℕ) (pieces : List Piece) → pieces_of text ≡ Some pieces →
+    tokens_of pieces ≡ None → None ≡ expression text
 unfolding expression
-no_tokens text pieces p t = sym (ap (λ z. on_some (on_some z choices_of) (λ all. Some (either (forms_of all)))) (ap (λ z. on_some z tokens_of) p ∙ t))
+no_tokens text pieces p t =
+    sym (ap (λ z. on_some (on_some z choices_of) (λ all. Some (either (forms_of all))))
+    (ap (λ z. on_some z tokens_of) p ∙ t))
 
-pub no_choices : (text : List ℕ) (pieces : List Piece) (tokens : List Token) → pieces_of text ≡ Some pieces → tokens_of pieces ≡ Some tokens → choices_of tokens ≡ None → None ≡ expression text
+pub no_choices : (text : List ℕ) (pieces : List Piece) (tokens : List Token) →
+    pieces_of text ≡ Some pieces → tokens_of pieces ≡ Some tokens → choices_of tokens ≡ None →
+    None ≡ expression text
 unfolding expression
-no_choices text pieces tokens p t c = sym (ap (λ z. on_some z (λ all. Some (either (forms_of all)))) (ap (λ z. on_some (on_some z tokens_of) choices_of) p ∙ ap (λ z. on_some z choices_of) t ∙ c))
+no_choices text pieces tokens p t c =
+    sym (ap (λ z. on_some z (λ all. Some (either (forms_of all))))
+    (ap (λ z. on_some (on_some z tokens_of) choices_of) p ∙ ap (λ z. on_some z choices_of) t ∙ c))
 
-pub has_choices : (text : List ℕ) (pieces : List Piece) (tokens : List Token) (choices : List Form) → pieces_of text ≡ Some pieces → tokens_of pieces ≡ Some tokens → choices_of tokens ≡ Some choices → Some (either (forms_of choices)) ≡ expression text
+pub has_choices : (text : List ℕ) (pieces : List Piece) (tokens : List Token) (choices : List Form)
+    → pieces_of text ≡ Some pieces → tokens_of pieces ≡ Some tokens →
+    choices_of tokens ≡ Some choices → Some (either (forms_of choices)) ≡ expression text
 unfolding expression
-has_choices text pieces tokens choices p t c = sym (ap (λ z. on_some z (λ all. Some (either (forms_of all)))) (ap (λ z. on_some (on_some z tokens_of) choices_of) p ∙ ap (λ z. on_some z choices_of) t ∙ c))
+has_choices text pieces tokens choices p t c =
+    sym (ap (λ z. on_some z (λ all. Some (either (forms_of all))))
+    (ap (λ z. on_some (on_some z tokens_of) choices_of) p ∙ ap (λ z. on_some z choices_of) t ∙ c))

@@ -68,7 +68,8 @@ built (at_least_once ∷ ops) stack = built ops (with_first plus stack)
 built (at_most_once ∷ ops) stack = built ops (with_first opt stack)
 
 mutual
-  pub built-steps : (f : Form) (ops : List Op) (stack : List Forms) → built (steps f ops) stack ≡ built ops (alone f ∷ stack)
+  pub built-steps : (f : Form) (ops : List Op) (stack : List Forms) → built (steps f ops) stack
+      ≡ built ops (alone f ∷ stack)
   built-steps (one s) ops stack = refl
   built-steps (class rs) ops stack = refl
   built-steps (sequence fs) ops stack = built-steps_all fs (all ∷ ops) stack
@@ -77,9 +78,11 @@ mutual
   built-steps (plus f) ops stack = built-steps f (at_least_once ∷ ops) stack
   built-steps (opt f) ops stack = built-steps f (at_most_once ∷ ops) stack
 
-  pub built-steps_all : (fs : Forms) (ops : List Op) (stack : List Forms) → built (steps_all fs ops) stack ≡ built ops (fs ∷ stack)
+  pub built-steps_all : (fs : Forms) (ops : List Op) (stack : List Forms) →
+      built (steps_all fs ops) stack ≡ built ops (fs ∷ stack)
   built-steps_all no_forms ops stack = refl
-  built-steps_all (then_form f fs) ops stack = built-steps_all fs (steps f (before ∷ ops)) stack ∙ built-steps f (before ∷ ops) (fs ∷ stack)
+  built-steps_all (then_form f fs) ops stack = built-steps_all fs (steps f (before ∷ ops)) stack
+      ∙ built-steps f (before ∷ ops) (fs ∷ stack)
 
 abbrev pub top_of : List Forms → Form
 top_of [] = one Blank
@@ -132,10 +135,13 @@ joined-split at_least_once = refl
 joined-split at_most_once = refl
 
 abbrev pub range_code : Coded Range
-range_code = code_by (ℕ × ℕ) (coded× coded_ℕ coded_ℕ) (λ r. (r.first, r.last)) (λ p. record { first = p.0; last = p.1 }) (λ _. refl)
+range_code = code_by (ℕ × ℕ) (coded× coded_ℕ coded_ℕ) (λ r. (r.first, r.last))
+    (λ p. record { first = p.0; last = p.1 }) (λ _. refl)
 
 abbrev pub op_code : Coded Op
-op_code = code_by (Symbol ⊎ (List Range ⊎ ℕ)) (coded⊎ symbols.the_row.coded (coded⊎ (coded_list range_code) coded_ℕ)) split joined joined-split
+op_code = code_by (Symbol ⊎ (List Range ⊎ ℕ))
+    (coded⊎ symbols.the_row.coded (coded⊎ (coded_list range_code) coded_ℕ)) split
+    joined joined-split
 
 abbrev pub form_code : Coded Form
 form_code = code_by (List Op) (coded_list op_code) steps_of form_of form_of-steps

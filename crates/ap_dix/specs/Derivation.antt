@@ -62,16 +62,28 @@ abbrev pub is_kept : Direction → Entry → Bool
 is_kept direction entry = not entry.ignored && takes entry.side direction
 
 -- The labels that the parts of an entry derive in a direction.
-pub data Derives (d : Dictionary) (direction : Direction) : List EntryPart → List Label → Type 0 where
+pub data Derives (d : Dictionary) (direction : Direction) : List EntryPart →
+    List Label → Type 0 where
   nothing : Derives d direction [] []
-  identity : {word : List Symbol} {parts : List EntryPart} {labels whole : List Label} → Derives d direction parts labels → whole ≡ facing direction (paired word word) ++ labels → Derives d direction (Identity word ∷ parts) whole
-  pair : {left right : List Symbol} {parts : List EntryPart} {labels whole : List Label} → Derives d direction parts labels → whole ≡ facing direction (paired left right) ++ labels → Derives d direction (Pair left right ∷ parts) whole
-  paradigm : {n : ℕ} {parts : List EntryPart} {own labels whole : List Label} (pardef : Pardef) (entry : Entry) → IsAt d.pardefs n pardef → IsIn entry pardef.entries → IsTrue (is_kept direction entry)
-      → Derives d direction entry.parts own → Derives d direction parts labels → whole ≡ own ++ labels → Derives d direction (Paradigm n ∷ parts) whole
-  expression : {e : Form} {text : List ℕ} {parts : List EntryPart} {labels whole : List Label} (string : List Symbol) → Lang e string → Derives d direction parts labels → whole ≡ facing direction (paired string string) ++ labels → Derives d direction (Expression e text ∷ parts) whole
+  identity : {word : List Symbol} {parts : List EntryPart} {labels whole : List Label} →
+      Derives d direction parts labels → whole ≡ facing direction (paired word word) ++ labels →
+      Derives d direction (Identity word ∷ parts) whole
+  pair : {left right : List Symbol} {parts : List EntryPart} {labels whole : List Label} →
+      Derives d direction parts labels → whole ≡ facing direction (paired left right) ++ labels →
+      Derives d direction (Pair left right ∷ parts) whole
+  paradigm : {n : ℕ} {parts : List EntryPart} {own labels whole : List Label} (pardef : Pardef)
+      (entry : Entry) → IsAt d.pardefs n pardef → IsIn entry pardef.entries →
+      IsTrue (is_kept direction entry)
+      → Derives d direction entry.parts own → Derives d direction parts labels →
+      whole ≡ own ++ labels → Derives d direction (Paradigm n ∷ parts) whole
+  expression : {e : Form} {text : List ℕ} {parts : List EntryPart} {labels whole : List Label}
+      (string : List Symbol) → Lang e string → Derives d direction parts labels →
+      whole ≡ facing direction (paired string string) ++ labels →
+      Derives d direction (Expression e text ∷ parts) whole
 
 -- Some kept entry of a section of that kind derives the labels.
-pub record Strings (d : Dictionary) (direction : Direction) (kind : Kind) (labels : List Label) : Type 0 where
+pub record Strings (d : Dictionary) (direction : Direction) (kind : Kind)
+    (labels : List Label) : Type 0 where
   pub section : Section
   pub entry : Entry
   pub listed : IsIn section d.sections
@@ -81,7 +93,8 @@ pub record Strings (d : Dictionary) (direction : Direction) (kind : Kind) (label
   pub derived : Derives d direction entry.parts labels
 
 -- Some such labels have these left and right words.
-pub record Relates (d : Dictionary) (direction : Direction) (kind : Kind) (left right : List Symbol) : Type 0 where
+pub record Relates (d : Dictionary) (direction : Direction) (kind : Kind)
+    (left right : List Symbol) : Type 0 where
   pub labels : List Label
   pub string : Strings d direction kind labels
   pub left_is : left_word labels ≡ left

@@ -4,8 +4,8 @@ use Rattle.ap_symbol.specs.declared.symbol.Symbol.{Symbol}
 use Rattle.ap_dix.specs.declared.expr.Range.{Range}
 
 mutual
-  -- One symbol, a class, expressions one after another, one of some expressions, or an expression any number of
-  -- times, at least once or at most once.
+  -- One symbol, a class, expressions one after another, one of some expressions, or an expression
+  -- any number of times, at least once or at most once.
   pub data Form : Type 0 where
     one : Symbol → Form
     class : List Range → Form

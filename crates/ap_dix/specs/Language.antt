@@ -19,7 +19,8 @@ pub record IsSplit (P Q : List Symbol → Type 0) (string : List Symbol) : Type 
 -- any number of strings of the kind, one after another
 pub data Repeats (P : List Symbol → Type 0) : List Symbol → Type 0 where
   done : Repeats P []
-  more : {string : List Symbol} (front back : List Symbol) → string ≡ front ++ back → P front → Repeats P back → Repeats P string
+  more : {string : List Symbol} (front back : List Symbol) → string ≡ front ++ back → P front →
+      Repeats P back → Repeats P string
 
 -- the code point lies in the range
 abbrev pub spans : ℕ → Range → Bool

@@ -18,7 +18,8 @@ use Rattle.ap_dix.specs.declared.refusal.DixFault.{DixFault}
 
 -- A fault of the notation under the table of dictionaries.
 abbrev pub HasNotationFault : Parts → Fault → Type 0
-HasNotationFault whole f = (g : NotationFault) × HasFaultUnder Dix (pruned 201 whole) g × (f ≡ (g.0, kind_of g.1))
+HasNotationFault whole f = (g : NotationFault) × HasFaultUnder Dix (pruned 201 whole) g
+    × (f ≡ (g.0, kind_of g.1))
 
 -- A fault of the names, expressions, weights and extensions.
 abbrev pub HasOwnFault : Parts → Fault → Type 0
@@ -45,6 +46,9 @@ pub record HasFirstFault (text : List ℕ) (fault : DixFault) : Type 0 where
   pub least : IsLeast order_of (HasAnyFault whole) (Some first)
   pub is : fault ≡ record { kind = first.1; line = line_at text first.0 }
 
--- The text isn't UTF-8, or spells no tree, and this is its first wrong byte or piece; or it is the first fault of its tree.
+-- The text isn't UTF-8, or spells no tree, and this is its first wrong byte or piece; or it is the
+-- first fault of its tree.
 abbrev pub IsRefusedFor : List ℕ → DixFault → Type 0
-IsRefusedFor text fault = ((f : MarkupFault) × IsRefusedBy text f × (fault ≡ record { kind = kind_of f.kind; line = f.line })) ⊎ HasFirstFault text fault
+IsRefusedFor text fault =
+    ((f : MarkupFault) × IsRefusedBy text f
+    × (fault ≡ record { kind = kind_of f.kind; line = f.line })) ⊎ HasFirstFault text fault

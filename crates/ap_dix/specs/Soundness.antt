@@ -45,7 +45,8 @@ abbrev mutual
 -- a paradigm has a number below this one, no word holds a star or an at, and expressions are sound
 abbrev pub is_sound_part : ℕ → EntryPart → Bool
 is_sound_part bound (Identity word) = list_all is_entry_symbol word
-is_sound_part bound (Pair left right) = list_all is_entry_symbol left && list_all is_entry_symbol right
+is_sound_part bound (Pair left right) = list_all is_entry_symbol left
+    && list_all is_entry_symbol right
 is_sound_part bound (Paradigm n) = nat_lt n bound
 is_sound_part bound (Expression e text) = is_sound_form e
 
@@ -55,14 +56,17 @@ is_sound_entry bound entry = list_all (is_sound_part bound) entry.parts
 -- each paradigm, from this number on, names paradigms above it only
 abbrev pub are_sound_pardefs : ℕ → List Pardef → Bool
 are_sound_pardefs n [] = true
-are_sound_pardefs n (pardef ∷ pardefs) = list_all (is_sound_entry n) pardef.entries && are_sound_pardefs (n + 1) pardefs
+are_sound_pardefs n (pardef ∷ pardefs) = list_all (is_sound_entry n) pardef.entries
+    && are_sound_pardefs (n + 1) pardefs
 
--- A dictionary is sound where each paradigm that an entry names is there, and stands above the paradigm that the
--- entry is of; no word holds a star or an at; each symbol of an expression is a blank or a letter that is no white
--- space; and the alphabet holds no white space.
+-- A dictionary is sound where each paradigm that an entry names is there, and stands above the
+-- paradigm that the entry is of; no word holds a star or an at; each symbol of an expression is a
+-- blank or a letter that is no white space; and the alphabet holds no white space.
 pub record IsSound (d : Dictionary) : Type 0 where
   pub pardefs : IsTrue (are_sound_pardefs 0 d.pardefs)
-  pub sections : IsTrue (list_all (λ (section : Section). list_all (is_sound_entry (length d.pardefs)) section.entries) d.sections)
+  pub sections : IsTrue (list_all
+      (λ (section : Section). list_all (is_sound_entry (length d.pardefs))
+      section.entries) d.sections)
   pub alphabet : IsTrue (list_all (λ c. not (is_white c)) d.alphabet)
 
 -- a letter from a to z
@@ -82,7 +86,8 @@ is_small_letter_or_tag _ = false
 abbrev pub is_plain_left : List Symbol → Bool
 is_plain_left word = not (length word == 0) && list_all is_small_letter word
 
--- one word of letters for both sides, or a left word of letters and a right word of letters and tags
+-- one word of letters for both sides, or a left word of letters and a right word of letters and
+-- tags
 abbrev pub is_plain_part : EntryPart → Bool
 is_plain_part (Identity word) = is_plain_left word
 is_plain_part (Pair left right) = is_plain_left left && list_all is_small_letter_or_tag right
@@ -113,6 +118,7 @@ is_plain_entry entry = is_both entry.side && not entry.ignored && is_plain_parts
 pub record IsPlain (d : Dictionary) : Type 0 where
   pub entries : List Entry
   pub pardefs : d.pardefs ≡ []
-  pub sections : let section : Section = record { kind = Standard; entries = entries } in d.sections ≡ section ∷ []
+  pub sections : let section : Section = record { kind = Standard; entries = entries } in
+      d.sections ≡ section ∷ []
   pub each : IsTrue (list_all is_plain_entry entries)
   pub alphabet : IsTrue (list_all is_small d.alphabet)

@@ -1,5 +1,5 @@
--- What the code is proved to compute of a text: a dictionary, or a fault. What a text says as a dictionary is said in
--- `Sentences`, and the laws tie the two.
+-- What the code is proved to compute of a text: a dictionary, or a fault. What a text says as a
+-- dictionary is said in `Sentences`, and the laws tie the two.
 use Rattle.std.specs.Prelude.{◌≡◌, ℕ, List, Option, Some, None, Result, Ok, Err}
 use Rattle.std.specs.Option.{option_map}
 use Rattle.ap_markup.specs.Elements.{elements, Spelled}
@@ -43,11 +43,12 @@ abbrev pub decided : Parts → Option DixMark → Result Dictionary DixFault
 decided tree None = Ok (dictionary (root_parts tree))
 decided tree (Some m) = Err (fault_of m)
 
--- A tree has its first fault, by its place and then by its number, or else it spells its dictionary. A text
--- without a tree has the fault of the notation.
+-- A tree has its first fault, by its place and then by its number, or else it spells its
+-- dictionary. A text without a tree has the fault of the notation.
 abbrev pub judged : Spelled → Result Dictionary DixFault
 judged (Err f) = Err (fault_of (mark_of f))
-judged (Ok tree) = decided tree.0 (sooner (mark_order kind_number) (option_map mark_of tree.1) (first_mark tree.0))
+judged (Ok tree) = decided tree.0
+    (sooner (mark_order kind_number) (option_map mark_of tree.1) (first_mark tree.0))
 
 unfoldable pub spelled : List ℕ → Result Dictionary DixFault
 spelled text = judged (elements text Dix)

@@ -12,10 +12,18 @@ abbrev pub cut_of : HeldCut → Cut
 cut_of s = record { made = s.made.items; escaping = s.escaping }
 
 abbrev pub telling_of : HeldTelling → Telling
-telling_of s = record { made = s.made.items; class = option_map (λ ranges. ranges.items) s.class; member = s.member }
+telling_of s = record {
+  made = s.made.items;
+  class = option_map (λ ranges. ranges.items) s.class;
+  member = s.member;
+}
 
 abbrev pub stage_of : HeldStage → Stage
-stage_of s = record { choices = map plain s.choices.items; factors = map plain s.factors.items; last = option_map plain s.last }
+stage_of s = record {
+  choices = map plain s.choices.items;
+  factors = map plain s.factors.items;
+  last = option_map plain s.last;
+}
 
 abbrev pub stack_of : HeldStack → Stack
 stack_of s = record { top = stage_of s.top; below = reverse (map stage_of s.below.items) }

@@ -24,7 +24,8 @@ fn expression_part(alloc: Global, node: &Node) -> Result<Option<EntryPart>, Memo
 
 /// The part of an entry that an element is, where the paradigms of these names stand above.
 fn entry_part(alloc: Global, names: &Names, node: &Node) -> Result<Option<EntryPart>, Memory>
-    ensures { IfOk result (λ made. made ≡ entry_part names.now (tag_of node.now) (parts_of node.now.parts.items)) }
+    ensures { IfOk result (λ made. made
+        ≡ entry_part names.now (tag_of node.now) (parts_of node.now.parts.items)) }
 {
     if is_named("i", node) {
         return Ok(Some(EntryPart::Identity(word_of(alloc, &node.parts)?)));
@@ -91,7 +92,8 @@ fn is_yes(value: Option<&[char]>) -> bool
 }
 
 fn entry(alloc: Global, names: &Names, node: &Node) -> Result<Entry, Memory>
-    ensures { IfOk result (λ made. made ≡ entry names.now (tag_of node.now) (parts_of node.now.parts.items)) }
+    ensures { IfOk result (λ made. made
+        ≡ entry names.now (tag_of node.now) (parts_of node.now.parts.items)) }
 {
     let given = node.attributes.as_slice();
     Ok(Entry {

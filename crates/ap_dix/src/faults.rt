@@ -37,7 +37,8 @@ fn is_unsupported(node: &Node) -> bool
 
 /// Whether it is `re` and its text is no expression.
 fn is_bad_regex(alloc: Global, node: &Node) -> Result<bool, Memory>
-    ensures { IfOk result (λ bad. bad ≡ is_bad_regex (tag_of node.now) (parts_of node.now.parts.items)) }
+    ensures { IfOk result (λ bad. bad
+        ≡ is_bad_regex (tag_of node.now) (parts_of node.now.parts.items)) }
 {
     if !is_named("re", node) {
         return Ok(false);
@@ -53,7 +54,8 @@ fn tag_kind(
     defined: &Names,
     node: &Node,
 ) -> Result<Option<DixKind>, Memory>
-    ensures { IfOk result (λ kind. kind ≡ tag_kind declared.now defined.now (tag_of node.now) (parts_of node.now.parts.items)) }
+    ensures { IfOk result (λ kind. kind
+        ≡ tag_kind declared.now defined.now (tag_of node.now) (parts_of node.now.parts.items)) }
 {
     let name = name_of(node);
     if is_named("pardef", node) && defined.has(name) {
@@ -84,7 +86,9 @@ fn tag_mark(
     defined: &Names,
     node: &Node,
 ) -> Result<Option<Mark<DixKind>>, Memory>
-    ensures { IfOk result (λ mark. mark ≡ marked (tag_of node.now) (tag_kind declared.now defined.now (tag_of node.now) (parts_of node.now.parts.items))) }
+    ensures { IfOk result (λ mark. mark
+        ≡ marked (tag_of node.now)
+        (tag_kind declared.now defined.now (tag_of node.now) (parts_of node.now.parts.items))) }
 {
     match tag_kind(alloc, declared, defined, node)? {
         None => Ok(None),
@@ -104,8 +108,10 @@ fn first_in<'a>(
     defined: &mut Names<'a>,
     parts: &'a [Part],
 ) -> Result<Option<Mark<DixKind>>, Memory>
-    ensures first { IfOk result (λ first. first ≡ first_in declared.now defined.old (parts_of parts.now)) }
-    ensures after { IfOk result (λ first. IfNone first (defined.new ≡ defined_in defined.old (parts_of parts.now))) }
+    ensures first { IfOk result
+        (λ first. first ≡ first_in declared.now defined.old (parts_of parts.now)) }
+    ensures after { IfOk result
+        (λ first. IfNone first (defined.new ≡ defined_in defined.old (parts_of parts.now))) }
 {
     'parts: for part in parts {
         match part {

@@ -8,9 +8,9 @@ ghost use Rattle.ap_dix.specs.Sentences.{SpellsDictionary, IsRefusedFor};
 ghost use Rattle.ap_dix.specs.Soundness.{IsSound};
 ghost use Rattle.ap_dix.specs.Spelling.{Spells, IsFirstFault};
 
-/// The law of dictionaries. A text is read as a dictionary exactly where it spells, by the grammar, a
-/// tree without fault of which this is the dictionary. It is a statement alone and does nothing, as
-/// are the others here.
+/// The law of dictionaries. A text is read as a dictionary exactly where it spells, by the grammar,
+/// a tree without fault of which this is the dictionary. It is a statement alone and does nothing,
+/// as are the others here.
 pub fn reads_what_the_grammar_spells()
     ensures found { (text : List ℕ) (d : Dictionary) → Spells text d → SpellsDictionary text d }
     ensures read { (text : List ℕ) (d : Dictionary) → SpellsDictionary text d → Spells text d }
@@ -35,7 +35,8 @@ pub fn has_one_fault()
 
 /// A text that spells a dictionary has no fault.
 pub fn spells_without_fault()
-    ensures { (text : List ℕ) (d : Dictionary) (f : DixFault) → Spells text d → IsFirstFault text f → ⊥ }
+    ensures { (text : List ℕ) (d : Dictionary) (f : DixFault) → Spells text d →
+        IsFirstFault text f → ⊥ }
 {}
 
 /// What a text spells is sound.

@@ -9,7 +9,8 @@ use ap_symbol::{Memory, Sequence};
 use std::alloc::Global;
 
 fn pardef(alloc: Global, names: &Names, node: &Node) -> Result<Pardef, Memory>
-    ensures { IfOk result (λ made. made ≡ pardef names.now (tag_of node.now) (parts_of node.now.parts.items)) }
+    ensures { IfOk result (λ made. made
+        ≡ pardef names.now (tag_of node.now) (parts_of node.now.parts.items)) }
 {
     Ok(Pardef {
         name: Sequence::from_vec(Vec::from_slice(alloc, name_of(node))?),

@@ -96,8 +96,8 @@ fn cut_end(cut: Cut) -> Option<Vec<Piece>>
     if cut.escaping { None } else { Some(cut.made) }
 }
 
-/// The pieces of a text: white space other than U+0020 is skipped, and a character behind `\` stands
-/// for itself. None where `\` ends the text or stands before white space.
+/// The pieces of a text: white space other than U+0020 is skipped, and a character behind `\`
+/// stands for itself. None where `\` ends the text or stands before white space.
 pub fn pieces(alloc: Global, text: &[char]) -> Result<Option<Vec<Piece>>, Memory>
     ensures { IfOk result (λ made. option_map (λ made. made.items) made ≡ pieces_of text.now) }
 {

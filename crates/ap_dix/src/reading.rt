@@ -49,7 +49,8 @@ fn refusal(mark: Mark<DixKind>) -> DixRefusal
 /// The dictionary of a tree, or its first fault.
 fn judged(alloc: Global, tree: Elements) -> Result<Dictionary, DixRefusal>
     ensures value { IfOk result (λ d. judged (Ok (node_then tree.root Done, tree.first)) ≡ Ok d) }
-    ensures fault { IfErr result (λ e. IfFault e (λ f. judged (Ok (node_then tree.root Done, tree.first)) ≡ Err f)) }
+    ensures fault { IfErr result
+        (λ e. IfFault e (λ f. judged (Ok (node_then tree.root Done, tree.first)) ≡ Err f)) }
 {
     let own = first_mark(alloc, &tree.root)?;
     let first = match tree.first {

@@ -31,7 +31,8 @@ fn kind_of(value: Option<&[char]>) -> Kind
 }
 
 fn section(alloc: Global, names: &Names, node: &Node) -> Result<Section, Memory>
-    ensures { IfOk result (λ made. made ≡ section names.now (tag_of node.now) (parts_of node.now.parts.items)) }
+    ensures { IfOk result (λ made. made
+        ≡ section names.now (tag_of node.now) (parts_of node.now.parts.items)) }
 {
     Ok(Section {
         kind: kind_of(value_of("type", node.attributes.as_slice())),

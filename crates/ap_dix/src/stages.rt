@@ -13,8 +13,8 @@ use std::alloc::Global;
 /// How many parentheses may be open at once.
 const DEPTH_MAX: usize = 200;
 
-/// The expressions in a parenthesis that is open, or in the whole text: the sequences that are over,
-/// the factors of the one that isn't, and the atom that may still be repeated.
+/// The expressions in a parenthesis that is open, or in the whole text: the sequences that are
+/// over, the factors of the one that isn't, and the atom that may still be repeated.
 #[derive(Drop)]
 struct Stage {
     choices: Exprs,
@@ -51,7 +51,8 @@ fn repeated(sign: Repetition, atom: Box<Expr>) -> Expr
 
 /// The factors, the last atom too.
 fn flushed(factors: Exprs, last: Option<Expr>) -> Result<Exprs, Memory>
-    ensures { IfOk result (λ all. map plain all.items ≡ map plain factors.items ++ option_to_list (option_map plain last)) }
+    ensures { IfOk result (λ all. map plain all.items ≡ map plain factors.items
+        ++ option_to_list (option_map plain last)) }
 {
     let mut factors = factors;
     if let Some(atom) = last {
@@ -77,7 +78,8 @@ fn with_atom(stage: Stage, atom: Expr) -> Result<Stage, Memory>
 
 /// The sequences, the one that isn't over too; None where it has no factor.
 fn closed(stage: Stage) -> Result<Option<Exprs>, Memory>
-    ensures { IfOk result (λ all. option_map (λ made. map plain made.items) all ≡ closed (stage_of stage)) }
+    ensures { IfOk result (λ all. option_map (λ made. map plain made.items) all
+        ≡ closed (stage_of stage)) }
 {
     let Stage {
         mut choices,
@@ -98,7 +100,9 @@ fn repeat_step(
     below: Vec<Stage>,
     sign: Repetition,
 ) -> Result<Option<Stack>, Memory>
-    ensures { IfOk result (λ next. option_map stack_of next ≡ repeat_step (stage_of top) (reverse (map stage_of below.items)) sign (stage_of top).last) }
+    ensures { IfOk result (λ next. option_map stack_of next
+        ≡ repeat_step (stage_of top) (reverse (map stage_of below.items)) sign
+        (stage_of top).last) }
 {
     let Stage {
         choices,
@@ -120,7 +124,9 @@ fn repeat_step(
 }
 
 fn close_step(below: Vec<Stage>, choices: Option<Exprs>) -> Result<Option<Stack>, Memory>
-    ensures { IfOk result (λ next. option_map stack_of next ≡ close_step (reverse (map stage_of below.items)) (option_map (λ made. map plain made.items) choices)) }
+    ensures { IfOk result (λ next. option_map stack_of next
+        ≡ close_step (reverse (map stage_of below.items))
+        (option_map (λ made. map plain made.items) choices)) }
 {
     let mut below = below;
     match (below.pop(), choices) {
@@ -133,7 +139,9 @@ fn close_step(below: Vec<Stage>, choices: Option<Exprs>) -> Result<Option<Stack>
 }
 
 fn bar_step(alloc: Global, below: Vec<Stage>, choices: Option<Exprs>) -> Option<Stack>
-    ensures { option_map stack_of result ≡ bar_step (reverse (map stage_of below.items)) (option_map (λ made. map plain made.items) choices) }
+    ensures { option_map stack_of result
+        ≡ bar_step (reverse (map stage_of below.items))
+        (option_map (λ made. map plain made.items) choices) }
 {
     match choices {
         None => None,
@@ -150,7 +158,8 @@ fn bar_step(alloc: Global, below: Vec<Stage>, choices: Option<Exprs>) -> Option<
 
 /// A further parenthesis is opened; None where 200 are open.
 fn open_step(alloc: Global, stack: Stack) -> Result<Option<Stack>, Memory>
-    ensures { IfOk result (λ next. option_map stack_of next ≡ stack_step (stack_of stack) Token.Open) }
+    ensures { IfOk result (λ next. option_map stack_of next
+        ≡ stack_step (stack_of stack) Token.Open) }
 {
     let Stack { top, mut below } = stack;
     if below.len() >= DEPTH_MAX {
@@ -166,7 +175,12 @@ fn open_step(alloc: Global, stack: Stack) -> Result<Option<Stack>, Memory>
 }
 
 fn atom_step(stack: Stack, atom: Expr) -> Result<Stack, Memory>
-    ensures { IfOk result (λ next. stack_of next ≡ record { top = with_atom (stack_of stack).top (plain atom); below = (stack_of stack).below }) }
+    ensures { IfOk result (λ next. stack_of next
+        ≡ record {
+          top = with_atom (stack_of stack).top (plain atom);
+          below =
+              (stack_of stack).below;
+        }) }
 {
     let Stack { top, below } = stack;
     Ok(Stack {
@@ -198,7 +212,8 @@ fn stack_step(alloc: Global, stack: Stack, token: Token) -> Result<Option<Stack>
 }
 
 fn stack_end(stack: Stack) -> Result<Option<Exprs>, Memory>
-    ensures { IfOk result (λ all. option_map (λ made. map plain made.items) all ≡ stack_end (stack_of stack)) }
+    ensures { IfOk result (λ all. option_map (λ made. map plain made.items) all
+        ≡ stack_end (stack_of stack)) }
 {
     let Stack { top, below } = stack;
     if below.is_empty() {
@@ -211,7 +226,8 @@ fn stack_end(stack: Stack) -> Result<Option<Exprs>, Memory>
 /// The choices that the tokens are, in a loop over a stack of what is open; None where they are no
 /// expression.
 pub fn choices(alloc: Global, tokens: Vec<Token>) -> Result<Option<Exprs>, Memory>
-    ensures { IfOk result (λ all. option_map (λ made. map plain made.items) all ≡ choices_of tokens.items) }
+    ensures { IfOk result (λ all. option_map (λ made. map plain made.items) all
+        ≡ choices_of tokens.items) }
 {
     let top = Stage {
         choices: Vec::new(alloc),

@@ -108,7 +108,8 @@ fn show_entries(alloc: Global, into: &mut String, entries: &[Entry]) -> Result<(
     Ok(())
 }
 
-/// A dictionary as its alphabet, each paradigm's name and entries, and each section's kind and entries.
+/// A dictionary as its alphabet, each paradigm's name and entries, and each section's kind and
+/// entries.
 fn show(alloc: Global, d: &Dictionary) -> Result<String, AllocError> {
     let mut into = String::new(alloc);
     show_chars(&mut into, d.alphabet.as_slice())?;

@@ -74,7 +74,8 @@ fn dash_step(
     first: char,
     piece: Piece,
 ) -> Result<Option<Telling>, Memory>
-    ensures { IfOk result (λ next. option_map telling_of next ≡ dash_step made.items ranges.items first piece) }
+    ensures { IfOk result (λ next. option_map telling_of next
+        ≡ dash_step made.items ranges.items first piece) }
 {
     if !piece.is_member() || piece.code < first {
         return Ok(None);
@@ -96,7 +97,8 @@ fn member_step(
     ranges: Vec<Range>,
     piece: Piece,
 ) -> Result<Option<Telling>, Memory>
-    ensures { IfOk result (λ next. option_map telling_of next ≡ member_step made.items ranges.items piece) }
+    ensures { IfOk result (λ next. option_map telling_of next
+        ≡ member_step made.items ranges.items piece) }
 {
     if piece.is_sign(']') {
         if ranges.is_empty() {
@@ -126,7 +128,8 @@ fn class_step(
     member: Member,
     piece: Piece,
 ) -> Result<Option<Telling>, Memory>
-    ensures { IfOk result (λ next. option_map telling_of next ≡ class_step made.items ranges.items member piece) }
+    ensures { IfOk result (λ next. option_map telling_of next
+        ≡ class_step made.items ranges.items member piece) }
 {
     match member {
         Member::Fresh => member_step(made, ranges, piece),
@@ -171,7 +174,8 @@ fn outside_step(alloc: Global, made: Vec<Token>, piece: Piece) -> Result<Option<
 }
 
 fn telling_step(alloc: Global, telling: Telling, piece: Piece) -> Result<Option<Telling>, Memory>
-    ensures { IfOk result (λ next. option_map telling_of next ≡ telling_step (telling_of telling) piece) }
+    ensures { IfOk result (λ next. option_map telling_of next
+        ≡ telling_step (telling_of telling) piece) }
 {
     let Telling {
         made,

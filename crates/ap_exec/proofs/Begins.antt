@@ -25,7 +25,8 @@ pub bodies_are : (ms : List DefMacro) → map body_in ms ≡ map body_of (map pl
 bodies_are [] = refl
 bodies_are (m ∷ ms) = ap (λ (bs : List PlainStatements). body_in m ∷ bs) (bodies_are ms)
 
-pub units_are : (chunk : Option (List Symbol)) (us : List MatchedUnit) → chunk_in chunk ++ map shown us ≡ units_in chunk us
+pub units_are : (chunk : Option (List Symbol)) (us : List MatchedUnit) →
+    chunk_in chunk ++ map shown us ≡ units_in chunk us
 units_are None us = refl
 units_are (Some name) us = refl
 
@@ -33,7 +34,8 @@ length_shown : (us : List MatchedUnit) → length (map shown us) ≡ length us
 length_shown [] = refl
 length_shown (u ∷ us) = ap suc (length_shown us)
 
-pub here_is : (chunk : Option (List Symbol)) (us : List MatchedUnit) → lead_in (is_some chunk) ++ from_first (length (units_in chunk us)) ≡ here_in chunk (length us)
+pub here_is : (chunk : Option (List Symbol)) (us : List MatchedUnit) →
+    lead_in (is_some chunk) ++ from_first (length (units_in chunk us)) ≡ here_in chunk (length us)
 here_is None us = ap (λ (n : ℕ). None ∷ from 0 n) (length_shown us)
 here_is (Some name) us = ap (λ (n : ℕ). Some 0 ∷ from 1 n) (length_shown us)
 
@@ -41,25 +43,35 @@ from_more : (first n : ℕ) → from first (suc n) ≡ from first n ++ Some (fir
 from_more first zero = let e : first ≡ first + 0 = omega arith in ap (λ (k : ℕ). Some k ∷ []) e
 from_more first (suc n) =
     let e : first + 1 + n ≡ first + suc n = omega arith in
-    ap (λ (zs : List (Option ℕ)). Some first ∷ zs) (from_more (first + 1) n ∙ ap (λ (k : ℕ). from (first + 1) n ++ Some k ∷ []) e)
+    ap (λ (zs : List (Option ℕ)). Some first ∷ zs) (from_more (first + 1) n
+    ∙ ap (λ (k : ℕ). from (first + 1) n ++ Some k ∷ []) e)
 
 pub from_next : (n : ℕ) → from_first (n + 1) ≡ from_first n ++ Some n ∷ []
-from_next n = let e : n + 1 ≡ suc n = omega arith in let z : 0 + n ≡ n = omega arith in ap from_first e ∙ from_more 0 n ∙ ap (λ (k : ℕ). from_first n ++ Some k ∷ []) z
+from_next n = let e : n + 1 ≡ suc n = omega arith in let z : 0 + n ≡ n = omega arith in
+    ap from_first e ∙ from_more 0 n ∙ ap (λ (k : ℕ). from_first n ++ Some k ∷ []) z
 
 -- new values are put in from the last one on
 pub overlaid_nothing : (words : List (List Symbol)) → overlaid words [] ≡ words
 overlaid_nothing [] = refl
 overlaid_nothing (word ∷ words) = refl
 
-pub overlaid_last : (words : List (List Symbol)) (fresh : List (Option (List Symbol))) (new : Option (List Symbol)) → overlaid words (fresh ++ new ∷ []) ≡ overlaid (with_new words (length fresh) new) fresh
+pub overlaid_last : (words : List (List Symbol)) (fresh : List (Option (List Symbol)))
+    (new : Option (List Symbol)) → overlaid words (fresh ++ new ∷ [])
+    ≡ overlaid (with_new words (length fresh) new) fresh
 overlaid_last [] fresh None = refl
 overlaid_last [] fresh (Some v) = refl
-overlaid_last (word ∷ words) [] None = ap (λ (ws : List (List Symbol)). word ∷ ws) (overlaid_nothing words)
-overlaid_last (word ∷ words) [] (Some v) = ap (λ (ws : List (List Symbol)). v ∷ ws) (overlaid_nothing words)
-overlaid_last (word ∷ words) (None ∷ fresh) None = ap (λ (ws : List (List Symbol)). word ∷ ws) (overlaid_last words fresh None)
-overlaid_last (word ∷ words) (None ∷ fresh) (Some v) = ap (λ (ws : List (List Symbol)). word ∷ ws) (overlaid_last words fresh (Some v))
-overlaid_last (word ∷ words) (Some old ∷ fresh) None = ap (λ (ws : List (List Symbol)). old ∷ ws) (overlaid_last words fresh None)
-overlaid_last (word ∷ words) (Some old ∷ fresh) (Some v) = ap (λ (ws : List (List Symbol)). old ∷ ws) (overlaid_last words fresh (Some v))
+overlaid_last (word ∷ words) [] None =
+    ap (λ (ws : List (List Symbol)). word ∷ ws) (overlaid_nothing words)
+overlaid_last (word ∷ words) [] (Some v) =
+    ap (λ (ws : List (List Symbol)). v ∷ ws) (overlaid_nothing words)
+overlaid_last (word ∷ words) (None ∷ fresh) None =
+    ap (λ (ws : List (List Symbol)). word ∷ ws) (overlaid_last words fresh None)
+overlaid_last (word ∷ words) (None ∷ fresh) (Some v) =
+    ap (λ (ws : List (List Symbol)). word ∷ ws) (overlaid_last words fresh (Some v))
+overlaid_last (word ∷ words) (Some old ∷ fresh) None =
+    ap (λ (ws : List (List Symbol)). old ∷ ws) (overlaid_last words fresh None)
+overlaid_last (word ∷ words) (Some old ∷ fresh) (Some v) =
+    ap (λ (ws : List (List Symbol)). old ∷ ws) (overlaid_last words fresh (Some v))
 
 pub set_past : {A : Type 0} (xs : List A) (n : ℕ) (x : A) → length xs < n + 1 → set xs n x ≡ xs
 set_past [] n x h = refl
@@ -67,45 +79,103 @@ set_past (y ∷ ys) zero x h = absurd (omega arith)
 set_past (y ∷ ys) (suc n) x h = ap (λ (zs : List _). y ∷ zs) (set_past ys n x (omega arith))
 
 -- the world of a run
-pub still_is : (r : Rules) (attributes : List DefAttr) (lists : List DefList) (macros : List DefMacro) → attributes ≡ r.attributes → lists ≡ r.lists → macros ≡ r.macros.items
-    → (let s : Still = record { form = r.form; attributes = attributes; lists = lists; bodies = map body_in macros } in s) ≡ still_of (plain_rules r)
+pub still_is : (r : Rules) (attributes : List DefAttr) (lists : List DefList)
+    (macros : List DefMacro) → attributes ≡ r.attributes → lists ≡ r.lists → macros ≡ r.macros.items
+    → (let s : Still = record {
+      form = r.form;
+      attributes = attributes;
+      lists = lists;
+      bodies =
+          map body_in macros;
+    } in s) ≡ still_of (plain_rules r)
 still_is r attributes lists macros a l m =
-    ap (λ (xs : List DefAttr). let s : Still = record { form = r.form; attributes = xs; lists = lists; bodies = map body_in macros } in s) a
-    ∙ ap (λ (xs : List DefList). let s : Still = record { form = r.form; attributes = r.attributes; lists = xs; bodies = map body_in macros } in s) l
-    ∙ ap (λ (xs : List PlainStatements). let s : Still = record { form = r.form; attributes = r.attributes; lists = r.lists; bodies = xs } in s) (ap (map body_in) m ∙ bodies_are r.macros.items)
+    ap (λ (xs : List DefAttr). let s : Still =
+    record {
+      form = r.form;
+      attributes = xs;
+      lists = lists;
+      bodies =
+          map body_in macros;
+    } in s) a
+    ∙ ap (λ (xs : List DefList). let s : Still =
+    record {
+      form = r.form;
+      attributes = r.attributes;
+      lists = xs;
+      bodies =
+          map body_in macros;
+    } in s) l
+    ∙ ap (λ (xs : List PlainStatements). let s : Still =
+    record { form = r.form; attributes = r.attributes; lists = r.lists; bodies = xs } in s)
+    (ap (map body_in) m ∙ bodies_are r.macros.items)
 
 -- the state at the start
-pub now_is : (m : Matched) (vars base : List (List Symbol)) (units : List Shown) (fresh : List (Option (List Symbol))) (pieces : List Piece) → units ≡ units_in m.chunk m.units → base ≡ vars → fresh ≡ [] → pieces ≡ []
-    → (let s : Now = record { units = units; vars = overlaid base fresh; pieces = pieces; room = SPAN_MAX } in s) ≡ started m vars
+pub now_is : (m : Matched) (vars base : List (List Symbol)) (units : List Shown)
+    (fresh : List (Option (List Symbol))) (pieces : List Piece) → units ≡ units_in m.chunk m.units →
+    base ≡ vars → fresh ≡ [] → pieces ≡ []
+    → (let s : Now = record {
+      units = units;
+      vars = overlaid base fresh;
+      pieces = pieces;
+      room =
+          SPAN_MAX;
+    } in s) ≡ started m vars
 now_is m vars base units fresh pieces u b f p =
-    ap (λ (xs : List Shown). let s : Now = record { units = xs; vars = overlaid base fresh; pieces = pieces; room = SPAN_MAX } in s) u
-    ∙ ap (λ (xs : List (Option (List Symbol))). let s : Now = record { units = units_in m.chunk m.units; vars = overlaid base xs; pieces = pieces; room = SPAN_MAX } in s) f
-    ∙ ap (λ (xs : List (List Symbol)). let s : Now = record { units = units_in m.chunk m.units; vars = xs; pieces = pieces; room = SPAN_MAX } in s) (overlaid_nothing base ∙ b)
-    ∙ ap (λ (xs : List Piece). let s : Now = record { units = units_in m.chunk m.units; vars = vars; pieces = xs; room = SPAN_MAX } in s) p
+    ap (λ (xs : List Shown). let s : Now =
+    record { units = xs; vars = overlaid base fresh; pieces = pieces; room = SPAN_MAX } in s) u
+    ∙ ap (λ (xs : List (Option (List Symbol))). let s : Now =
+    record {
+      units = units_in m.chunk m.units;
+      vars = overlaid base xs;
+      pieces = pieces;
+      room =
+          SPAN_MAX;
+    } in s) f
+    ∙ ap (λ (xs : List (List Symbol)). let s : Now =
+    record { units = units_in m.chunk m.units; vars = xs; pieces = pieces; room = SPAN_MAX } in
+    s) (overlaid_nothing base ∙ b)
+    ∙ ap (λ (xs : List Piece). let s : Now =
+    record {
+      units = units_in m.chunk m.units;
+      vars = vars;
+      pieces = xs;
+      room =
+          SPAN_MAX;
+    } in s) p
 
 -- the whole run
-pub act_is : (r : PlainRules) (n : ℕ) (m : Matched) (vars : List (List Symbol)) (w : Still) (visible : ℕ) (here : List (Option ℕ)) (body : PlainStatements) (s : Now)
-    → w ≡ still_of r → visible ≡ length r.macros → here ≡ here_in m.chunk (length m.units) → body ≡ action_of r n → s ≡ started m vars
+pub act_is : (r : PlainRules) (n : ℕ) (m : Matched) (vars : List (List Symbol)) (w : Still)
+    (visible : ℕ) (here : List (Option ℕ)) (body : PlainStatements) (s : Now)
+    → w ≡ still_of r → visible ≡ length r.macros → here ≡ here_in m.chunk (length m.units) →
+    body ≡ action_of r n → s ≡ started m vars
     → seen outcome (run_all w (called w visible) here body s) ≡ act_of r n m vars
 act_is r n m vars w visible here body s a b c d e =
     ap (λ (x : Still). seen outcome (run_all x (called x visible) here body s)) a
     ∙ ap (λ (x : ℕ). seen outcome (run_all (still_of r) (called (still_of r) x) here body s)) b
-    ∙ ap (λ (x : List (Option ℕ)). seen outcome (run_all (still_of r) (called (still_of r) (length r.macros)) x body s)) c
-    ∙ ap (λ (x : PlainStatements). seen outcome (run_all (still_of r) (called (still_of r) (length r.macros)) (here_in m.chunk (length m.units)) x s)) d
-    ∙ ap (λ (x : Now). seen outcome (run_all (still_of r) (called (still_of r) (length r.macros)) (here_in m.chunk (length m.units)) (action_of r n) x)) e
+    ∙ ap (λ (x : List (Option ℕ)). seen outcome
+    (run_all (still_of r) (called (still_of r) (length r.macros)) x body s)) c
+    ∙ ap (λ (x : PlainStatements). seen outcome
+    (run_all (still_of r) (called (still_of r) (length r.macros))
+    (here_in m.chunk (length m.units)) x s)) d
+    ∙ ap (λ (x : Now). seen outcome
+    (run_all (still_of r) (called (still_of r) (length r.macros))
+    (here_in m.chunk (length m.units)) (action_of r n) x)) e
 
 pub length_macros : (ms : List DefMacro) → length ms ≡ length (map plain_macro ms)
 length_macros [] = refl
 length_macros (m ∷ ms) = ap suc (length_macros ms)
 
-pub ends_badly : (e : ExecRefusal) (ran : Ran Now) (whole : Ran Outcome) → seen outcome ran ≡ whole → Fails e ran → Fails e whole
+pub ends_badly : (e : ExecRefusal) (ran : Ran Now) (whole : Ran Outcome) → seen outcome ran ≡ whole
+    → Fails e ran → Fails e whole
 ends_badly Memory ran whole is h = tt
 ends_badly ValueTooLong ran whole is h = sym is ∙ ap (seen outcome) h
 ends_badly OutputTooLong ran whole is h = sym is ∙ ap (seen outcome) h
 
-pub ends_well : (ran : Ran Now) (s : Now) (whole : Ran Outcome) → seen outcome ran ≡ whole → ran ≡ Ok s → whole ≡ Ok (outcome s)
+pub ends_well : (ran : Ran Now) (s : Now) (whole : Ran Outcome) → seen outcome ran ≡ whole →
+    ran ≡ Ok s → whole ≡ Ok (outcome s)
 ends_well ran s whole is h = sym is ∙ ap (seen outcome) h
 
-pub overlaid_none : (words : List (List Symbol)) (fresh : List (Option (List Symbol))) → length fresh ≡ 0 → words ≡ overlaid words fresh
+pub overlaid_none : (words : List (List Symbol)) (fresh : List (Option (List Symbol))) →
+    length fresh ≡ 0 → words ≡ overlaid words fresh
 overlaid_none words [] h = sym (overlaid_nothing words)
 overlaid_none words (f ∷ fresh) h = absurd (omega arith)

@@ -8,7 +8,8 @@ use Rattle.ap_symbol.specs.Words.{is_proper, AreProper}
 pub proper_drop : (n : ℕ) (word : List Symbol) → AreProper word → AreProper (drop n word)
 proper_drop zero word h = h
 proper_drop (suc n) [] h = h
-proper_drop (suc n) (s ∷ word) h = proper_drop n word (and_parts (is_proper s) (list_all is_proper word) h).1
+proper_drop (suc n) (s ∷ word) h =
+    proper_drop n word (and_parts (is_proper s) (list_all is_proper word) h).1
 
 pub proper_take : (n : ℕ) (word : List Symbol) → AreProper word → AreProper (take n word)
 proper_take zero word h = refl
@@ -17,5 +18,6 @@ proper_take (suc n) (s ∷ word) h =
     let both = and_parts (is_proper s) (list_all is_proper word) h in
     rw (both.0, proper_take n word both.1) refl
 
-pub proper_cut : (start count : ℕ) (word : List Symbol) → AreProper word → AreProper (take count (drop start word))
+pub proper_cut : (start count : ℕ) (word : List Symbol) → AreProper word →
+    AreProper (take count (drop start word))
 proper_cut start count word h = proper_take count (drop start word) (proper_drop start word h)

@@ -25,12 +25,15 @@ atom_texts Space = omega arith
 
 atoms_texts : (atoms : List Atom) → texts_size (atoms_marks atoms) ≡ atoms_size atoms
 atoms_texts [] = refl
-atoms_texts (a ∷ more) = omega (arith, texts_append (atom_marks a) (atoms_marks more), atom_texts a, atoms_texts more)
+atoms_texts (a ∷ more) =
+    omega (arith, texts_append (atom_marks a) (atoms_marks more), atom_texts a, atoms_texts more)
 
 piece_texts : (p : Piece) → texts_size (piece_marks p) ≡ piece_size p
 piece_texts (The_atom a) = atom_texts a
-piece_texts (Chunk name atoms) = omega (arith, texts_append (atoms_marks atoms) (text (125 ∷ 36 ∷ []) ∷ []), atoms_texts atoms)
+piece_texts (Chunk name atoms) =
+    omega (arith, texts_append (atoms_marks atoms) (text (125 ∷ 36 ∷ []) ∷ []), atoms_texts atoms)
 
 pub texts_are_counted : TextsAreCounted
 texts_are_counted [] = refl
-texts_are_counted (p ∷ more) = omega (arith, texts_append (piece_marks p) (marks more), piece_texts p, texts_are_counted more)
+texts_are_counted (p ∷ more) =
+    omega (arith, texts_append (piece_marks p) (marks more), piece_texts p, texts_are_counted more)

@@ -22,7 +22,13 @@ abbrev pub body_of : PlainMacro → PlainStatements
 body_of m = statements_of m.statements
 
 abbrev pub still_of : PlainRules → Still
-still_of r = record { form = r.form; attributes = r.attributes; lists = r.lists; bodies = map body_of r.macros }
+still_of r = record {
+  form = r.form;
+  attributes = r.attributes;
+  lists = r.lists;
+  bodies =
+      map body_of r.macros;
+}
 
 abbrev pub action_in : Option PlainRule → PlainStatements
 action_in None = no_statements
@@ -34,7 +40,13 @@ action_of r n = action_in (slice_get r.rules n)
 
 -- a unit: its target is its head and its queue
 abbrev pub shown : MatchedUnit → Shown
-shown u = record { source = u.source; target = u.head ++ u.queue; border = length u.head; content = u.content }
+shown u = record {
+  source = u.source;
+  target = u.head ++ u.queue;
+  border =
+      length u.head;
+  content = u.content;
+}
 
 -- the chunk of postchunk as a unit
 abbrev pub shown_chunk : List Symbol → Shown
@@ -56,9 +68,16 @@ here_in None n = None ∷ from 0 n
 here_in (Some name) n = Some 0 ∷ from 1 n
 
 abbrev pub started : Matched → List (List Symbol) → Now
-started m vars = record { units = units_in m.chunk m.units; vars = vars; pieces = []; room = SPAN_MAX }
+started m vars = record {
+  units = units_in m.chunk m.units;
+  vars = vars;
+  pieces =
+      [];
+  room = SPAN_MAX;
+}
 
 -- the rule's action is run; each macro may be called
 abbrev pub act_of : PlainRules → ℕ → Matched → List (List Symbol) → Ran Outcome
 act_of r n m vars =
-    seen outcome (run_all (still_of r) (called (still_of r) (length r.macros)) (here_in m.chunk (length m.units)) (action_of r n) (started m vars))
+    seen outcome (run_all (still_of r) (called (still_of r) (length r.macros))
+    (here_in m.chunk (length m.units)) (action_of r n) (started m vars))

@@ -13,4 +13,5 @@ taken false first later = later
 -- the statements of the first choice whose condition holds, or else the others
 abbrev pub chosen : Sight → PlainWhens → PlainStatements → Ran PlainStatements
 chosen sight no_whens otherwise = Ok otherwise
-chosen sight (then_when test statements more) otherwise = holds sight test >>= λ b. taken b statements (chosen sight more otherwise)
+chosen sight (then_when test statements more) otherwise =
+    holds sight test >>= λ b. taken b statements (chosen sight more otherwise)

@@ -21,16 +21,19 @@ same_words caseless (s ∷ a) (t ∷ b) = same_symbols caseless s t && same_word
 abbrev pub is_begun_by : Bool → List Symbol → List Symbol → Bool
 is_begun_by caseless [] word = true
 is_begun_by caseless (s ∷ part) [] = false
-is_begun_by caseless (s ∷ part) (t ∷ word) = same_symbols caseless s t && is_begun_by caseless part word
+is_begun_by caseless (s ∷ part) (t ∷ word) = same_symbols caseless s t
+    && is_begun_by caseless part word
 
 -- it ends with the part
 abbrev pub is_ended_by : Bool → List Symbol → List Symbol → Bool
-is_ended_by caseless part word = nat_le (length part) (length word) && same_words caseless part (drop (length word - length part) word)
+is_ended_by caseless part word = nat_le (length part) (length word)
+    && same_words caseless part (drop (length word - length part) word)
 
 -- it holds the part at some place
 abbrev pub holds_part : Bool → List Symbol → List Symbol → Bool
 holds_part caseless part [] = is_begun_by caseless part []
-holds_part caseless part (s ∷ word) = is_begun_by caseless part (s ∷ word) || holds_part caseless part word
+holds_part caseless part (s ∷ word) = is_begun_by caseless part (s ∷ word)
+    || holds_part caseless part word
 
 -- a word compared with another
 abbrev pub compared : Way → Bool → List Symbol → List Symbol → Bool
@@ -42,4 +45,5 @@ compared Contains caseless word other = holds_part caseless other word
 -- it compares so with some item
 abbrev pub compared_some : Way → Bool → List Symbol → List (List Symbol) → Bool
 compared_some way caseless word [] = false
-compared_some way caseless word (item ∷ items) = compared way caseless word item || compared_some way caseless word items
+compared_some way caseless word (item ∷ items) = compared way caseless word item
+    || compared_some way caseless word items

@@ -24,11 +24,14 @@ words_of lists n = words_in (slice_get lists n)
 
 -- the first value compared with the second
 abbrev pub compares : Way → Sight → PlainComparison → Ran Bool
-compares way sight c = value_of sight c.first >>= λ a. value_of sight c.second >>= λ b. Ok (compared way c.caseless a b)
+compares way sight c = value_of sight c.first >>= λ a. value_of sight c.second >>= λ b. Ok
+    (compared way c.caseless a b)
 
 -- the value compared with the items of a list
 abbrev pub compares_some : Way → Sight → PlainMembership → Ran Bool
-compares_some way sight m = value_of sight m.value >>= λ a. Ok (compared_some way m.caseless a (words_of sight.lists m.list))
+compares_some way sight m =
+    value_of sight m.value >>= λ a. Ok
+    (compared_some way m.caseless a (words_of sight.lists m.list))
 
 -- where the first holds, what the others say; they aren't read otherwise
 abbrev pub and_then : Bool → Ran Bool → Ran Bool

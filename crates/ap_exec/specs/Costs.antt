@@ -1,4 +1,5 @@
--- How many steps there may be to run, for the proof that a run ends: each call counts with all that it calls.
+-- How many steps there may be to run, for the proof that a run ends: each call counts with all that
+-- it calls.
 use Rattle.std.specs.Prelude.{ℕ, zero, suc, ◌+◌, ◌==◌, if◌then◌else◌}
 use Rattle.ap_rules.specs.Plain.{PlainStatement, PlainStatements, PlainWhens, choose, assign, append, out, modify_case, call_macro, no_statements, then_statement, no_whens, then_when}
 use Rattle.ap_exec.specs.Running.{Still, body_at}
@@ -18,9 +19,11 @@ abbrev mutual
 
   pub cost_whens : (ℕ → ℕ) → PlainWhens → ℕ
   cost_whens calls no_whens = 0
-  cost_whens calls (then_when test statements more) = cost_all calls statements + cost_whens calls more
+  cost_whens calls (then_when test statements more) =
+      cost_all calls statements + cost_whens calls more
 
 -- of a macro, where only the first so many may be called
 abbrev pub macro_cost : Still → ℕ → ℕ → ℕ
 macro_cost w zero k = 0
-macro_cost w (suc n) k = if k == n then cost_all (macro_cost w n) (body_at w n) else macro_cost w n k
+macro_cost w (suc n) k = if k == n then cost_all (macro_cost w n) (body_at w n)
+    else macro_cost w n k

@@ -39,7 +39,9 @@ atoms_marks (a ∷ more) = atom_marks a ++ atoms_marks more
 
 -- ^ stands before a chunk's name, { and } about what is in it, and $ behind it
 abbrev pub chunk_marks : List Symbol → List Atom → List Mark
-chunk_marks name atoms = text (94 ∷ []) ∷ (text (rendering name) ∷ (text (123 ∷ []) ∷ (atoms_marks atoms ++ text (125 ∷ 36 ∷ []) ∷ [])))
+chunk_marks name atoms =
+    text (94 ∷ []) ∷ (text (rendering name)
+    ∷ (text (123 ∷ []) ∷ (atoms_marks atoms ++ text (125 ∷ 36 ∷ []) ∷ [])))
 
 abbrev pub piece_marks : Piece → List Mark
 piece_marks (The_atom a) = atom_marks a
@@ -77,7 +79,8 @@ abbrev pub Appends : {Y : Type 0} → Result Y ExecRefusal → List ℕ → List
 Appends (Ok y) before after bytes = after ≡ before ++ bytes
 Appends (Err Memory) before after bytes = Unit {0}
 Appends (Err ValueTooLong) before after bytes = ⊥
-Appends (Err OutputTooLong) before after bytes = (rest : List ℕ) → is_over (before ++ (bytes ++ rest)) ≡ true
+Appends (Err OutputTooLong) before after bytes = (rest : List ℕ) →
+    is_over (before ++ (bytes ++ rest)) ≡ true
 
 -- what is written, and what follows where these marks are still to come
 abbrev pub goes_on : Filling → List Mark → List ℕ
@@ -91,5 +94,6 @@ Stops OutputTooLong f ms = (more : List Mark) → is_over (goes_on f (ms ++ more
 
 -- these marks were written, or the text is too long with them
 abbrev pub Writes : {Y : Type 0} → Result Y ExecRefusal → Filling → Filling → List Mark → Type 0
-Writes (Ok y) before after ms = (more : List Mark) → goes_on after more ≡ goes_on before (ms ++ more)
+Writes (Ok y) before after ms = (more : List Mark) →
+    goes_on after more ≡ goes_on before (ms ++ more)
 Writes (Err e) before after ms = Stops e before ms

@@ -22,8 +22,10 @@ use Rattle.ap_exec.specs.Filling.{marks, filled, left_over}
 -- a blank: white space and whole superblanks, in a row
 pub data IsBlank : List ℕ → Type 0 where
   ends : {bytes : List ℕ} → bytes ≡ [] → IsBlank bytes
-  white : {bytes : List ℕ} (b : ℕ) (rest : List ℕ) → is_white b ≡ true → IsBlank rest → bytes ≡ b ∷ rest → IsBlank bytes
-  superblank : {bytes : List ℕ} (front rest : List ℕ) → IsSuperblank front → IsBlank rest → bytes ≡ front ++ rest → IsBlank bytes
+  white : {bytes : List ℕ} (b : ℕ) (rest : List ℕ) → is_white b ≡ true → IsBlank rest →
+      bytes ≡ b ∷ rest → IsBlank bytes
+  superblank : {bytes : List ℕ} (front rest : List ℕ) → IsSuperblank front → IsBlank rest →
+      bytes ≡ front ++ rest → IsBlank bytes
 
 abbrev pub AreBlanks : List (List ℕ) → Type 0
 AreBlanks [] = Unit {0}
@@ -78,19 +80,23 @@ all_outside (part ∷ parts) = outside part ∷ all_outside parts
 
 abbrev pub piece_items : Piece → List (List ℕ) → List Item
 piece_items (The_atom a) blanks = all_outside (atom_parts a blanks)
-piece_items (Chunk name atoms) blanks = item.Chunk (record { name = name; content = atoms_parts atoms blanks }) ∷ []
+piece_items (Chunk name atoms) blanks =
+    item.Chunk (record { name = name; content = atoms_parts atoms blanks }) ∷ []
 
 -- the units, blanks and chunks of a template with its slots filled
 abbrev pub items_of : List Piece → List (List ℕ) → List Item
 items_of [] blanks = []
 items_of (p ∷ more) blanks = piece_items p blanks ++ items_of more (left_by_piece p blanks)
 
--- The text spells these items, and behind them stand the superblanks of the blanks left over; the superblanks of the items,
--- those inside of chunks too, and of the blanks left over are those of all blanks, in order.
+-- The text spells these items, and behind them stand the superblanks of the blanks left over; the
+-- superblanks of the items, those inside of chunks too, and of the blanks left over are those of
+-- all blanks, in order.
 abbrev pub FillSpells : Type 0
 FillSpells = (template : List Piece) (blanks : List (List ℕ))
-    → (filled (marks template) blanks ≡ flat_map spelled (items_of template blanks) ++ flat_map left_over (left_by template blanks))
-    × (flat_map item_supers (items_of template blanks) ++ supers_in (left_by template blanks) ≡ supers_in blanks)
+    → (filled (marks template) blanks ≡ flat_map spelled (items_of template blanks)
+    ++ flat_map left_over (left_by template blanks))
+    × (flat_map item_supers (items_of template blanks) ++ supers_in (left_by template blanks)
+    ≡ supers_in blanks)
 
 abbrev pub IsWordedAtom : Atom → Type 0
 IsWordedAtom (The_unit word) = AreProper word × AreCoded word

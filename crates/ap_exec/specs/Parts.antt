@@ -51,7 +51,8 @@ longer (Some m) n = Some (if nat_lt m n then n else m)
 -- the length of the longest item with which the word begins, where it begins with one
 abbrev pub longest : Option ℕ → List (List Symbol) → List Symbol → Option ℕ
 longest best [] word = best
-longest best (item ∷ items) word = longest (if begins_with item word then longer best (length item) else best) items word
+longest best (item ∷ items) word =
+    longest (if begins_with item word then longer best (length item) else best) items word
 
 abbrev pub found : ℕ → Option ℕ → Span → Span
 found at None later = later
@@ -73,17 +74,29 @@ items_in (Some attribute) = map tags_in attribute.items
 abbrev pub items_of : List DefAttr → ℕ → List (List Symbol)
 items_of attributes n = items_in (slice_get attributes n)
 
--- Where a part of a word stands: `lem` before the first tag, `lemh` before the first queue or tag, `lemq` the rest of `lem`,
--- `tags` the run of tags from the first one, `whole` all; an attribute at the first place from the first tag on where an item
--- fits, as long as the longest that fits there. A chunk's content is no part of its name.
+-- Where a part of a word stands: `lem` before the first tag, `lemh` before the first queue or tag,
+-- `lemq` the rest of `lem`, `tags` the run of tags from the first one, `whole` all; an attribute at
+-- the first place from the first tag on where an item fits, as long as the longest that fits there.
+-- A chunk's content is no part of its name.
 abbrev pub span_of : List DefAttr → ClipPart → List Symbol → Span
 span_of attributes Lem word = record { start = 0; count = prefix_len is_lemma word }
 span_of attributes Lemh word = record { start = 0; count = prefix_len is_head word }
-span_of attributes Lemq word = record { start = prefix_len is_head word; count = prefix_len is_lemma word - prefix_len is_head word }
-span_of attributes Tags word = record { start = prefix_len is_lemma word; count = prefix_len is_tag (drop (prefix_len is_lemma word) word) }
+span_of attributes Lemq word =
+    record {
+      start = prefix_len is_head word;
+      count =
+          prefix_len is_lemma word - prefix_len is_head word;
+    }
+span_of attributes Tags word =
+    record {
+      start = prefix_len is_lemma word;
+      count =
+          prefix_len is_tag (drop (prefix_len is_lemma word) word);
+    }
 span_of attributes Whole word = record { start = 0; count = length word }
 span_of attributes Content word = record { start = 0; count = 0 }
-span_of attributes (Attribute n) word = sought (prefix_len is_lemma word) (items_of attributes n) (drop (prefix_len is_lemma word) word)
+span_of attributes (Attribute n) word =
+    sought (prefix_len is_lemma word) (items_of attributes n) (drop (prefix_len is_lemma word) word)
 
 abbrev pub cut : Span → List Symbol → List Symbol
 cut span word = take span.count (drop span.start word)
@@ -106,11 +119,14 @@ word_of side queue (Some unit) = word_on side queue unit
 
 -- the word at a position, and the empty one where there is no word
 abbrev pub word_at : Sight → ℕ → Side → Bool → List Symbol
-word_at sight pos side queue = word_of (side_in sight.form side) queue (unit_at sight.here sight.units pos)
+word_at sight pos side queue =
+    word_of (side_in sight.form side) queue (unit_at sight.here sight.units pos)
 
 -- the part of that word
 abbrev pub part_at : Sight → ℕ → ClipPart → Side → Bool → List Symbol
-part_at sight pos part side queue = cut (span_of sight.attributes part (word_at sight pos side queue)) (word_at sight pos side queue)
+part_at sight pos part side queue =
+    cut (span_of sight.attributes part (word_at sight pos side queue))
+    (word_at sight pos side queue)
 
 -- in place of a part that isn't empty stands its link, where it has one
 abbrev pub linked : Option (List Symbol) → List Symbol → List Symbol

@@ -50,12 +50,14 @@ blank_atom (Some pos) = Slot
 
 abbrev pub chunk_piece_of : Sight → PlainChunkPiece → Ran Atom
 chunk_piece_of sight (chunk_unit vs) = unit_of sight vs >>= λ word. Ok (The_unit word)
-chunk_piece_of sight (chunk_units us) = units_of sight us >>= λ words. Ok (The_unit (compound words))
+chunk_piece_of sight (chunk_units us) =
+    units_of sight us >>= λ words. Ok (The_unit (compound words))
 chunk_piece_of sight (chunk_blank pos) = Ok (blank_atom pos)
 
 abbrev pub chunk_pieces_of : Sight → List PlainChunkPiece → Ran (List Atom)
 chunk_pieces_of sight [] = Ok []
-chunk_pieces_of sight (p ∷ ps) = chunk_piece_of sight p >>= λ x. chunk_pieces_of sight ps >>= λ xs. Ok (x ∷ xs)
+chunk_pieces_of sight (p ∷ ps) =
+    chunk_piece_of sight p >>= λ x. chunk_pieces_of sight ps >>= λ xs. Ok (x ∷ xs)
 
 abbrev pub tags_of : Sight → List PlainUnit → Ran (List Symbol)
 tags_of sight [] = Ok []
@@ -99,7 +101,8 @@ content_in None = []
 content_in (Some shown) = map atom_in shown.content
 
 abbrev pub content_of : Sight → PlainValue → List Atom
-content_of sight (clip c) = if gives_content c.part c.link_to then content_in (unit_at sight.here sight.units c.pos) else []
+content_of sight (clip c) = if gives_content c.part c.link_to
+    then content_in (unit_at sight.here sight.units c.pos) else []
 content_of sight v = []
 
 -- the content of a chunk's content clips, in order
@@ -107,14 +110,17 @@ abbrev pub contents_of : Sight → List PlainValue → List Atom
 contents_of sight [] = []
 contents_of sight (v ∷ vs) = content_of sight v ++ contents_of sight vs
 
--- A chunk as transfer makes it has its name and its tags, and its pieces; as interchunk makes it, its values as its name, and
--- their content.
+-- A chunk as transfer makes it has its name and its tags, and its pieces; as interchunk makes it,
+-- its values as its name, and their content.
 abbrev pub piece_of : Sight → PlainPiece → Ran Piece
 piece_of sight (blank pos) = Ok (The_atom (blank_atom pos))
 piece_of sight (unit vs) = unit_of sight vs >>= λ word. Ok (The_atom (The_unit word))
 piece_of sight (units us) = units_of sight us >>= λ words. Ok (The_atom (The_unit (compound words)))
-piece_of sight (chunk c) = tags_of sight c.tags >>= λ tags. chunk_pieces_of sight c.pieces >>= λ atoms. Ok (Chunk (name_of sight.vars c ++ tags) atoms)
-piece_of sight (value_chunk vs) = unit_of sight vs >>= λ name. Ok (Chunk name (contents_of sight vs))
+piece_of sight (chunk c) =
+    tags_of sight c.tags >>= λ tags. chunk_pieces_of sight c.pieces >>= λ atoms. Ok
+    (Chunk (name_of sight.vars c ++ tags) atoms)
+piece_of sight (value_chunk vs) =
+    unit_of sight vs >>= λ name. Ok (Chunk name (contents_of sight vs))
 
 -- the bytes of the pieces, slots aside; of an empty unit nothing is written
 abbrev pub unit_size : List Symbol → ℕ

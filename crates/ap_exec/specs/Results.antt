@@ -7,7 +7,8 @@ abbrev pub Ran : Type 0 → Type 0
 Ran A = Result A ExecRefusal
 
 infixl 10 ◌>>=◌
-abbrev pub ◌>>=◌ : {A B : Type 0} → Result A ExecRefusal → (A → Result B ExecRefusal) → Result B ExecRefusal
+abbrev pub ◌>>=◌ : {A B : Type 0} → Result A ExecRefusal → (A → Result B ExecRefusal) →
+    Result B ExecRefusal
 (Ok x) >>= f = f x
 (Err e) >>= f = Err e
 

@@ -34,7 +34,15 @@ pub record Now : Type 0 where
   pub room : ℕ
 
 abbrev pub sight_of : Still → List (Option ℕ) → Now → Sight
-sight_of w here s = record { form = w.form; attributes = w.attributes; lists = w.lists; here = here; units = s.units; vars = s.vars }
+sight_of w here s = record {
+  form = w.form;
+  attributes = w.attributes;
+  lists = w.lists;
+  here =
+      here;
+  units = s.units;
+  vars = s.vars;
+}
 
 -- a variable is set
 abbrev pub with_var : ℕ → List Symbol → Now → Now
@@ -42,7 +50,8 @@ with_var n word s = record s { vars = slice_set s.vars n word }
 
 -- the unit of this number, where there is one, is written to
 abbrev pub unit_set : Still → Clip → List Symbol → List Shown → Option ℕ → Option Shown → List Shown
-unit_set w c value units (Some n) (Some unit) = slice_set units n (written w.form w.attributes c value unit)
+unit_set w c value units (Some n) (Some unit) =
+    slice_set units n (written w.form w.attributes c value unit)
 unit_set w c value units (Some n) None = units
 unit_set w c value units None unit = units
 
@@ -68,7 +77,9 @@ recased_at sight p value = recase_lem (case_of_lem value) (held_at sight p)
 
 -- a piece is added to the output, where there is room for it
 unfoldable pub placed : Piece → Now → Ran Now
-placed piece s = if nat_le (piece_size piece) s.room then Ok (record s { pieces = s.pieces ++ piece ∷ []; room = s.room - piece_size piece }) else Err OutputTooLong
+placed piece s = if nat_le (piece_size piece) s.room
+    then Ok (record s { pieces = s.pieces ++ piece ∷ []; room = s.room - piece_size piece })
+    else Err OutputTooLong
 
 abbrev pub outs : Still → List (Option ℕ) → List PlainPiece → Now → Ran Now
 outs w here [] s = Ok s
@@ -89,21 +100,28 @@ Calls = ℕ → List (Option ℕ) → Now → Ran Now
 
 abbrev mutual
   pub run : Still → Calls → List (Option ℕ) → PlainStatement → Now → Ran Now
-  run w calls here (choose whens otherwise) s = run_choice w calls here whens (run_all w calls here otherwise) s
-  run w calls here (assign p v) s = value_of (sight_of w here s) v >>= λ x. Ok (with_place w here p x s)
-  run w calls here (append n vs) s = appended (sight_of w here s) n (values_of vs) >>= λ x. Ok (with_var n x s)
+  run w calls here (choose whens otherwise) s =
+      run_choice w calls here whens (run_all w calls here otherwise) s
+  run w calls here (assign p v) s =
+      value_of (sight_of w here s) v >>= λ x. Ok (with_place w here p x s)
+  run w calls here (append n vs) s =
+      appended (sight_of w here s) n (values_of vs) >>= λ x. Ok (with_var n x s)
   run w calls here (out pieces) s = outs w here pieces s
-  run w calls here (modify_case p v) s = value_of (sight_of w here s) v >>= λ x. Ok (with_place w here p (recased_at (sight_of w here s) p x) s)
+  run w calls here (modify_case p v) s =
+      value_of (sight_of w here s) v >>= λ x. Ok
+      (with_place w here p (recased_at (sight_of w here s) p x) s)
   run w calls here (call_macro n params) s = calls n (places_of here params) s
 
   pub run_all : Still → Calls → List (Option ℕ) → PlainStatements → Now → Ran Now
   run_all w calls here no_statements s = Ok s
-  run_all w calls here (then_statement x more) s = run w calls here x s >>= run_all w calls here more
+  run_all w calls here (then_statement x more) s =
+      run w calls here x s >>= run_all w calls here more
 
   pub run_choice : Still → Calls → List (Option ℕ) → PlainWhens → (Now → Ran Now) → Now → Ran Now
   run_choice w calls here no_whens last s = last s
   run_choice w calls here (then_when test statements more) last s =
-      holds (sight_of w here s) test >>= λ b. either_of b (run_all w calls here statements s) (run_choice w calls here more last s)
+      holds (sight_of w here s) test >>= λ b. either_of b (run_all w calls here statements s)
+      (run_choice w calls here more last s)
 
 abbrev pub body_in : Option PlainStatements → PlainStatements
 body_in None = no_statements
@@ -112,7 +130,9 @@ body_in (Some body) = body
 abbrev pub body_at : Still → ℕ → PlainStatements
 body_at w n = body_in (slice_get w.bodies n)
 
--- what a macro does that may call those above it alone: only the first so many are in view, and no other does anything
+-- what a macro does that may call those above it alone: only the first so many are in view, and no
+-- other does anything
 abbrev pub called : Still → ℕ → Calls
 called w zero k here s = Ok s
-called w (suc n) k here s = if k == n then run_all w (called w n) here (body_at w n) s else called w n k here s
+called w (suc n) k here s = if k == n then run_all w (called w n) here (body_at w n) s
+    else called w n k here s

@@ -16,11 +16,13 @@ counted s = s.room + pieces_size s.pieces
 
 -- statements make the room smaller by the bytes of the pieces that they add, and by nothing else
 abbrev pub RoomIsLessByPieces : Type 0
-RoomIsLessByPieces = (w : Still) (macros : ℕ) (here : List (Option ℕ)) (body : PlainStatements) (s t : Now) → run_all w (called w macros) here body s ≡ Ok t → counted t ≡ counted s
+RoomIsLessByPieces = (w : Still) (macros : ℕ) (here : List (Option ℕ)) (body : PlainStatements)
+    (s t : Now) → run_all w (called w macros) here body s ≡ Ok t → counted t ≡ counted s
 
 -- what a rule gives has no more bytes than an output may have
 abbrev pub OutputsAreWithin : Type 0
-OutputsAreWithin = (r : PlainRules) (n : ℕ) (m : Matched) (vars : List (List Symbol)) (o : Outcome) → act_of r n m vars ≡ Ok o → pieces_size o.pieces ≤ SPAN_MAX
+OutputsAreWithin = (r : PlainRules) (n : ℕ) (m : Matched) (vars : List (List Symbol)) (o : Outcome)
+    → act_of r n m vars ≡ Ok o → pieces_size o.pieces ≤ SPAN_MAX
 
 -- the bytes of the texts of a template, its slots aside
 abbrev pub texts_size : List Mark → ℕ

@@ -23,12 +23,14 @@ abbrev pub body_of : List Statement → PlainStatements
 body_of statements = statements_of (plain_statements statements)
 
 abbrev pub run_rest : Still → List (Option ℕ) → Scope → List Statement → Now → Ran Now
-run_rest w positions scope rest s = run_all w (called w scope.visible) (here_of positions scope) (body_of rest) s
+run_rest w positions scope rest s =
+    run_all w (called w scope.visible) (here_of positions scope) (body_of rest) s
 
 -- the last frame is run first
 abbrev pub unwound : Still → List (Option ℕ) → List Frame → Now → Ran Now
 unwound w positions [] s = Ok s
-unwound w positions (f ∷ frames) s = unwound w positions frames s >>= run_rest w positions f.scope f.rest.now
+unwound w positions (f ∷ frames) s =
+    unwound w positions frames s >>= run_rest w positions f.scope f.rest.now
 
 -- all that is left to run
 abbrev pub left : Still → Stack → Now → Ran Now
@@ -40,7 +42,8 @@ rest_first w stack scope rest s = run_rest w stack.positions.items scope rest s 
 
 -- this statement is run, and then what the stack holds
 abbrev pub one_first : Still → Stack → Scope → PlainStatement → Now → Ran Now
-one_first w stack scope x s = run w (called w scope.visible) (here_of stack.positions.items scope) x s >>= left w stack
+one_first w stack scope x s =
+    run w (called w scope.visible) (here_of stack.positions.items scope) x s >>= left w stack
 
 -- what comes after is what was to come, or nothing comes
 abbrev pub Leads : {Y : Type 0} → Result Y ExecRefusal → Ran Now → Ran Now → Type 0
@@ -50,7 +53,8 @@ Leads (Err e) before after = Fails e before
 -- the positions of each frame end where those of the next one begin, or are the same
 abbrev pub AreNested : ℕ → List Frame → ℕ → Type 0
 AreNested low [] high = low ≤ high
-AreNested low (f ∷ frames) high = (low ≤ f.scope.to) × (f.scope.from ≤ f.scope.to) × AreNested f.scope.to frames high
+AreNested low (f ∷ frames) high = (low ≤ f.scope.to) × (f.scope.from ≤ f.scope.to)
+    × AreNested f.scope.to frames high
 
 pub record IsScope (scope : Scope) (positions : List (Option ℕ)) : Type 0 where
   pub order : scope.from ≤ scope.to

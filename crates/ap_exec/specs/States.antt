@@ -26,10 +26,22 @@ abbrev pub body_in : DefMacro → PlainStatements
 body_in m = statements_of (plain_statements m.statements.items)
 
 abbrev pub still : World → Still
-still w = record { form = w.form; attributes = w.attributes.now; lists = w.lists.now; bodies = map body_in w.macros.now }
+still w = record {
+  form = w.form;
+  attributes = w.attributes.now;
+  lists = w.lists.now;
+  bodies =
+      map body_in w.macros.now;
+}
 
 abbrev pub now : World → State → Now
-now w s = record { units = s.units.items; vars = overlaid w.vars.now s.fresh.items; pieces = s.pieces; room = s.room }
+now w s = record {
+  units = s.units.items;
+  vars = overlaid w.vars.now s.fresh.items;
+  pieces =
+      s.pieces;
+  room = s.room;
+}
 
 abbrev pub sight : View → Sight
 sight v = record {

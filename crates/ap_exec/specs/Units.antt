@@ -6,15 +6,16 @@ use Rattle.ap_rules.specs.declared.rules.DefList.{DefList}
 use Rattle.ap_rules.specs.declared.rules.Form.{Form}
 use Rattle.ap_stream.specs.declared.item.Inner.{Inner}
 
--- A unit: in transfer the unit itself and its target, whose head ends at the border; in interchunk a chunk's name and its
--- content; in postchunk a word, or the chunk's name.
+-- A unit: in transfer the unit itself and its target, whose head ends at the border; in interchunk
+-- a chunk's name and its content; in postchunk a word, or the chunk's name.
 pub record Shown : Type 0 where
   pub source : List Symbol
   pub target : List Symbol
   pub border : ℕ
   pub content : List Inner
 
--- What the rules define, which unit stands at each position, the units by number, and what the variables hold.
+-- What the rules define, which unit stands at each position, the units by number, and what the
+-- variables hold.
 pub record Sight : Type 0 where
   pub form : Form
   pub attributes : List DefAttr

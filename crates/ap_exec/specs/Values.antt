@@ -38,14 +38,16 @@ abbrev mutual
   value_of sight (lit word) = bounded word
   value_of sight (lit_tag word) = bounded word
   value_of sight (var n) = bounded (var_at (slice_get sight.vars n))
-  value_of sight (get_case_from pos v) = value_of sight v >>= λ word. bounded (recase_lem (case_at sight pos) word)
+  value_of sight (get_case_from pos v) =
+      value_of sight v >>= λ word. bounded (recase_lem (case_at sight pos) word)
   value_of sight (case_of c) = bounded (case_said sight c)
   value_of sight (concat vs) = joined_of sight vs >>= bounded
   value_of sight (blank_value pos) = bounded (Blank ∷ [])
 
   pub joined_of : Sight → PlainValues → Ran (List Symbol)
   joined_of sight no_values = Ok []
-  joined_of sight (then_value v vs) = value_of sight v >>= λ w. joined_of sight vs >>= λ ws. Ok (w ++ ws)
+  joined_of sight (then_value v vs) =
+      value_of sight v >>= λ w. joined_of sight vs >>= λ ws. Ok (w ++ ws)
 
 -- a variable with values behind it: all values are read first
 abbrev pub appended : Sight → ℕ → PlainValues → Ran (List Symbol)

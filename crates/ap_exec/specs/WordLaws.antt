@@ -17,36 +17,50 @@ read_as true word = each_letter lower_lem word
 
 -- words are equal where they are one list
 abbrev pub EqualsIsEquality : Type 0
-EqualsIsEquality = (caseless : Bool) (a b : List Symbol) → IsTrue (compared Equals caseless a b) ↔ (read_as caseless a ≡ read_as caseless b)
+EqualsIsEquality = (caseless : Bool) (a b : List Symbol) → IsTrue (compared Equals caseless a b)
+    ↔ (read_as caseless a ≡ read_as caseless b)
 
 -- a word begins with another where it is the other with something behind it
 abbrev pub BeginsIsAFront : Type 0
-BeginsIsAFront = (caseless : Bool) (word part : List Symbol) → IsTrue (compared Begins caseless word part) ↔ ((after : List Symbol) × (read_as caseless word ≡ read_as caseless part ++ after))
+BeginsIsAFront = (caseless : Bool) (word part : List Symbol) →
+    IsTrue (compared Begins caseless word part)
+    ↔ ((after : List Symbol) × (read_as caseless word ≡ read_as caseless part ++ after))
 
 -- a word ends with another where it is the other with something before it
 abbrev pub EndsIsABack : Type 0
-EndsIsABack = (caseless : Bool) (word part : List Symbol) → IsTrue (compared Ends caseless word part) ↔ ((before : List Symbol) × (read_as caseless word ≡ before ++ read_as caseless part))
+EndsIsABack = (caseless : Bool) (word part : List Symbol) →
+    IsTrue (compared Ends caseless word part)
+    ↔ ((before : List Symbol) × (read_as caseless word ≡ before ++ read_as caseless part))
 
 -- a word holds another where it is the other between two others
 abbrev pub ContainsIsWithin : Type 0
 ContainsIsWithin = (caseless : Bool) (word part : List Symbol)
-    → IsTrue (compared Contains caseless word part) ↔ ((before : List Symbol) × ((after : List Symbol) × (read_as caseless word ≡ before ++ (read_as caseless part ++ after))))
+    → IsTrue (compared Contains caseless word part)
+    ↔ ((before : List Symbol)
+    × ((after : List Symbol)
+    × (read_as caseless word ≡ before ++ (read_as caseless part ++ after))))
 
 -- a word compares so with a list where it does with an item of it
 abbrev pub SomeIsAnItem : Type 0
 SomeIsAnItem = (way : Way) (caseless : Bool) (word : List Symbol) (items : List (List Symbol))
-    → IsTrue (compared_some way caseless word items) ↔ ((item : List Symbol) × (IsIn item items × IsTrue (compared way caseless word item)))
+    → IsTrue (compared_some way caseless word items)
+    ↔ ((item : List Symbol) × (IsIn item items × IsTrue (compared way caseless word item)))
 
--- A part that was written is read as what was written, and what stands before it and behind it is as it was.
+-- A part that was written is read as what was written, and what stands before it and behind it is
+-- as it was.
 abbrev pub WrittenIsRead : Type 0
 WrittenIsRead = (span : Span) (value word : List Symbol) → span.start + span.count ≤ length word
     → (cut (record { start = span.start; count = length value }) (spliced span value word) ≡ value)
     × (take span.start (spliced span value word) ≡ take span.start word)
-    × (drop (span.start + length value) (spliced span value word) ≡ drop (span.start + span.count) word)
+    × (drop (span.start + length value) (spliced span value word)
+    ≡ drop (span.start + span.count) word)
 
--- Where a part is replaced that lies wholly in the head of a target, the queue behind the border is as it was; where one is
--- that lies wholly in the queue, the head before the border is.
+-- Where a part is replaced that lies wholly in the head of a target, the queue behind the border is
+-- as it was; where one is that lies wholly in the queue, the head before the border is.
 abbrev pub OtherSideStays : Type 0
-OtherSideStays = (span : Span) (value word : List Symbol) (border : ℕ) → span.start + span.count ≤ length word → border ≤ length word
-    → (span.start + span.count ≤ border → drop (moved span (length value) border) (spliced span value word) ≡ drop border word)
-    × (border ≤ span.start → border < span.start + span.count → take (moved span (length value) border) (spliced span value word) ≡ take border word)
+OtherSideStays = (span : Span) (value word : List Symbol) (border : ℕ) →
+    span.start + span.count ≤ length word → border ≤ length word
+    → (span.start + span.count ≤ border →
+    drop (moved span (length value) border) (spliced span value word) ≡ drop border word)
+    × (border ≤ span.start → border < span.start + span.count →
+    take (moved span (length value) border) (spliced span value word) ≡ take border word)

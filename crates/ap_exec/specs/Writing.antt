@@ -25,8 +25,9 @@ is_kept Whole count = false
 is_kept Content count = true
 is_kept (Attribute n) count = count == 0
 
--- Where the border stands after a part of the target became this long: it moves with its symbols where the part lies wholly
--- in the head, and stays where the part lies wholly in the queue; else it stands at the end of the new part.
+-- Where the border stands after a part of the target became this long: it moves with its symbols
+-- where the part lies wholly in the head, and stays where the part lies wholly in the queue; else
+-- it stands at the end of the new part.
 abbrev pub moved : Span → ℕ → ℕ → ℕ
 moved span size border =
     if nat_le (span.start + span.count) border then border - span.count + size
@@ -35,12 +36,19 @@ moved span size border =
 
 abbrev pub replaced : Side → Span → List Symbol → Shown → Shown
 replaced Source span value unit = record unit { source = spliced span value unit.source }
-replaced Target span value unit = record unit { target = spliced span value unit.target; border = moved span (length value) unit.border }
+replaced Target span value unit =
+    record unit {
+      target = spliced span value unit.target;
+      border =
+          moved span (length value) unit.border;
+    }
 
 abbrev pub written_at : ClipPart → Side → Span → List Symbol → Shown → Shown
-written_at part side span value unit = if is_kept part span.count then unit else replaced side span value unit
+written_at part side span value unit = if is_kept part span.count then unit
+    else replaced side span value unit
 
 -- the unit with a value in place of the part that a clip names; its link is ignored
 abbrev pub written : Form → List DefAttr → Clip → List Symbol → Shown → Shown
 written form attributes c value unit =
-    written_at c.part (side_in form c.side) (span_of attributes c.part (word_on (side_in form c.side) c.queue unit)) value unit
+    written_at c.part (side_in form c.side)
+    (span_of attributes c.part (word_on (side_in form c.side) c.queue unit)) value unit

@@ -32,7 +32,8 @@ fn run_rule(
     matched: &Matched,
     vars: &[Word],
 ) -> Result<Given, ExecRefusal>
-    ensures { Gives (λ g. record { pieces = g.pieces; vars = overlaid vars.now g.fresh.items }) result (act_of (plain_rules rules.now) rule matched.now vars.now) }
+    ensures { Gives (λ g. record { pieces = g.pieces; vars = overlaid vars.now g.fresh.items })
+        result (act_of (plain_rules rules.now) rule matched.now vars.now) }
 {
     let world = world_of(rules, vars);
     let units = units_of(alloc, matched)?;
@@ -55,8 +56,8 @@ fn run_rule(
 
 /// What a rule does to a match: the template that it gives, and new values of the variables. Its
 /// statements are run in the order in which they stand (the Apertium transfer format). A number
-/// that names nothing, as of a rule, a unit, a variable or a macro that isn't there, gives the empty
-/// word, or does nothing.
+/// that names nothing, as of a rule, a unit, a variable or a macro that isn't there, gives the
+/// empty word, or does nothing.
 ///
 /// `ValueTooLong` comes exactly where a value has more than `UNIT_MAX` bytes, and `OutputTooLong`
 /// exactly where the pieces, without their slots, have more than `SPAN_MAX` bytes, whichever comes
@@ -69,7 +70,8 @@ pub fn act(
     matched: &Matched,
     vars: &mut Vars,
 ) -> Result<Template, ExecRefusal>
-    ensures gives { Gives (λ pieces. record { pieces = pieces; vars = vars.new }) result (act_of (plain_rules rules.now) rule matched.now vars.old) }
+    ensures gives { Gives (λ pieces. record { pieces = pieces; vars = vars.new }) result
+        (act_of (plain_rules rules.now) rule matched.now vars.old) }
     ensures refused { OnErr result (vars.new ≡ vars.old) }
 {
     let given = run_rule(alloc, rules, rule, matched, vars.as_slice())?;

@@ -38,7 +38,8 @@ pub(crate) fn view_of<'a, 'u>(
 /// Makes the list of new values as long as this variable needs it.
 fn reach(n: usize, fresh: &mut Vec<Option<Word>>) -> Result<(), Memory>
     ensures reached { OnOk result (n < length fresh.new.items) }
-    ensures same { OnOk result ((base : List (List Symbol)) → overlaid base fresh.new.items ≡ overlaid base fresh.old.items) }
+    ensures same { OnOk result ((base : List (List Symbol)) → overlaid base fresh.new.items
+        ≡ overlaid base fresh.old.items) }
 {
     'fresh: while fresh.len() <= n {
         fresh.push(None)?;
@@ -53,7 +54,8 @@ pub(crate) fn set_var(
     word: Word,
     state: &mut State<'_>,
 ) -> Result<(), Memory>
-    ensures { OnOk result (now world.entry state.new ≡ with_var n word (now world.entry state.old)) }
+    ensures { OnOk result (now world.entry state.new
+        ≡ with_var n word (now world.entry state.old)) }
 {
     if n >= world.vars.len() {
         return Ok(());
@@ -72,7 +74,8 @@ fn set_part(
     value: &Word,
     state: &mut State<'_>,
 ) -> Result<(), Memory>
-    ensures { OnOk result (now world.entry state.new ≡ with_part (still world.entry) here.now clip.now value.now (now world.entry state.old)) }
+    ensures { OnOk result (now world.entry state.new
+        ≡ with_part (still world.entry) here.now clip.now value.now (now world.entry state.old)) }
 {
     match number_at(here, clip.pos) {
         None => Ok(()),
@@ -95,7 +98,8 @@ fn set_place(
     value: Word,
     state: &mut State<'_>,
 ) -> Result<(), Memory>
-    ensures { OnOk result (now world.entry state.new ≡ with_place (still world.entry) here.now place.now value (now world.entry state.old)) }
+    ensures { OnOk result (now world.entry state.new
+        ≡ with_place (still world.entry) here.now place.now value (now world.entry state.old)) }
 {
     match place {
         Place::Clip(clip) => set_part(alloc, world, here, clip, &value, state),
@@ -129,7 +133,9 @@ pub(crate) fn assign(
     held: &Let,
     state: &mut State<'_>,
 ) -> Result<(), ExecRefusal>
-    ensures { Gives (λ _. now world.entry state.new) result (run (still world.entry) (called (still world.entry) 0) here.now (assign held.now.place (plain_value held.now.value)) (now world.entry state.old)) }
+    ensures { Gives (λ _. now world.entry state.new) result
+        (run (still world.entry) (called (still world.entry) 0) here.now
+        (assign held.now.place (plain_value held.now.value)) (now world.entry state.old)) }
 {
     let mut value = Word::new(alloc);
     push_value(alloc, view_of(world, here, state), &held.value, &mut value)?;
@@ -145,7 +151,9 @@ pub(crate) fn modify_case(
     held: &ModifyCase,
     state: &mut State<'_>,
 ) -> Result<(), ExecRefusal>
-    ensures { Gives (λ _. now world.entry state.new) result (run (still world.entry) (called (still world.entry) 0) here.now (modify_case held.now.place (plain_value held.now.value)) (now world.entry state.old)) }
+    ensures { Gives (λ _. now world.entry state.new) result
+        (run (still world.entry) (called (still world.entry) 0) here.now
+        (modify_case held.now.place (plain_value held.now.value)) (now world.entry state.old)) }
 {
     let mut value = Word::new(alloc);
     push_value(alloc, view_of(world, here, state), &held.value, &mut value)?;
@@ -163,7 +171,9 @@ pub(crate) fn append(
     held: &Append,
     state: &mut State<'_>,
 ) -> Result<(), ExecRefusal>
-    ensures { Gives (λ _. now world.entry state.new) result (run (still world.entry) (called (still world.entry) 0) here.now (append held.now.n (plain_values held.now.values.items)) (now world.entry state.old)) }
+    ensures { Gives (λ _. now world.entry state.new) result
+        (run (still world.entry) (called (still world.entry) 0) here.now
+        (append held.now.n (plain_values held.now.values.items)) (now world.entry state.old)) }
 {
     let word = append_to(alloc, view_of(world, here, state), held.n, &held.values)?;
     set_var(world, held.n, word, state)?;
@@ -203,7 +213,8 @@ fn atom_size(atom: &Atom) -> usize
 
 /// What is left after the atoms, if that is enough.
 fn less_atoms(room: usize, atoms: &[Atom]) -> Option<usize>
-    ensures { result ≡ (if nat_le (atoms_size atoms.now) room then something (room - atoms_size atoms.now) else nothing) }
+    ensures { result ≡ (if nat_le (atoms_size atoms.now) room
+        then something (room - atoms_size atoms.now) else nothing) }
 {
     let mut left = room;
     for atom in atoms {
@@ -217,7 +228,8 @@ fn less_atoms(room: usize, atoms: &[Atom]) -> Option<usize>
 
 /// What is left after a piece, if that is enough.
 fn less_piece(room: usize, piece: &Piece) -> Option<usize>
-    ensures { result ≡ (if nat_le (piece_size piece.now) room then something (room - piece_size piece.now) else nothing) }
+    ensures { result ≡ (if nat_le (piece_size piece.now) room
+        then something (room - piece_size piece.now) else nothing) }
 {
     match piece {
         Piece::Atom(atom) => less(room, atom_size(atom)),
@@ -231,7 +243,8 @@ fn less_piece(room: usize, piece: &Piece) -> Option<usize>
 /// Adds a piece to the output.
 #[tactic(auto, unfolding(crate::specs::Running::placed))]
 fn place(world: World<'_>, piece: Piece, state: &mut State<'_>) -> Result<(), ExecRefusal>
-    ensures { Gives (λ _. now world.entry state.new) result (placed piece (now world.entry state.old)) }
+    ensures { Gives (λ _. now world.entry state.new) result
+        (placed piece (now world.entry state.old)) }
 {
     let _world = world;
     match less_piece(state.room, &piece) {
@@ -252,7 +265,9 @@ fn put_pieces(
     pieces: &[StatedPiece],
     state: &mut State<'_>,
 ) -> Result<(), ExecRefusal>
-    ensures { Gives (λ _. now world.entry state.new) result (outs (still world.entry) here.now (map plain_piece pieces.now) (now world.entry state.old)) }
+    ensures { Gives (λ _. now world.entry state.new) result
+        (outs (still world.entry) here.now (map plain_piece pieces.now)
+        (now world.entry state.old)) }
 {
     'pieces: for piece in pieces {
         let made = piece_of(alloc, view_of(world, here, state), piece)?;
@@ -269,7 +284,9 @@ pub(crate) fn put_out(
     held: &Out,
     state: &mut State<'_>,
 ) -> Result<(), ExecRefusal>
-    ensures { Gives (λ _. now world.entry state.new) result (run (still world.entry) (called (still world.entry) 0) here.now (out (map plain_piece held.now.pieces.items)) (now world.entry state.old)) }
+    ensures { Gives (λ _. now world.entry state.new) result
+        (run (still world.entry) (called (still world.entry) 0) here.now
+        (out (map plain_piece held.now.pieces.items)) (now world.entry state.old)) }
 {
     put_pieces(alloc, world, here, &held.pieces, state)
 }

@@ -45,7 +45,8 @@ fn compares_some(
     way: Way,
     held: &Membership,
 ) -> Result<bool, ExecRefusal>
-    ensures { Gives (λ b. b) result (compares_some way (sight view.entry) (plain_membership held.now)) }
+    ensures { Gives (λ b. b) result
+        (compares_some way (sight view.entry) (plain_membership held.now)) }
 {
     let mut made = Word::new(alloc);
     let word = read(alloc, view, &held.value, &mut made)?;
@@ -82,7 +83,8 @@ fn all_hold(
     view: View<'_, '_>,
     conditions: &[Condition],
 ) -> Result<bool, ExecRefusal>
-    ensures { Gives (λ b. b) result (all_hold (sight view.entry) (conditions_of (plain_conditions conditions.now))) }
+    ensures { Gives (λ b. b) result
+        (all_hold (sight view.entry) (conditions_of (plain_conditions conditions.now))) }
 {
     'conditions: for condition in conditions {
         if !holds(alloc, view, condition)? {
@@ -98,7 +100,8 @@ fn one_holds(
     view: View<'_, '_>,
     conditions: &[Condition],
 ) -> Result<bool, ExecRefusal>
-    ensures { Gives (λ b. b) result (one_holds (sight view.entry) (conditions_of (plain_conditions conditions.now))) }
+    ensures { Gives (λ b. b) result
+        (one_holds (sight view.entry) (conditions_of (plain_conditions conditions.now))) }
 {
     'conditions: for condition in conditions {
         if holds(alloc, view, condition)? {

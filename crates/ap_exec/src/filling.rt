@@ -150,9 +150,9 @@ fn bounded(out: Bytes) -> Result<Bytes, ExecRefusal>
 }
 
 /// The text of a template: a unit as `^` and its word and `$`, an empty one as nothing; a chunk as
-/// `^`, its name, what is in it between `{` and `}`, and `$` (the Apertium stream format). The slots
-/// in order, those inside of chunks too, are the blanks in order, whole; a slot without a blank is
-/// one space. The superblanks of the blanks that are left over follow.
+/// `^`, its name, what is in it between `{` and `}`, and `$` (the Apertium stream format). The
+/// slots in order, those inside of chunks too, are the blanks in order, whole; a slot without a
+/// blank is one space. The superblanks of the blanks that are left over follow.
 ///
 /// `OutputTooLong` comes exactly where the text has more than `SPAN_MAX` bytes; `ValueTooLong`
 /// never comes; `Memory` means want of memory.

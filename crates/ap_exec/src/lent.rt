@@ -40,7 +40,13 @@ impl<'a> Model for Lent<'a> {
 
     ghost Value = { Shown };
 
-    ghost view = { λ l. record { source = word_in l.source; target = word_in l.target; border = l.border; content = l.content.now } };
+    ghost view = { λ l. record {
+      source = word_in l.source;
+      target = word_in l.target;
+      border =
+          l.border;
+      content = l.content.now;
+    } };
 
     ghost invariant = { λ l. l.border ≤ length (word_in l.target) };
 }
@@ -54,7 +60,13 @@ impl<'a> Lent<'a> {
         content: &'a [Inner],
     ) -> Lent<'a>
         requires { border ≤ length (word_in target) }
-        ensures { result ≡ record { source = word_in source.entry; target = word_in target.entry; border = border; content = content.now } }
+        ensures { result ≡ record {
+          source = word_in source.entry;
+          target =
+              word_in target.entry;
+          border = border;
+          content = content.now;
+        } }
     {
         Lent {
             source,

@@ -1,4 +1,5 @@
-//! What a rule does to the units that it matches: its template, and the template with its slots filled.
+//! What a rule does to the units that it matches: its template, and the template with its slots
+//! filled.
 #![tactic(auto)]
 
 mod acting;

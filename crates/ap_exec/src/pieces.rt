@@ -46,7 +46,9 @@ fn push_units(
     units: &[Lu],
     into: &mut Word,
 ) -> Result<(), ExecRefusal>
-    ensures { Gives (λ _. into.new) result (seen (λ ws. all_joined into.old ws) (units_of (sight view.entry) (map values_in units.now))) }
+    ensures { Gives (λ _. into.new) result
+        (seen (λ ws. all_joined into.old ws)
+        (units_of (sight view.entry) (map values_in units.now))) }
 {
     'units: for unit in units {
         let word = word_of(alloc, view, &unit.values)?;
@@ -58,7 +60,8 @@ fn push_units(
 /// One word of several units.
 #[tactic(auto, using(crate::proofs::Compounds::all_joined_are))]
 fn compound_of(alloc: Global, view: View<'_, '_>, units: &[Lu]) -> Result<Word, ExecRefusal>
-    ensures { Gives (λ w. w) result (seen compound (units_of (sight view.entry) (map values_in units.now))) }
+    ensures { Gives (λ w. w) result
+        (seen compound (units_of (sight view.entry) (map values_in units.now))) }
 {
     let mut word = Word::new(alloc);
     push_units(alloc, view, units, &mut word)?;
@@ -80,7 +83,8 @@ fn chunk_piece_of(
     view: View<'_, '_>,
     piece: &ChunkPiece,
 ) -> Result<Atom, ExecRefusal>
-    ensures { Gives (λ a. a) result (chunk_piece_of (sight view.entry) (plain_chunk_piece piece.now)) }
+    ensures { Gives (λ a. a) result
+        (chunk_piece_of (sight view.entry) (plain_chunk_piece piece.now)) }
 {
     match piece {
         ChunkPiece::Lu(held) => Ok(Atom::Unit(word_of(alloc, view, &held.values)?)),
@@ -94,7 +98,8 @@ fn chunk_pieces_of(
     view: View<'_, '_>,
     pieces: &[ChunkPiece],
 ) -> Result<Atoms, ExecRefusal>
-    ensures { Gives (λ a. a) result (chunk_pieces_of (sight view.entry) (map plain_chunk_piece pieces.now)) }
+    ensures { Gives (λ a. a) result
+        (chunk_pieces_of (sight view.entry) (map plain_chunk_piece pieces.now)) }
 {
     let mut made = Sequence::new(alloc);
     'pieces: for piece in pieces {
@@ -109,7 +114,8 @@ fn push_tags(
     tags: &[Tag],
     name: &mut Word,
 ) -> Result<(), ExecRefusal>
-    ensures { Gives (λ _. name.new) result (seen (λ w. name.old ++ w) (tags_of (sight view.entry) (map tag_in tags.now))) }
+    ensures { Gives (λ _. name.new) result
+        (seen (λ w. name.old ++ w) (tags_of (sight view.entry) (map tag_in tags.now))) }
 {
     'tags: for tag in tags {
         push_values(alloc, view, &tag.values, name)?;
@@ -212,7 +218,8 @@ fn push_content(
     value: &Value,
     into: &mut Atoms,
 ) -> Result<(), Memory>
-    ensures { OnOk result (into.new ≡ into.old ++ content_of (sight view.entry) (plain_value value.now)) }
+    ensures { OnOk result (into.new ≡ into.old
+        ++ content_of (sight view.entry) (plain_value value.now)) }
 {
     match value {
         Value::Clip(clip) => {
@@ -235,7 +242,8 @@ fn push_contents(
     values: &[Value],
     into: &mut Atoms,
 ) -> Result<(), Memory>
-    ensures { OnOk result (into.new ≡ into.old ++ contents_of (sight view.entry) (plain_values values.now)) }
+    ensures { OnOk result (into.new ≡ into.old
+        ++ contents_of (sight view.entry) (plain_values values.now)) }
 {
     'values: for value in values {
         push_content(alloc, view, value, into)?;
@@ -249,7 +257,8 @@ fn value_chunk_of(
     view: View<'_, '_>,
     held: &ValueChunk,
 ) -> Result<Piece, ExecRefusal>
-    ensures { Gives (λ p. p) result (piece_of (sight view.entry) (value_chunk (plain_values held.now.values.items))) }
+    ensures { Gives (λ p. p) result
+        (piece_of (sight view.entry) (value_chunk (plain_values held.now.values.items))) }
 {
     let name = word_of(alloc, view, &held.values)?;
     let mut atoms = Sequence::new(alloc);

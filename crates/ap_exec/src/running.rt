@@ -26,7 +26,8 @@ fn push_places(
     positions: &mut Vec<Option<usize>>,
 ) -> Result<(), Memory>
     requires { IsScope scope positions.old.items }
-    ensures { OnOk result (positions.new.items ≡ take scope.to positions.old.items ++ places_of (between scope.from scope.to positions.old.items) params.now) }
+    ensures { OnOk result (positions.new.items ≡ take scope.to positions.old.items
+        ++ places_of (between scope.from scope.to positions.old.items) params.now) }
 {
     positions.truncate(scope.to);
     let first = number_at(&positions[scope.from..scope.to], 0);
@@ -40,7 +41,8 @@ fn push_places(
 
 /// The statements of a macro, or none where there is no macro of that number.
 fn body_at(macros: &[DefMacro], n: usize) -> &[Statement]
-    ensures { (world : Still) → world.bodies ≡ map body_in macros.now → body_of result.now ≡ body_at world n }
+    ensures { (world : Still) → world.bodies ≡ map body_in macros.now →
+        body_of result.now ≡ body_at world n }
 {
     match macros.get(n) {
         None => &[],
@@ -79,7 +81,8 @@ fn choice<'a>(
     whens: &'a [When],
     otherwise: &'a [Statement],
 ) -> Result<&'a [Statement], ExecRefusal>
-    ensures { Gives (λ taken. body_of taken.now) result (chosen (sight view.entry) (whens_of (map plain_when whens.now)) (body_of otherwise.now)) }
+    ensures { Gives (λ taken. body_of taken.now) result
+        (chosen (sight view.entry) (whens_of (map plain_when whens.now)) (body_of otherwise.now)) }
 {
     'whens: for when in whens {
         if holds(alloc, view, &when.test)? {
@@ -99,9 +102,15 @@ fn run_choose<'a>(
     state: &State<'_>,
 ) -> Result<(), ExecRefusal>
     requires { StandsOn stack.old scope }
-    ensures leads { Leads result (one_first (still world.entry) stack.old scope (plain_choose held.now) (now world.entry state.now)) (left (still world.entry) stack.new (now world.entry state.now)) }
+    ensures leads { Leads result
+        (one_first (still world.entry) stack.old scope (plain_choose held.now)
+        (now world.entry state.now))
+        (left (still world.entry) stack.new (now world.entry state.now)) }
     ensures nested { OnOk result (IsNested stack.new) }
-    ensures cost { OnOk result (stack_cost (still world.entry) stack.new < cost_one (macro_cost (still world.entry) scope.visible) (plain_choose held.now) + stack_cost (still world.entry) stack.old) }
+    ensures cost { OnOk result
+        (stack_cost (still world.entry) stack.new < cost_one
+        (macro_cost (still world.entry) scope.visible) (plain_choose held.now) + stack_cost
+        (still world.entry) stack.old) }
 {
     let here = &stack.positions[scope.from..scope.to];
     let view = view_in(&world, here, state);
@@ -119,9 +128,13 @@ fn run_call<'a>(
     stack: &mut Stack<'a>,
 ) -> Result<(), Memory>
     requires { StandsOn stack.old scope }
-    ensures left { OnOk result ((s : Now) → left (still world.entry) stack.new s ≡ one_first (still world.entry) stack.old scope (call_macro held.now.n held.now.params.items) s) }
+    ensures left { OnOk result ((s : Now) → left (still world.entry) stack.new s
+        ≡ one_first (still world.entry) stack.old scope
+        (call_macro held.now.n held.now.params.items) s) }
     ensures nested { OnOk result (IsNested stack.new) }
-    ensures cost { OnOk result (stack_cost (still world.entry) stack.new < macro_cost (still world.entry) scope.visible held.now.n + 2 + stack_cost (still world.entry) stack.old) }
+    ensures cost { OnOk result
+        (stack_cost (still world.entry) stack.new < macro_cost (still world.entry) scope.visible
+        held.now.n + 2 + stack_cost (still world.entry) stack.old) }
 {
     if held.n >= scope.visible {
         return Ok(());
@@ -146,9 +159,15 @@ fn run_statement<'a>(
     state: &mut State<'_>,
 ) -> Result<(), ExecRefusal>
     requires { StandsOn stack.old scope }
-    ensures leads { Leads result (one_first (still world.entry) stack.old scope (plain_statement statement.now) (now world.entry state.old)) (left (still world.entry) stack.new (now world.entry state.new)) }
+    ensures leads { Leads result
+        (one_first (still world.entry) stack.old scope (plain_statement statement.now)
+        (now world.entry state.old))
+        (left (still world.entry) stack.new (now world.entry state.new)) }
     ensures nested { OnOk result (IsNested stack.new) }
-    ensures cost { OnOk result (stack_cost (still world.entry) stack.new < cost_one (macro_cost (still world.entry) scope.visible) (plain_statement statement.now) + stack_cost (still world.entry) stack.old) }
+    ensures cost { OnOk result
+        (stack_cost (still world.entry) stack.new < cost_one
+        (macro_cost (still world.entry) scope.visible) (plain_statement statement.now) + stack_cost
+        (still world.entry) stack.old) }
 {
     let here = &stack.positions[scope.from..scope.to];
     match statement {
@@ -173,9 +192,14 @@ fn run_first<'a>(
     state: &mut State<'_>,
 ) -> Result<(), ExecRefusal>
     requires { StandsOn stack.old frame.scope }
-    ensures leads { Leads result (rest_first (still world.entry) stack.old frame.entry.scope frame.entry.rest.now (now world.entry state.old)) (left (still world.entry) stack.new (now world.entry state.new)) }
+    ensures leads { Leads result
+        (rest_first (still world.entry) stack.old frame.entry.scope frame.entry.rest.now
+        (now world.entry state.old))
+        (left (still world.entry) stack.new (now world.entry state.new)) }
     ensures nested { OnOk result (IsNested stack.new) }
-    ensures cost { OnOk result (stack_cost (still world.entry) stack.new < rest_cost (still world.entry) frame.entry.scope frame.entry.rest.now + 1 + stack_cost (still world.entry) stack.old) }
+    ensures cost { OnOk result
+        (stack_cost (still world.entry) stack.new < rest_cost (still world.entry) frame.entry.scope
+        frame.entry.rest.now + 1 + stack_cost (still world.entry) stack.old) }
 {
     match frame.rest.split_first() {
         None => Ok(()),
@@ -194,7 +218,9 @@ pub(crate) fn run_body<'a>(
     action: &'a [Statement],
     state: &mut State<'_>,
 ) -> Result<(), ExecRefusal>
-    ensures { Gives (λ _. now world.entry state.new) result (run_all (still world.entry) (called (still world.entry) (length world.entry.macros.now)) here.items (body_of action.now) (now world.entry state.old)) }
+    ensures { Gives (λ _. now world.entry state.new) result
+        (run_all (still world.entry) (called (still world.entry) (length world.entry.macros.now))
+        here.items (body_of action.now) (now world.entry state.old)) }
 {
     let scope = Scope {
         from: 0,

@@ -34,11 +34,13 @@ impl<'a> Stack<'a> {
     /// Puts statements on top, unless there are none.
     pub(crate) fn push(&mut self, rest: &'a [Statement], scope: Scope) -> Result<(), Memory>
         requires { StandsOn self.old scope }
-        ensures left { OnOk result ((w : Still) (s : Now) → left w self.new s ≡ rest_first w self.old scope rest.now s) }
+        ensures left { OnOk result ((w : Still) (s : Now) →
+            left w self.new s ≡ rest_first w self.old scope rest.now s) }
         ensures nested { OnOk result (IsNested self.new) }
         ensures stands { OnOk result (StandsOn self.new scope) }
         ensures positions { self.new.positions ≡ self.old.positions }
-        ensures cost { OnOk result ((w : Still) → stack_cost w self.new ≤ rest_cost w scope rest.now + 1 + stack_cost w self.old) }
+        ensures cost { OnOk result ((w : Still) →
+            stack_cost w self.new ≤ rest_cost w scope rest.now + 1 + stack_cost w self.old) }
     {
         if rest.is_empty() {
             return Ok(());

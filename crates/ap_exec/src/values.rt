@@ -102,7 +102,8 @@ pub(crate) fn push_value(
     value: &Value,
     into: &mut Word,
 ) -> Result<(), ExecRefusal>
-    ensures { Gives (λ _. into.new) result (seen (λ w. into.old ++ w) (value_of (sight view.entry) (plain_value value.now))) }
+    ensures { Gives (λ _. into.new) result
+        (seen (λ w. into.old ++ w) (value_of (sight view.entry) (plain_value value.now))) }
 {
     match value {
         Value::Clip(clip) => push_symbols(alloc, clip_of(view, clip), into),
@@ -126,7 +127,9 @@ fn push_concat(
     held: &Concat,
     into: &mut Word,
 ) -> Result<(), ExecRefusal>
-    ensures { Gives (λ _. into.new) result (seen (λ w. into.old ++ w) (value_of (sight view.entry) (concat (values_of (plain_values held.now.values.items))))) }
+    ensures { Gives (λ _. into.new) result
+        (seen (λ w. into.old ++ w)
+        (value_of (sight view.entry) (concat (values_of (plain_values held.now.values.items))))) }
 {
     let before = into.rendered().len();
     push_values(alloc, view, &held.values, into)?;
@@ -140,7 +143,10 @@ fn push_recased(
     held: &GetCaseFrom,
     into: &mut Word,
 ) -> Result<(), ExecRefusal>
-    ensures { Gives (λ _. into.new) result (seen (λ w. into.old ++ w) (value_of (sight view.entry) (get_case_from held.now.pos (plain_value held.now.value.value)))) }
+    ensures { Gives (λ _. into.new) result
+        (seen (λ w. into.old ++ w)
+        (value_of (sight view.entry)
+        (get_case_from held.now.pos (plain_value held.now.value.value)))) }
 {
     let mut made = Word::new(alloc);
     push_value(alloc, view, &held.value, &mut made)?;
@@ -156,7 +162,9 @@ pub(crate) fn push_values(
     values: &[Value],
     into: &mut Word,
 ) -> Result<(), ExecRefusal>
-    ensures { Gives (λ _. into.new) result (seen (λ w. into.old ++ w) (joined_of (sight view.entry) (values_of (plain_values values.now)))) }
+    ensures { Gives (λ _. into.new) result
+        (seen (λ w. into.old ++ w)
+        (joined_of (sight view.entry) (values_of (plain_values values.now)))) }
 {
     'values: for value in values {
         push_value(alloc, view, value, into)?;
@@ -216,7 +224,8 @@ pub(crate) fn append_to(
     n: usize,
     values: &[Value],
 ) -> Result<Word, ExecRefusal>
-    ensures { Gives (λ w. w) result (appended (sight view.entry) n (values_of (plain_values values.now))) }
+    ensures { Gives (λ w. w) result
+        (appended (sight view.entry) n (values_of (plain_values values.now))) }
 {
     let mut word = Word::new(alloc);
     append(alloc, var_at(view.world.vars, view.fresh, n), &mut word)?;

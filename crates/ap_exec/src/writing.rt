@@ -16,7 +16,8 @@ use std::alloc::Global;
 fn spliced(alloc: Global, range: Range, value: &Word, word: &Word) -> Result<Word, Memory>
     requires { range.start + range.count ≤ length word.now }
     ensures value { IfOk result (λ made. made ≡ spliced (span range) value.now word.now) }
-    ensures grown { IfOk result (λ made. length made + range.count ≡ length word.now + length value.now) }
+    ensures grown { IfOk result (λ made. length made + range.count
+        ≡ length word.now + length value.now) }
 {
     let mut made = Word::new(alloc);
     let symbols = word.symbols();

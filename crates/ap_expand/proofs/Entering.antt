@@ -17,35 +17,68 @@ use Rattle.ap_expand.proofs.Paradigms.{paradigm-opens}
 use Rattle.ap_expand.proofs.Walking.{begins-take}
 
 -- the frame of a paradigm that a walk came to
-pub met-steps : (pardefs : List Pardef) (frames : List Frame) (parts : List EntryPart) (parent : ℕ) (left right new_left new_right : List ℕ) (lr rl : Bool) (number : ℕ) (frame : Frame)
+pub met-steps : (pardefs : List Pardef) (frames : List Frame) (parts : List EntryPart) (parent : ℕ)
+    (left right new_left new_right : List ℕ) (lr rl : Bool) (number : ℕ) (frame : Frame)
     → IsTrue (are_sound_pardefs 0 pardefs)
-    → SameSteps frames parts parent left right (Paradigm number ∷ frame.rest.now) frame.parent new_left new_right
-    → frame.entries.now ≡ entries_at pardefs number → frame.left_len ≡ length new_left → frame.right_len ≡ length new_right → frame.lr ≡ lr → frame.rl ≡ rl
-    → todo_trace (pardefs_trace [] pardefs) frames parts parent (way_of left right lr rl) ≡ None ∷ frame_trace (pardefs_trace [] pardefs) new_left new_right frame frames
-met-steps pardefs frames parts parent left right new_left new_right lr rl number frame sound steps entries ll rll lr_is rl_is =
-    let follow : Follow = parts_trace (pardefs_trace [] pardefs) (frame.rest.now ++ todo_of frames frame.parent) end_trace in
-    let left_is : take frame.left_len new_left ≡ new_left = take_all frame.left_len new_left (omega arith) in
-    let right_is : take frame.right_len new_right ≡ new_right = take_all frame.right_len new_right (omega arith) in
+    → SameSteps frames parts parent left right (Paradigm number ∷ frame.rest.now) frame.parent
+    new_left new_right
+    → frame.entries.now ≡ entries_at pardefs number → frame.left_len ≡ length new_left →
+    frame.right_len ≡ length new_right → frame.lr ≡ lr → frame.rl ≡ rl
+    → todo_trace (pardefs_trace [] pardefs) frames parts parent (way_of left right lr rl) ≡ None
+    ∷ frame_trace (pardefs_trace [] pardefs) new_left new_right frame frames
+met-steps pardefs frames parts parent left right new_left new_right lr rl number frame sound steps
+    entries ll rll lr_is rl_is =
+    let follow : Follow = parts_trace (pardefs_trace [] pardefs)
+    (frame.rest.now ++ todo_of frames frame.parent) end_trace in
+    let left_is : take frame.left_len new_left ≡ new_left =
+    take_all frame.left_len new_left (omega arith) in
+    let right_is : take frame.right_len new_right ≡ new_right =
+    take_all frame.right_len new_right (omega arith) in
     let way_is : way_of new_left new_right lr rl ≡ frame_way new_left new_right frame =
-    ap (λ s. way_of s new_right lr rl) (sym left_is) ∙ ap (λ s. way_of (take frame.left_len new_left) s lr rl) (sym right_is) ∙ ap (λ b. way_of (take frame.left_len new_left) (take frame.right_len new_right) b rl) (sym lr_is) ∙ ap (λ b. way_of (take frame.left_len new_left) (take frame.right_len new_right) frame.lr b) (sym rl_is)
+    ap (λ s. way_of s new_right lr rl) (sym left_is)
+    ∙ ap (λ s. way_of (take frame.left_len new_left) s lr rl) (sym right_is)
+    ∙ ap (λ b. way_of (take frame.left_len new_left) (take frame.right_len new_right) b rl)
+    (sym lr_is) ∙ ap (λ b. way_of (take frame.left_len new_left)
+    (take frame.right_len new_right) frame.lr b) (sym rl_is)
     in
     steps (pardefs_trace [] pardefs) lr rl
-    ∙ ap (λ s. None ∷ s) (paradigm-opens pardefs number follow (way_of new_left new_right lr rl) sound)
-    ∙ ap (λ (es : List Entry). None ∷ entries_trace (pardefs_trace [] pardefs) es follow (way_of new_left new_right lr rl)) (sym entries)
-    ∙ ap (λ (w : Way). None ∷ entries_trace (pardefs_trace [] pardefs) frame.entries.now follow w) way_is
+    ∙ ap (λ s. None ∷ s) (paradigm-opens pardefs number follow
+    (way_of new_left new_right lr rl) sound)
+    ∙ ap (λ (es : List Entry). None
+    ∷ entries_trace (pardefs_trace [] pardefs) es follow (way_of new_left new_right lr rl))
+    (sym entries)
+    ∙ ap (λ (w : Way). None ∷ entries_trace (pardefs_trace [] pardefs) frame.entries.now
+    follow w) way_is
 
-pub reverse-push : (frames below : List Frame) (frame : Frame) → frames ≡ below ++ frame ∷ [] → reverse frames ≡ frame ∷ reverse below
+pub reverse-push : (frames below : List Frame) (frame : Frame) → frames ≡ below ++ frame ∷ [] →
+    reverse frames ≡ frame ∷ reverse below
 reverse-push frames below frame is = ap reverse is ∙ reverse-append below (frame ∷ [])
 
 -- a frame with other entries
 abbrev pub with_entries : Frame → Bor (List Entry) → Frame
-with_entries frame others = record { entries = others; rest = frame.rest; parent = frame.parent; left_len = frame.left_len; right_len = frame.right_len; lr = frame.lr; rl = frame.rl }
+with_entries frame others =
+    record {
+      entries = others;
+      rest = frame.rest;
+      parent = frame.parent;
+      left_len =
+          frame.left_len;
+      right_len = frame.right_len;
+      lr = frame.lr;
+      rl = frame.rl;
+    }
 
-pub push-linked : (left right : List ℕ) (below frames : List Frame) (top : Frame) (others : Bor (List Entry)) → IsStack left right (top ∷ reverse below) → frames ≡ below ++ with_entries top others ∷ [] → AreLinked (reverse frames)
-push-linked left right below frames top others stack is = subst AreLinked (sym (reverse-push frames below (with_entries top others) is)) (stack.0, (stack-linked left right (top ∷ reverse below) stack).1)
+pub push-linked : (left right : List ℕ) (below frames : List Frame) (top : Frame)
+    (others : Bor (List Entry)) → IsStack left right (top ∷ reverse below) →
+    frames ≡ below ++ with_entries top others ∷ [] → AreLinked (reverse frames)
+push-linked left right below frames top others stack is =
+    subst AreLinked (sym (reverse-push frames below (with_entries top others) is))
+    (stack.0, (stack-linked left right (top ∷ reverse below) stack).1)
 
 -- an entry was taken from the top frame
-pub record Enters (left right : List ℕ) (below : List Frame) (top : Frame) (entry : Entry) (others : Bor (List Entry)) (mid_left mid_right : List ℕ) (lr rl : Bool) (frames : List Frame) (new_left new_right : List ℕ) : Type 0 where
+pub record Enters (left right : List ℕ) (below : List Frame) (top : Frame) (entry : Entry)
+    (others : Bor (List Entry)) (mid_left mid_right : List ℕ) (lr rl : Bool) (frames : List Frame)
+    (new_left new_right : List ℕ) : Type 0 where
   pub stack : IsStack left right (top ∷ reverse below)
   pub first : top.entries.now ≡ entry ∷ others.now
   pub taken : entry.ignored ≡ false
@@ -57,69 +90,127 @@ pub record Enters (left right : List ℕ) (below : List Frame) (top : Frame) (en
   pub left_begins : Begins mid_left new_left
   pub right_begins : Begins mid_right new_right
 
-kept-words : (xs mid new : List ℕ) (n : ℕ) → n ≤ length xs → mid ≡ take n xs → Begins mid new → take n new ≡ take n xs
+kept-words : (xs mid new : List ℕ) (n : ℕ) → n ≤ length xs → mid ≡ take n xs → Begins mid new →
+    take n new ≡ take n xs
 kept-words xs mid new n le is begins =
     let count : length mid ≡ n = ap length is ∙ length-take-le n xs le in
     begins-take mid new n begins (omega arith) ∙ ap (take n) is ∙ take-take n n xs (omega arith)
 
-taken-steps : (above : List Opening) (entry : Entry) (follow : Follow) (way : Way) → entry.ignored ≡ false → entry_trace above entry follow way ≡ parts_trace above entry.parts follow (with_side way entry.side)
-taken-steps above entry follow way h = ap (λ b. if b then None ∷ [] else parts_trace above entry.parts follow (with_side way entry.side)) h
+taken-steps : (above : List Opening) (entry : Entry) (follow : Follow) (way : Way) →
+    entry.ignored ≡ false → entry_trace above entry follow way
+    ≡ parts_trace above entry.parts follow (with_side way entry.side)
+taken-steps above entry follow way h =
+    ap (λ b. if b then None ∷ []
+    else parts_trace above entry.parts follow (with_side way entry.side)) h
 
-pub entered : (above : List Opening) (left right : List ℕ) (below : List Frame) (top : Frame) (entry : Entry) (others : Bor (List Entry)) (mid_left mid_right : List ℕ) (lr rl : Bool) (frames : List Frame) (new_left new_right : List ℕ)
+pub entered : (above : List Opening) (left right : List ℕ) (below : List Frame) (top : Frame)
+    (entry : Entry) (others : Bor (List Entry)) (mid_left mid_right : List ℕ) (lr rl : Bool)
+    (frames : List Frame) (new_left new_right : List ℕ)
     → Enters left right below top entry others mid_left mid_right lr rl frames new_left new_right
-    → stack_trace above left right (top ∷ reverse below) ≡ todo_trace above (reverse frames) entry.parts (length frames) (way_of mid_left mid_right lr rl) ++ stack_trace above new_left new_right (reverse frames)
-entered above left right below top entry others mid_left mid_right lr rl frames new_left new_right e =
-    let follow : Follow = parts_trace above (top.rest.now ++ todo_of (reverse below) top.parent) end_trace in
+    → stack_trace above left right (top ∷ reverse below)
+    ≡ todo_trace above (reverse frames) entry.parts (length frames)
+    (way_of mid_left mid_right lr rl) ++ stack_trace above new_left new_right (reverse frames)
+entered above left right below top entry others mid_left mid_right lr rl frames new_left
+    new_right e =
+    let follow : Follow = parts_trace above
+    (top.rest.now ++ todo_of (reverse below) top.parent) end_trace in
     let way : Way = frame_way left right top in
-    let lower : List (Option (List ℕ)) = stack_trace above (take top.left_len left) (take top.right_len right) (reverse below) in
-    let reversed : reverse frames ≡ with_entries top others ∷ reverse below = reverse-push frames below (with_entries top others) e.frames_are in
-    let count : length frames ≡ length (reverse below) + 1 = ap length e.frames_are ∙ length-append below (with_entries top others ∷ []) ∙ ap (λ n. n + 1) (sym (length-reverse below)) in
+    let lower : List (Option (List ℕ)) =
+    stack_trace above (take top.left_len left) (take top.right_len right) (reverse below) in
+    let reversed : reverse frames ≡ with_entries top others ∷ reverse below =
+    reverse-push frames below (with_entries top others) e.frames_are in
+    let count : length frames ≡ length (reverse below) + 1 =
+    ap length e.frames_are ∙ length-append below (with_entries top others ∷ [])
+    ∙ ap (λ n. n + 1) (sym (length-reverse below)) in
     let way_is : way_of mid_left mid_right lr rl ≡ with_side way entry.side =
-    ap (λ s. way_of s mid_right lr rl) e.left_is ∙ ap (λ s. way_of (take top.left_len left) s lr rl) e.right_is ∙ ap (λ b. way_of (take top.left_len left) (take top.right_len right) b rl) e.lr_is ∙ ap (λ b. way_of (take top.left_len left) (take top.right_len right) (top.lr || is_lr entry.side) b) e.rl_is
+    ap (λ s. way_of s mid_right lr rl) e.left_is
+    ∙ ap (λ s. way_of (take top.left_len left) s lr rl) e.right_is
+    ∙ ap (λ b. way_of (take top.left_len left) (take top.right_len right) b rl) e.lr_is
+    ∙ ap (λ b. way_of (take top.left_len left) (take top.right_len right)
+    (top.lr || is_lr entry.side) b) e.rl_is
     in
-    let parts_are : todo_trace above (reverse frames) entry.parts (length frames) (way_of mid_left mid_right lr rl) ≡ entry_trace above entry follow way =
-    ap (λ fs. todo_trace above fs entry.parts (length frames) (way_of mid_left mid_right lr rl)) reversed
-    ∙ ap (λ (ps : List EntryPart). parts_trace above (entry.parts ++ ps) end_trace (way_of mid_left mid_right lr rl)) (todo_of-top (with_entries top others) (reverse below) (length frames) count)
-    ∙ ap (λ (k : Follow). k (way_of mid_left mid_right lr rl)) (parts_trace-append above entry.parts (top.rest.now ++ todo_of (reverse below) top.parent) end_trace)
+    let parts_are : todo_trace above (reverse frames) entry.parts (length frames)
+    (way_of mid_left mid_right lr rl) ≡ entry_trace above entry follow way =
+    ap (λ fs. todo_trace above fs entry.parts (length frames)
+    (way_of mid_left mid_right lr rl)) reversed
+    ∙ ap (λ (ps : List EntryPart). parts_trace above (entry.parts ++ ps) end_trace
+    (way_of mid_left mid_right lr rl))
+    (todo_of-top (with_entries top others) (reverse below) (length frames) count)
+    ∙ ap (λ (k : Follow). k (way_of mid_left mid_right lr rl))
+    (parts_trace-append above entry.parts
+    (top.rest.now ++ todo_of (reverse below) top.parent) end_trace)
     ∙ ap (parts_trace above entry.parts follow) way_is
     ∙ sym (taken-steps above entry follow way e.taken)
     in
-    let stack_is : stack_trace above new_left new_right (reverse frames) ≡ entries_trace above others.now follow way ++ lower =
+    let stack_is : stack_trace above new_left new_right (reverse frames)
+    ≡ entries_trace above others.now follow way ++ lower =
     ap (stack_trace above new_left new_right) reversed
-    ∙ ap (λ s. entries_trace above others.now follow (way_of s (take top.right_len new_right) top.lr top.rl) ++ stack_trace above s (take top.right_len new_right) (reverse below)) (kept-words left mid_left new_left top.left_len e.stack.1 e.left_is e.left_begins)
-    ∙ ap (λ s. entries_trace above others.now follow (way_of (take top.left_len left) s top.lr top.rl) ++ stack_trace above (take top.left_len left) s (reverse below)) (kept-words right mid_right new_right top.right_len e.stack.2 e.right_is e.right_begins)
+    ∙ ap (λ s. entries_trace above others.now follow
+    (way_of s (take top.right_len new_right) top.lr top.rl)
+    ++ stack_trace above s (take top.right_len new_right) (reverse below))
+    (kept-words left mid_left new_left top.left_len e.stack.1 e.left_is e.left_begins)
+    ∙ ap (λ s. entries_trace above others.now follow
+    (way_of (take top.left_len left) s top.lr top.rl)
+    ++ stack_trace above (take top.left_len left) s (reverse below))
+    (kept-words right mid_right new_right top.right_len e.stack.2 e.right_is e.right_begins)
     in
     ap (λ (es : List Entry). entries_trace above es follow way ++ lower) e.first
-    ∙ append_assoc (entry_trace above entry follow way) (entries_trace above others.now follow way) lower
+    ∙ append_assoc (entry_trace above entry follow way)
+    (entries_trace above others.now follow way) lower
     ∙ ap (λ s. s ++ (entries_trace above others.now follow way ++ lower)) (sym parts_are)
-    ∙ ap (λ s. todo_trace above (reverse frames) entry.parts (length frames) (way_of mid_left mid_right lr rl) ++ s) (sym stack_is)
+    ∙ ap (λ s. todo_trace above (reverse frames) entry.parts (length frames)
+    (way_of mid_left mid_right lr rl) ++ s) (sym stack_is)
 
 -- a paradigm opens
-pub opened : (above : List Opening) (sections : List (Option (List ℕ))) (left right : List ℕ) (below : List Frame) (top : Frame) (entry : Entry) (others : Bor (List Entry)) (mid_left mid_right : List ℕ) (lr rl : Bool) (frames : List Frame) (new_left new_right : List ℕ) (frame : Frame)
+pub opened : (above : List Opening) (sections : List (Option (List ℕ))) (left right : List ℕ)
+    (below : List Frame) (top : Frame) (entry : Entry) (others : Bor (List Entry))
+    (mid_left mid_right : List ℕ) (lr rl : Bool) (frames : List Frame) (new_left new_right : List ℕ)
+    (frame : Frame)
     → Enters left right below top entry others mid_left mid_right lr rl frames new_left new_right
-    → todo_trace above (reverse frames) entry.parts (length frames) (way_of mid_left mid_right lr rl) ≡ None ∷ frame_trace above new_left new_right frame (reverse frames)
+    → todo_trace above (reverse frames) entry.parts (length frames)
+    (way_of mid_left mid_right lr rl) ≡ None
+    ∷ frame_trace above new_left new_right frame (reverse frames)
     → frame.left_len ≡ length new_left → frame.right_len ≡ length new_right
-    → stack_trace above left right (top ∷ reverse below) ++ sections ≡ None ∷ (stack_trace above new_left new_right (frame ∷ reverse frames) ++ sections)
-opened above sections left right below top entry others mid_left mid_right lr rl frames new_left new_right frame e steps ll rll =
-    let left_is : take frame.left_len new_left ≡ new_left = take_all frame.left_len new_left (omega arith) in
-    let right_is : take frame.right_len new_right ≡ new_right = take_all frame.right_len new_right (omega arith) in
+    → stack_trace above left right (top ∷ reverse below) ++ sections ≡ None
+    ∷ (stack_trace above new_left new_right (frame ∷ reverse frames) ++ sections)
+opened above sections left right below top entry others mid_left mid_right lr rl frames new_left
+    new_right frame e steps ll rll =
+    let left_is : take frame.left_len new_left ≡ new_left =
+    take_all frame.left_len new_left (omega arith) in
+    let right_is : take frame.right_len new_right ≡ new_right =
+    take_all frame.right_len new_right (omega arith) in
     ap (λ s. s ++ sections)
-    (entered above left right below top entry others mid_left mid_right lr rl frames new_left new_right e
+    (entered above left right below top entry others mid_left mid_right lr rl frames
+    new_left new_right e
     ∙ ap (λ s. s ++ stack_trace above new_left new_right (reverse frames)) steps
-    ∙ ap (λ s. None ∷ (frame_trace above new_left new_right frame (reverse frames) ++ stack_trace above s new_right (reverse frames))) (sym left_is)
-    ∙ ap (λ s. None ∷ (frame_trace above new_left new_right frame (reverse frames) ++ stack_trace above (take frame.left_len new_left) s (reverse frames))) (sym right_is))
+    ∙ ap (λ s. None ∷ (frame_trace above new_left new_right frame (reverse frames)
+    ++ stack_trace above s new_right (reverse frames))) (sym left_is)
+    ∙ ap (λ s. None ∷ (frame_trace above new_left new_right frame (reverse frames)
+    ++ stack_trace above (take frame.left_len new_left) s (reverse frames))) (sym right_is))
 
 -- a way ends
-pub ended : (above : List Opening) (sections : List (Option (List ℕ))) (left right : List ℕ) (below : List Frame) (top : Frame) (entry : Entry) (others : Bor (List Entry)) (mid_left mid_right : List ℕ) (lr rl : Bool) (frames : List Frame) (new_left new_right : List ℕ) (new_below : List Frame) (step : Option (List ℕ))
+pub ended : (above : List Opening) (sections : List (Option (List ℕ))) (left right : List ℕ)
+    (below : List Frame) (top : Frame) (entry : Entry) (others : Bor (List Entry))
+    (mid_left mid_right : List ℕ) (lr rl : Bool) (frames : List Frame) (new_left new_right : List ℕ)
+    (new_below : List Frame) (step : Option (List ℕ))
     → Enters left right below top entry others mid_left mid_right lr rl frames new_left new_right
-    → todo_trace above (reverse frames) entry.parts (length frames) (way_of mid_left mid_right lr rl) ≡ step ∷ []
+    → todo_trace above (reverse frames) entry.parts (length frames)
+    (way_of mid_left mid_right lr rl) ≡ step ∷ []
     → new_below ≡ take (length frames - 1) frames
-    → stack_trace above left right (top ∷ reverse below) ++ sections ≡ step ∷ (stack_trace above new_left new_right (with_entries top others ∷ reverse new_below) ++ sections)
-ended above sections left right below top entry others mid_left mid_right lr rl frames new_left new_right new_below step e steps popped =
-    let count : length frames ≡ length below + 1 = ap length e.frames_are ∙ length-append below (with_entries top others ∷ []) in
-    let below_is : new_below ≡ below = popped ∙ ap (take (length frames - 1)) e.frames_are ∙ take_at below (with_entries top others ∷ []) (length frames - 1) (omega arith) in
+    → stack_trace above left right (top ∷ reverse below) ++ sections ≡ step
+    ∷ (stack_trace above new_left new_right (with_entries top others
+    ∷ reverse new_below) ++ sections)
+ended above sections left right below top entry others mid_left mid_right lr rl frames new_left
+    new_right new_below step e steps popped =
+    let count : length frames ≡ length below + 1 =
+    ap length e.frames_are ∙ length-append below (with_entries top others ∷ []) in
+    let below_is : new_below ≡ below = popped ∙ ap (take (length frames - 1)) e.frames_are
+    ∙ take_at below (with_entries top others ∷ []) (length frames - 1) (omega arith) in
     ap (λ s. s ++ sections)
-    (entered above left right below top entry others mid_left mid_right lr rl frames new_left new_right e
+    (entered above left right below top entry others mid_left mid_right lr rl frames
+    new_left new_right e
     ∙ ap (λ s. s ++ stack_trace above new_left new_right (reverse frames)) steps
-    ∙ ap (λ fs. step ∷ stack_trace above new_left new_right fs) (reverse-push frames below (with_entries top others) e.frames_are)
-    ∙ ap (λ fs. step ∷ stack_trace above new_left new_right (with_entries top others ∷ reverse fs)) (sym below_is))
+    ∙ ap (λ fs. step ∷ stack_trace above new_left new_right fs)
+    (reverse-push frames below (with_entries top others) e.frames_are)
+    ∙ ap (λ fs. step ∷ stack_trace above new_left new_right (with_entries top others ∷ reverse fs))
+    (sym below_is))

@@ -26,23 +26,45 @@ below-bound : (n m : ℕ) → IsTrue (nat_lt n m) → n < m
 below-bound n m h = grind (arith, nat_tests)
 
 -- sound parts depend on the paradigms above them alone
-parts-local : (above more : List Opening) (parts : List EntryPart) (follow : Follow) → IsTrue (list_all (is_sound_part (length above)) parts) → parts_trace (above ++ more) parts follow ≡ parts_trace above parts follow
+parts-local : (above more : List Opening) (parts : List EntryPart) (follow : Follow) →
+    IsTrue (list_all (is_sound_part (length above)) parts) →
+    parts_trace (above ++ more) parts follow ≡ parts_trace above parts follow
 parts-local above more [] follow h = refl
-parts-local above more (Identity word ∷ parts) follow h = ap {B = Follow} (λ (k : Follow) (way : Way). k (with_words way (rendering word) (rendering word))) (parts-local above more parts follow (and-right _ _ h))
-parts-local above more (Pair left right ∷ parts) follow h = ap {B = Follow} (λ (k : Follow) (way : Way). k (with_words way (rendering left) (rendering right))) (parts-local above more parts follow (and-right _ _ h))
-parts-local above more (Expression e text ∷ parts) follow h = ap {B = Follow} (λ (k : Follow) (way : Way). k (with_words way (expression_bytes text) (expression_bytes text))) (parts-local above more parts follow (and-right _ _ h))
+parts-local above more (Identity word ∷ parts) follow h =
+    ap {B = Follow} (λ (k : Follow) (way : Way). k
+    (with_words way (rendering word) (rendering word)))
+    (parts-local above more parts follow (and-right _ _ h))
+parts-local above more (Pair left right ∷ parts) follow h =
+    ap {B = Follow} (λ (k : Follow) (way : Way). k
+    (with_words way (rendering left) (rendering right)))
+    (parts-local above more parts follow (and-right _ _ h))
+parts-local above more (Expression e text ∷ parts) follow h =
+    ap {B = Follow} (λ (k : Follow) (way : Way). k
+    (with_words way (expression_bytes text) (expression_bytes text)))
+    (parts-local above more parts follow (and-right _ _ h))
 parts-local above more (Paradigm n ∷ parts) follow h =
-    ap {B = Follow} (λ (k : Follow) (way : Way). None ∷ get_or (above ++ more) n no_entries k way) (parts-local above more parts follow (and-right _ _ h))
-    ∙ ap {B = Follow} (λ (o : Opening) (way : Way). None ∷ o (parts_trace above parts follow) way) (get_or_append_left above more no_entries n (below-bound n (length above) (and-left _ _ h)))
+    ap {B = Follow} (λ (k : Follow) (way : Way). None ∷ get_or (above ++ more) n no_entries k way)
+    (parts-local above more parts follow (and-right _ _ h))
+    ∙ ap {B = Follow} (λ (o : Opening) (way : Way). None ∷ o (parts_trace above parts follow) way)
+    (get_or_append_left above more no_entries n (below-bound n (length above) (and-left _ _ h)))
 
-entry-local : (above more : List Opening) (entry : Entry) (follow : Follow) (way : Way) → IsTrue (is_sound_entry (length above) entry) → entry_trace (above ++ more) entry follow way ≡ entry_trace above entry follow way
-entry-local above more entry follow way h = ap (λ (k : Follow). if◌then◌else◌ entry.ignored (None ∷ []) (k (with_side way entry.side))) (parts-local above more entry.parts follow h)
+entry-local : (above more : List Opening) (entry : Entry) (follow : Follow) (way : Way) →
+    IsTrue (is_sound_entry (length above) entry) → entry_trace (above ++ more) entry follow way
+    ≡ entry_trace above entry follow way
+entry-local above more entry follow way h =
+    ap (λ (k : Follow). if◌then◌else◌ entry.ignored (None ∷ []) (k (with_side way entry.side)))
+    (parts-local above more entry.parts follow h)
 
-entries-local : (above more : List Opening) (entries : List Entry) (follow : Follow) (way : Way) → IsTrue (list_all (is_sound_entry (length above)) entries) → entries_trace (above ++ more) entries follow way ≡ entries_trace above entries follow way
+entries-local : (above more : List Opening) (entries : List Entry) (follow : Follow) (way : Way) →
+    IsTrue (list_all (is_sound_entry (length above)) entries) →
+    entries_trace (above ++ more) entries follow way ≡ entries_trace above entries follow way
 entries-local above more [] follow way h = refl
 entries-local above more (entry ∷ entries) follow way h =
-    ap (λ s. s ++ entries_trace (above ++ more) entries follow way) (entry-local above more entry follow way (and-left _ _ h))
-    ∙ ap (λ s. entry_trace above entry follow way ++ s) (entries-local above more entries follow way (and-right (is_sound_entry (length above) entry) _ h))
+    ap (λ s. s ++ entries_trace (above ++ more) entries follow way)
+    (entry-local above more entry follow way (and-left _ _ h))
+    ∙ ap (λ s. entry_trace above entry follow way ++ s)
+    (entries-local above more entries follow way
+    (and-right (is_sound_entry (length above) entry) _ h))
 
 -- the paradigms go on from those above
 pub record GoesOn (above : List Opening) (pardefs : List Pardef) : Type 0 where
@@ -53,7 +75,8 @@ pub record GoesOn (above : List Opening) (pardefs : List Pardef) : Type 0 where
 goes-on : (above : List Opening) (pardefs : List Pardef) → GoesOn above pardefs
 goes-on above [] = record { more = []; is = sym (append-nil above); count = refl }
 goes-on above (pardef ∷ pardefs) =
-    let next : GoesOn (above ++ entries_trace above pardef.entries ∷ []) pardefs = goes-on (above ++ entries_trace above pardef.entries ∷ []) pardefs in
+    let next : GoesOn (above ++ entries_trace above pardef.entries ∷ []) pardefs =
+    goes-on (above ++ entries_trace above pardef.entries ∷ []) pardefs in
     record {
       more = entries_trace above pardef.entries ∷ next.more;
       is = next.is ∙ append_assoc above (entries_trace above pardef.entries ∷ []) next.more;
@@ -61,30 +84,52 @@ goes-on above (pardef ∷ pardefs) =
     }
 
 -- an open paradigm gives the steps of its entries
-pub paradigm-steps : (above : List Opening) (pardefs : List Pardef) (n : ℕ) (follow : Follow) (way : Way) → IsTrue (are_sound_pardefs (length above) pardefs) → get_or (pardefs_trace above pardefs) (length above + n) no_entries follow way ≡ entries_trace (pardefs_trace above pardefs) (entries_at pardefs n) follow way
-paradigm-steps above [] n follow way h = ap (λ (o : Opening). o follow way) (get_or_past above (length above + n) no_entries (omega arith))
+pub paradigm-steps : (above : List Opening) (pardefs : List Pardef) (n : ℕ) (follow : Follow)
+    (way : Way) → IsTrue (are_sound_pardefs (length above) pardefs) →
+    get_or (pardefs_trace above pardefs) (length above + n) no_entries follow way
+    ≡ entries_trace (pardefs_trace above pardefs) (entries_at pardefs n) follow way
+paradigm-steps above [] n follow way h =
+    ap (λ (o : Opening). o follow way)
+    (get_or_past above (length above + n) no_entries (omega arith))
 paradigm-steps above (pardef ∷ pardefs) zero follow way h =
-    let next : GoesOn (above ++ entries_trace above pardef.entries ∷ []) pardefs = goes-on (above ++ entries_trace above pardef.entries ∷ []) pardefs in
-    let is : pardefs_trace above (pardef ∷ pardefs) ≡ above ++ entries_trace above pardef.entries ∷ next.more = next.is ∙ append_assoc above (entries_trace above pardef.entries ∷ []) next.more in
+    let next : GoesOn (above ++ entries_trace above pardef.entries ∷ []) pardefs =
+    goes-on (above ++ entries_trace above pardef.entries ∷ []) pardefs in
+    let is : pardefs_trace above (pardef ∷ pardefs) ≡ above ++ entries_trace above pardef.entries
+    ∷ next.more = next.is ∙ append_assoc above (entries_trace above pardef.entries
+    ∷ []) next.more in
     ap (λ (os : List Opening). get_or os (length above + 0) no_entries follow way) is
-    ∙ ap (λ (o : Opening). o follow way) (get_or_at above (entries_trace above pardef.entries) next.more no_entries (length above + 0) (omega arith))
-    ∙ sym (entries-local above (entries_trace above pardef.entries ∷ next.more) pardef.entries follow way (and-left _ _ h))
+    ∙ ap (λ (o : Opening). o follow way)
+    (get_or_at above (entries_trace above pardef.entries) next.more no_entries
+    (length above + 0) (omega arith))
+    ∙ sym (entries-local above (entries_trace above pardef.entries ∷ next.more) pardef.entries
+    follow way (and-left _ _ h))
     ∙ ap (λ (os : List Opening). entries_trace os pardef.entries follow way) (sym is)
 paradigm-steps above (pardef ∷ pardefs) (suc n) follow way h =
-    let count : length (above ++ entries_trace above pardef.entries ∷ []) ≡ length above + 1 = length-append above (entries_trace above pardef.entries ∷ []) in
-    let sum : length (above ++ entries_trace above pardef.entries ∷ []) + n ≡ length above + suc n = omega arith in
+    let count : length (above ++ entries_trace above pardef.entries ∷ []) ≡ length above + 1 =
+    length-append above (entries_trace above pardef.entries ∷ []) in
+    let sum : length (above ++ entries_trace above pardef.entries ∷ []) + n ≡ length above + suc n =
+    omega arith in
     ap (λ i. get_or (pardefs_trace above (pardef ∷ pardefs)) i no_entries follow way) (sym sum)
-    ∙ paradigm-steps (above ++ entries_trace above pardef.entries ∷ []) pardefs n follow way (subst (λ m. IsTrue (are_sound_pardefs m pardefs)) (sym count) (and-right (list_all (is_sound_entry (length above)) pardef.entries) _ h))
+    ∙ paradigm-steps (above ++ entries_trace above pardef.entries ∷ []) pardefs n follow way
+    (subst (λ m. IsTrue (are_sound_pardefs m pardefs)) (sym count)
+    (and-right (list_all (is_sound_entry (length above)) pardef.entries) _ h))
 
-pub paradigm-opens : (pardefs : List Pardef) (n : ℕ) (follow : Follow) (way : Way) → IsTrue (are_sound_pardefs 0 pardefs) → get_or (pardefs_trace [] pardefs) n no_entries follow way ≡ entries_trace (pardefs_trace [] pardefs) (entries_at pardefs n) follow way
-paradigm-opens pardefs n follow way h = ap (λ i. get_or (pardefs_trace [] pardefs) i no_entries follow way) (sym (zero-add n)) ∙ paradigm-steps [] pardefs n follow way h
+pub paradigm-opens : (pardefs : List Pardef) (n : ℕ) (follow : Follow) (way : Way) →
+    IsTrue (are_sound_pardefs 0 pardefs) → get_or (pardefs_trace [] pardefs) n no_entries follow way
+    ≡ entries_trace (pardefs_trace [] pardefs) (entries_at pardefs n) follow way
+paradigm-opens pardefs n follow way h =
+    ap (λ i. get_or (pardefs_trace [] pardefs) i no_entries follow way) (sym (zero-add n))
+    ∙ paradigm-steps [] pardefs n follow way h
 
-pub entries_at-index : (pardefs : List Pardef) (n : ℕ) (pardef : Pardef) → n < length pardefs → pardef ≡ get_or pardefs n pardef → entries_at pardefs n ≡ pardef.entries
+pub entries_at-index : (pardefs : List Pardef) (n : ℕ) (pardef : Pardef) → n < length pardefs →
+    pardef ≡ get_or pardefs n pardef → entries_at pardefs n ≡ pardef.entries
 entries_at-index [] n pardef lt is = absurd (omega arith)
 entries_at-index (p ∷ pardefs) zero pardef lt is = ap (λ (x : Pardef). x.entries) (sym is)
-entries_at-index (p ∷ pardefs) (suc n) pardef lt is = entries_at-index pardefs n pardef (omega arith) is
+entries_at-index (p ∷ pardefs) (suc n) pardef lt is =
+    entries_at-index pardefs n pardef (omega arith) is
 
-pub entries_at-past : (pardefs : List Pardef) (n : ℕ) → length pardefs ≤ n → entries_at pardefs n ≡ []
+pub entries_at-past : (pardefs : List Pardef) (n : ℕ) → length pardefs ≤ n →
+    entries_at pardefs n ≡ []
 entries_at-past [] n le = refl
 entries_at-past (p ∷ pardefs) zero le = absurd (omega arith)
 entries_at-past (p ∷ pardefs) (suc n) le = entries_at-past pardefs n (omega arith)

@@ -12,7 +12,12 @@ pub begins-refl : (xs : List ℕ) → Begins xs xs
 begins-refl xs = record { more = []; is = sym (append-nil xs) }
 
 pub begins-trans : (xs ys zs : List ℕ) → Begins xs ys → Begins ys zs → Begins xs zs
-begins-trans xs ys zs h k = record { more = h.more ++ k.more; is = k.is ∙ ap (λ s. s ++ k.more) h.is ∙ append_assoc xs h.more k.more }
+begins-trans xs ys zs h k =
+    record {
+      more = h.more ++ k.more;
+      is = k.is ∙ ap (λ s. s ++ k.more) h.is
+          ∙ append_assoc xs h.more k.more;
+    }
 
 pub begins-take : (xs ys : List ℕ) (n : ℕ) → Begins xs ys → n ≤ length xs → take n ys ≡ take n xs
 begins-take xs ys n h le = ap (take n) h.is ∙ take-append-le n xs h.more le
@@ -21,62 +26,108 @@ pub begins-length : (xs ys : List ℕ) → Begins xs ys → length xs ≤ length
 begins-length xs ys h = omega (arith, ap length h.is, length-append xs h.more)
 
 -- how far a walk has come
-pub record Walked (frames : List Frame) (parts : List EntryPart) (parent : ℕ) (left right : List ℕ) (new_parts : List EntryPart) (new_parent : ℕ) (new_left new_right : List ℕ) : Type 0 where
+pub record Walked (frames : List Frame) (parts : List EntryPart) (parent : ℕ) (left right : List ℕ)
+    (new_parts : List EntryPart) (new_parent : ℕ) (new_left new_right : List ℕ) : Type 0 where
   pub bound : new_parent ≤ length frames
-  pub steps : SameSteps (reverse frames) parts parent left right new_parts new_parent new_left new_right
+  pub steps : SameSteps (reverse frames) parts parent left right new_parts new_parent
+      new_left new_right
   pub left_begins : Begins left new_left
   pub right_begins : Begins right new_right
 
 -- the words of a part
-part-steps : (above : List Opening) (part : EntryPart) (rest : List EntryPart) (left right new_left new_right : List ℕ) (lr rl : Bool) (follow : Follow) → Adds part None left right new_left new_right → parts_trace above (part ∷ rest) follow (way_of left right lr rl) ≡ parts_trace above rest follow (way_of new_left new_right lr rl)
-part-steps above (Identity word) rest left right new_left new_right lr rl follow h = rw (h.left_is, h.right_is) refl
-part-steps above (Pair l r) rest left right new_left new_right lr rl follow h = rw (h.left_is, h.right_is) refl
-part-steps above (Expression e text) rest left right new_left new_right lr rl follow h = rw (h.left_is, h.right_is) refl
-part-steps above (Paradigm n) rest left right new_left new_right lr rl follow h = let is : None ≡ Some n = h.number_is in cc
+part-steps : (above : List Opening) (part : EntryPart) (rest : List EntryPart)
+    (left right new_left new_right : List ℕ) (lr rl : Bool) (follow : Follow) →
+    Adds part None left right new_left new_right →
+    parts_trace above (part ∷ rest) follow (way_of left right lr rl)
+    ≡ parts_trace above rest follow (way_of new_left new_right lr rl)
+part-steps above (Identity word) rest left right new_left new_right lr rl follow h =
+    rw (h.left_is, h.right_is) refl
+part-steps above (Pair l r) rest left right new_left new_right lr rl follow h =
+    rw (h.left_is, h.right_is) refl
+part-steps above (Expression e text) rest left right new_left new_right lr rl follow h =
+    rw (h.left_is, h.right_is) refl
+part-steps above (Paradigm n) rest left right new_left new_right lr rl follow h =
+    let is : None ≡ Some n = h.number_is in cc
 
-pub walked-start : (frames : List Frame) (parts : List EntryPart) (parent : ℕ) (left right : List ℕ) → parent ≤ length frames → Walked frames parts parent left right parts parent left right
-walked-start frames parts parent left right h = record { bound = h; steps = λ above lr rl. refl; left_begins = begins-refl left; right_begins = begins-refl right }
+pub walked-start : (frames : List Frame) (parts : List EntryPart) (parent : ℕ) (left right : List ℕ)
+    → parent ≤ length frames → Walked frames parts parent left right parts parent left right
+walked-start frames parts parent left right h =
+    record {
+      bound = h;
+      steps = λ above lr rl. refl;
+      left_begins = begins-refl left;
+      right_begins =
+          begins-refl right;
+    }
 
-pub walked-part : (frames : List Frame) (parts : List EntryPart) (parent : ℕ) (left right : List ℕ) (now_parts : List EntryPart) (now : ℕ) (now_left now_right : List ℕ) (part : EntryPart) (rest : List EntryPart) (new_left new_right : List ℕ)
-    → Walked frames parts parent left right now_parts now now_left now_right → now_parts ≡ part ∷ rest → Adds part None now_left now_right new_left new_right → Begins now_left new_left → Begins now_right new_right
+pub walked-part : (frames : List Frame) (parts : List EntryPart) (parent : ℕ) (left right : List ℕ)
+    (now_parts : List EntryPart) (now : ℕ) (now_left now_right : List ℕ) (part : EntryPart)
+    (rest : List EntryPart) (new_left new_right : List ℕ)
+    → Walked frames parts parent left right now_parts now now_left now_right →
+    now_parts ≡ part ∷ rest → Adds part None now_left now_right new_left new_right →
+    Begins now_left new_left → Begins now_right new_right
     → Walked frames parts parent left right rest now new_left new_right
-walked-part frames parts parent left right now_parts now now_left now_right part rest new_left new_right w is adds bl br = record {
-  bound = w.bound;
-  steps = λ above lr rl. w.steps above lr rl ∙ ap (λ ps. todo_trace above (reverse frames) ps now (way_of now_left now_right lr rl)) is ∙ part-steps above part (rest ++ todo_of (reverse frames) now) now_left now_right new_left new_right lr rl end_trace adds;
-  left_begins = begins-trans left now_left new_left w.left_begins bl;
-  right_begins = begins-trans right now_right new_right w.right_begins br;
-}
+walked-part frames parts parent left right now_parts now now_left now_right part rest new_left
+    new_right w is adds bl br = record {
+      bound = w.bound;
+      steps = λ above lr rl. w.steps above lr rl
+          ∙ ap (λ ps. todo_trace above (reverse frames) ps now (way_of now_left now_right lr rl)) is
+          ∙ part-steps above part (rest ++ todo_of (reverse frames) now) now_left now_right new_left
+          new_right lr rl end_trace adds;
+      left_begins = begins-trans left now_left new_left w.left_begins bl;
+      right_begins = begins-trans right now_right new_right w.right_begins br;
+    }
 
-pub walked-parent : (frames : List Frame) (parts : List EntryPart) (parent : ℕ) (left right : List ℕ) (now_parts : List EntryPart) (now : ℕ) (now_left now_right : List ℕ) (q : ℕ) (frame : Frame)
-    → Walked frames parts parent left right now_parts now now_left now_right → AreLinked (reverse frames) → length now_parts ≡ 0 → now ≡ q + 1 → q < length frames → frame ≡ get_or frames q frame
+pub walked-parent : (frames : List Frame) (parts : List EntryPart) (parent : ℕ)
+    (left right : List ℕ) (now_parts : List EntryPart) (now : ℕ) (now_left now_right : List ℕ)
+    (q : ℕ) (frame : Frame)
+    → Walked frames parts parent left right now_parts now now_left now_right →
+    AreLinked (reverse frames) → length now_parts ≡ 0 → now ≡ q + 1 → q < length frames →
+    frame ≡ get_or frames q frame
     → Walked frames parts parent left right frame.rest.now frame.parent now_left now_right
-walked-parent frames parts parent left right now_parts now now_left now_right q frame w linked none e lt is =
+walked-parent frames parts parent left right now_parts now now_left now_right q frame w linked
+    none e lt is =
     let p : Parent frames q frame = parent-of frames q frame lt is linked in
     let lower : frame.parent ≤ q = p.lower in
     record {
       bound = omega arith;
-      steps = λ above lr rl. w.steps above lr rl ∙ ap (λ ps. todo_trace above (reverse frames) ps now (way_of now_left now_right lr rl)) (nil_from_length now_parts none) ∙ ap (λ n. todo_trace above (reverse frames) [] n (way_of now_left now_right lr rl)) e ∙ ap (λ ps. parts_trace above ps end_trace (way_of now_left now_right lr rl)) p.todo;
+      steps = λ above lr rl. w.steps above lr rl
+          ∙ ap (λ ps. todo_trace above (reverse frames) ps now (way_of now_left now_right lr rl))
+          (nil_from_length now_parts none)
+          ∙ ap (λ n. todo_trace above (reverse frames) [] n (way_of now_left now_right lr rl)) e
+          ∙ ap (λ ps. parts_trace above ps end_trace (way_of now_left now_right lr rl)) p.todo;
       left_begins = w.left_begins;
       right_begins = w.right_begins;
     }
 
 -- the parent has the same parts to go, and stands lower
-pub parent-smaller : (frames : List Frame) (now_parts : List EntryPart) (now : ℕ) (q : ℕ) (frame : Frame) → AreLinked (reverse frames) → length now_parts ≡ 0 → now ≡ q + 1 → q < length frames → frame ≡ get_or frames q frame
-    → length (frame.rest.now ++ todo_of (reverse frames) frame.parent) + frame.parent < length (now_parts ++ todo_of (reverse frames) now) + now
+pub parent-smaller : (frames : List Frame) (now_parts : List EntryPart) (now : ℕ) (q : ℕ)
+    (frame : Frame) → AreLinked (reverse frames) → length now_parts ≡ 0 → now ≡ q + 1 →
+    q < length frames → frame ≡ get_or frames q frame
+    → length (frame.rest.now ++ todo_of (reverse frames) frame.parent) + frame.parent < length
+    (now_parts ++ todo_of (reverse frames) now) + now
 parent-smaller frames now_parts now q frame linked none e lt is =
     let p : Parent frames q frame = parent-of frames q frame lt is linked in
     let lower : frame.parent ≤ q = p.lower in
-    let same : length (now_parts ++ todo_of (reverse frames) now) ≡ length (frame.rest.now ++ todo_of (reverse frames) frame.parent) =
-    ap (λ (ps : List EntryPart). length (ps ++ todo_of (reverse frames) now)) (nil_from_length now_parts none)
+    let same : length (now_parts ++ todo_of (reverse frames) now)
+    ≡ length (frame.rest.now ++ todo_of (reverse frames) frame.parent) =
+    ap (λ (ps : List EntryPart). length (ps ++ todo_of (reverse frames) now))
+    (nil_from_length now_parts none)
     ∙ ap (λ n. length (todo_of (reverse frames) n)) e
     ∙ ap (λ (ps : List EntryPart). length ps) p.todo
     in omega arith
 
-pub walked-end : (frames : List Frame) (parts : List EntryPart) (parent : ℕ) (left right : List ℕ) (now_parts : List EntryPart) (now : ℕ) (now_left now_right : List ℕ)
-    → Walked frames parts parent left right now_parts now now_left now_right → length now_parts ≡ 0 → now ≡ 0
-    → (above : List Opening) (lr rl : Bool) → todo_trace above (reverse frames) parts parent (way_of left right lr rl) ≡ end_trace (way_of now_left now_right lr rl)
+pub walked-end : (frames : List Frame) (parts : List EntryPart) (parent : ℕ) (left right : List ℕ)
+    (now_parts : List EntryPart) (now : ℕ) (now_left now_right : List ℕ)
+    → Walked frames parts parent left right now_parts now now_left now_right →
+    length now_parts ≡ 0 → now ≡ 0
+    → (above : List Opening) (lr rl : Bool) →
+    todo_trace above (reverse frames) parts parent (way_of left right lr rl)
+    ≡ end_trace (way_of now_left now_right lr rl)
 walked-end frames parts parent left right now_parts now now_left now_right w none e above lr rl =
     w.steps above lr rl
-    ∙ ap (λ ps. todo_trace above (reverse frames) ps now (way_of now_left now_right lr rl)) (nil_from_length now_parts none)
+    ∙ ap (λ ps. todo_trace above (reverse frames) ps now (way_of now_left now_right lr rl))
+    (nil_from_length now_parts none)
     ∙ ap (λ n. todo_trace above (reverse frames) [] n (way_of now_left now_right lr rl)) e
-    ∙ ap (λ ps. parts_trace above ps end_trace (way_of now_left now_right lr rl)) (todo_of-zero (reverse frames))
+    ∙ ap (λ ps. parts_trace above ps end_trace (way_of now_left now_right lr rl))
+    (todo_of-zero (reverse frames))

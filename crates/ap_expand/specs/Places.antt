@@ -15,7 +15,9 @@ use Rattle.ap_expand.specs.declared.search.Step.TheVariants.{Line, NoLine, End}
 
 -- the steps that are still to come
 abbrev pub search_trace : Search → List (Option (List ℕ))
-search_trace s = stack_trace (pardefs_trace [] s.pardefs.now) s.left.items s.right.items (s.top ∷ reverse s.below.items) ++ sections_trace (pardefs_trace [] s.pardefs.now) s.sections.now
+search_trace s = stack_trace (pardefs_trace [] s.pardefs.now) s.left.items s.right.items
+    (s.top ∷ reverse s.below.items)
+    ++ sections_trace (pardefs_trace [] s.pardefs.now) s.sections.now
 
 -- a search as it stands between two steps
 pub record IsSearch (s : Search) : Type 0 where
@@ -29,15 +31,23 @@ entries_at (pardef ∷ pardefs) zero = pardef.entries
 entries_at (pardef ∷ pardefs) (suc n) = entries_at pardefs n
 
 -- an entry was entered: the frame that is to open, or the end of the way
-abbrev pub Advanced : List Pardef → List Frame → List EntryPart → Way → List ℕ → List ℕ → List ℕ → Arrival → Type 0
-Advanced pardefs frames parts way left right line (Opened frame) = (todo_trace (pardefs_trace [] pardefs) (reverse frames) parts (length frames) way ≡ None ∷ frame_trace (pardefs_trace [] pardefs) left right frame (reverse frames)) × (frame.parent ≤ length frames) × (frame.left_len ≡ length left) × (frame.right_len ≡ length right) × (line ≡ [])
-Advanced pardefs frames parts way left right line (Ended written) = (todo_trace (pardefs_trace [] pardefs) (reverse frames) parts (length frames) way ≡ written_step written line ∷ []) × (written ≡ false → line ≡ [])
+abbrev pub Advanced : List Pardef → List Frame → List EntryPart → Way → List ℕ → List ℕ → List ℕ →
+    Arrival → Type 0
+Advanced pardefs frames parts way left right line (Opened frame) =
+    (todo_trace (pardefs_trace [] pardefs) (reverse frames) parts (length frames) way ≡ None
+    ∷ frame_trace (pardefs_trace [] pardefs) left right frame (reverse frames))
+    × (frame.parent ≤ length frames) × (frame.left_len ≡ length left)
+    × (frame.right_len ≡ length right) × (line ≡ [])
+Advanced pardefs frames parts way left right line (Ended written) =
+    (todo_trace (pardefs_trace [] pardefs) (reverse frames) parts (length frames) way
+    ≡ written_step written line ∷ []) × (written ≡ false → line ≡ [])
 
 -- what a step took from the steps to come
 abbrev pub Took : Search → Search → List ℕ → Step → Type 0
 Took old new line Line = search_trace old ≡ Some line ∷ search_trace new
 Took old new line NoLine = (search_trace old ≡ None ∷ search_trace new) × (line ≡ [])
-Took old new line End = (lines_among (search_trace old) ≡ []) × (lines_among (search_trace new) ≡ []) × (line ≡ [])
+Took old new line End = (lines_among (search_trace old) ≡ [])
+    × (lines_among (search_trace new) ≡ []) × (line ≡ [])
 
 -- the frame of a section
 pub record IsSectionFrame (entries : List Entry) (frame : Frame) : Type 0 where

@@ -23,7 +23,8 @@ Opening = Follow → Way → List (Option (List ℕ))
 
 -- a way with these words behind its own
 abbrev pub with_words : Way → List ℕ → List ℕ → Way
-with_words way left right = record { left = way.left ++ left; right = way.right ++ right; lr = way.lr; rl = way.rl }
+with_words way left right =
+    record { left = way.left ++ left; right = way.right ++ right; lr = way.lr; rl = way.rl }
 
 abbrev pub is_lr : Side → Bool
 is_lr LrOnly = true
@@ -35,7 +36,13 @@ is_rl _ = false
 
 -- a way on which an entry of that side is used as well
 abbrev pub with_side : Way → Side → Way
-with_side way side = record { left = way.left; right = way.right; lr = way.lr || is_lr side; rl = way.rl || is_rl side }
+with_side way side = record {
+  left = way.left;
+  right = way.right;
+  lr = way.lr || is_lr side;
+  rl =
+      way.rl || is_rl side;
+}
 
 -- a paradigm without entries
 abbrev pub no_entries : Opening
@@ -44,24 +51,31 @@ no_entries follow way = None ∷ []
 -- the steps from these parts on
 abbrev pub parts_trace : List Opening → List EntryPart → Opening
 parts_trace above [] follow way = follow way
-parts_trace above (Identity word ∷ parts) follow way = parts_trace above parts follow (with_words way (rendering word) (rendering word))
-parts_trace above (Pair left right ∷ parts) follow way = parts_trace above parts follow (with_words way (rendering left) (rendering right))
-parts_trace above (Expression e text ∷ parts) follow way = parts_trace above parts follow (with_words way (expression_bytes text) (expression_bytes text))
-parts_trace above (Paradigm n ∷ parts) follow way = None ∷ get_or above n no_entries (parts_trace above parts follow) way
+parts_trace above (Identity word ∷ parts) follow way =
+    parts_trace above parts follow (with_words way (rendering word) (rendering word))
+parts_trace above (Pair left right ∷ parts) follow way =
+    parts_trace above parts follow (with_words way (rendering left) (rendering right))
+parts_trace above (Expression e text ∷ parts) follow way =
+    parts_trace above parts follow (with_words way (expression_bytes text) (expression_bytes text))
+parts_trace above (Paradigm n ∷ parts) follow way =
+    None ∷ get_or above n no_entries (parts_trace above parts follow) way
 
 -- the steps of an entry
 abbrev pub entry_trace : List Opening → Entry → Opening
-entry_trace above entry follow way = if entry.ignored then None ∷ [] else parts_trace above entry.parts follow (with_side way entry.side)
+entry_trace above entry follow way = if entry.ignored then None ∷ []
+    else parts_trace above entry.parts follow (with_side way entry.side)
 
 -- the steps of some entries, of which the last one passes on to what was open before
 abbrev pub entries_trace : List Opening → List Entry → Opening
 entries_trace above [] follow way = None ∷ []
-entries_trace above (entry ∷ entries) follow way = entry_trace above entry follow way ++ entries_trace above entries follow way
+entries_trace above (entry ∷ entries) follow way = entry_trace above entry follow way
+    ++ entries_trace above entries follow way
 
 -- the steps of the paradigms
 abbrev pub pardefs_trace : List Opening → List Pardef → List Opening
 pardefs_trace above [] = above
-pardefs_trace above (pardef ∷ pardefs) = pardefs_trace (above ++ entries_trace above pardef.entries ∷ []) pardefs
+pardefs_trace above (pardef ∷ pardefs) =
+    pardefs_trace (above ++ entries_trace above pardef.entries ∷ []) pardefs
 
 -- at the end of a way stands its line
 abbrev pub end_trace : Follow
@@ -70,30 +84,47 @@ end_trace way = way_line way ∷ []
 -- the steps of some sections
 abbrev pub sections_trace : List Opening → List Section → List (Option (List ℕ))
 sections_trace above [] = []
-sections_trace above (section ∷ sections) = entries_trace above section.entries end_trace (words [] []) ++ sections_trace above sections
+sections_trace above (section ∷ sections) =
+    entries_trace above section.entries end_trace (words [] []) ++ sections_trace above sections
 
--- the parts that are left to do from that frame on, which is numbered from 1 at the bottom; the list has the top first
+-- the parts that are left to do from that frame on, which is numbered from 1 at the bottom; the
+-- list has the top first
 abbrev pub todo_of : List Frame → ℕ → List EntryPart
 todo_of [] number = []
-todo_of (frame ∷ below) number = if number == length below + 1 then frame.rest.now ++ todo_of below frame.parent else todo_of below number
+todo_of (frame ∷ below) number = if number == length below + 1
+    then frame.rest.now ++ todo_of below frame.parent else todo_of below number
 
 -- a frame's way
 abbrev pub frame_way : List ℕ → List ℕ → Frame → Way
-frame_way left right frame = record { left = take frame.left_len left; right = take frame.right_len right; lr = frame.lr; rl = frame.rl }
+frame_way left right frame =
+    record {
+      left = take frame.left_len left;
+      right = take frame.right_len right;
+      lr =
+          frame.lr;
+      rl = frame.rl;
+    }
 
 -- the steps of a frame above these
-abbrev pub frame_trace : List Opening → List ℕ → List ℕ → Frame → List Frame → List (Option (List ℕ))
-frame_trace above left right frame below = entries_trace above frame.entries.now (parts_trace above (frame.rest.now ++ todo_of below frame.parent) end_trace) (frame_way left right frame)
+abbrev pub frame_trace : List Opening → List ℕ → List ℕ → Frame → List Frame →
+    List (Option (List ℕ))
+frame_trace above left right frame below =
+    entries_trace above frame.entries.now
+    (parts_trace above (frame.rest.now ++ todo_of below frame.parent) end_trace)
+    (frame_way left right frame)
 
 -- the steps of the frames, the top first
 abbrev pub stack_trace : List Opening → List ℕ → List ℕ → List Frame → List (Option (List ℕ))
 stack_trace above left right [] = []
-stack_trace above left right (frame ∷ below) = frame_trace above left right frame below ++ stack_trace above (take frame.left_len left) (take frame.right_len right) below
+stack_trace above left right (frame ∷ below) = frame_trace above left right frame below
+    ++ stack_trace above (take frame.left_len left) (take frame.right_len right) below
 
 -- each frame's words begin those of the one above it, and its parent stands below it
 abbrev pub IsStack : List ℕ → List ℕ → List Frame → Type 0
 IsStack left right [] = Unit {0}
-IsStack left right (frame ∷ below) = (frame.parent ≤ length below) × (frame.left_len ≤ length left) × (frame.right_len ≤ length right) × IsStack (take frame.left_len left) (take frame.right_len right) below
+IsStack left right (frame ∷ below) = (frame.parent ≤ length below) × (frame.left_len ≤ length left)
+    × (frame.right_len ≤ length right)
+    × IsStack (take frame.left_len left) (take frame.right_len right) below
 
 -- each frame's parent stands below it
 abbrev pub AreLinked : List Frame → Type 0

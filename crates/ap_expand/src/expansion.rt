@@ -53,7 +53,8 @@ impl<'a> Expansion<'a> {
     /// After a refusal, which means want of memory, `line` is empty, and the same line comes next.
     pub fn next(&mut self, line: &mut Bytes) -> Result<bool, Memory>
         ensures found { IfOk result (λ found. found ≡ true → self.old ≡ line.new ∷ self.new) }
-        ensures end { IfOk result (λ found. found ≡ false → (self.old ≡ []) × (self.new ≡ []) × (line.new ≡ [])) }
+        ensures end { IfOk result (λ found. found ≡ false → (self.old ≡ []) × (self.new ≡ [])
+            × (line.new ≡ [])) }
         ensures same { OnErr result (self.new ≡ self.old) }
         ensures emptied { OnErr result (line.new ≡ []) }
     {

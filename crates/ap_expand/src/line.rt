@@ -14,7 +14,8 @@ pub(crate) fn write_line(
     line: &mut Bytes,
 ) -> Result<bool, Memory>
     requires { line.old ≡ [] }
-    ensures line { IfOk result (λ written. way_line (way_of left.now right.now lr rl) ≡ written_step written line.new) }
+    ensures line { IfOk result (λ written. way_line (way_of left.now right.now lr rl)
+        ≡ written_step written line.new) }
     ensures none { IfOk result (λ written. written ≡ false → line.new ≡ []) }
 {
     if lr && rl {

@@ -81,7 +81,10 @@ fn advance<'a>(
     requires sound { IsTrue (are_sound_pardefs 0 pardefs.now) }
     requires linked { AreLinked (reverse frames.now) }
     requires empty { line.old ≡ [] }
-    ensures advanced { IfOk result (λ advance. Advanced pardefs.now frames.now entry.now.parts (way_of left.old.items right.old.items lr rl) left.new.items right.new.items line.new advance) }
+    ensures advanced { IfOk result
+        (λ advance. Advanced pardefs.now frames.now entry.now.parts
+        (way_of left.old.items right.old.items lr rl) left.new.items right.new.items
+        line.new advance) }
     ensures left { Begins left.old.items left.new.items }
     ensures right { Begins right.old.items right.new.items }
 {
@@ -119,7 +122,8 @@ impl<'a> Search<'a> {
     pub(crate) fn new(alloc: Global, pardefs: &'a [Pardef], sections: &'a [Section]) -> Search<'a>
         requires { IsTrue (are_sound_pardefs 0 pardefs.now) }
         ensures search { IsSearch result }
-        ensures steps { search_trace result ≡ None ∷ sections_trace (pardefs_trace [] pardefs.now) sections.now }
+        ensures steps { search_trace result ≡ None
+            ∷ sections_trace (pardefs_trace [] pardefs.now) sections.now }
     {
         Search {
             pardefs,
@@ -137,7 +141,8 @@ impl<'a> Search<'a> {
         requires empty { self.old.top.entries.now ≡ [] }
         ensures search { IsSearch self.new }
         ensures left { result ≡ true → search_trace self.old ≡ None ∷ search_trace self.new }
-        ensures end { result ≡ false → (lines_among (search_trace self.old) ≡ []) × (lines_among (search_trace self.new) ≡ []) }
+        ensures end { result ≡ false → (lines_among (search_trace self.old) ≡ [])
+            × (lines_among (search_trace self.new) ≡ []) }
     {
         if let Some(frame) = self.below.pop() {
             self.left.truncate(self.top.left_len);
@@ -232,9 +237,12 @@ impl<'a> Search<'a> {
 pub(crate) fn find(alloc: Global, search: &mut Search, line: &mut Bytes) -> Result<bool, Memory>
     requires { IsSearch search.old }
     ensures search { IsSearch search.new }
-    ensures found { IfOk result (λ found. found ≡ true → lines_among (search_trace search.old) ≡ line.new ∷ lines_among (search_trace search.new)) }
-    ensures end { IfOk result (λ found. found ≡ false → (lines_among (search_trace search.old) ≡ []) × (lines_among (search_trace search.new) ≡ []) × (line.new ≡ [])) }
-    ensures same { OnErr result (lines_among (search_trace search.new) ≡ lines_among (search_trace search.old)) }
+    ensures found { IfOk result (λ found. found ≡ true → lines_among (search_trace search.old)
+        ≡ line.new ∷ lines_among (search_trace search.new)) }
+    ensures end { IfOk result (λ found. found ≡ false → (lines_among (search_trace search.old) ≡ [])
+        × (lines_among (search_trace search.new) ≡ []) × (line.new ≡ [])) }
+    ensures same { OnErr result (lines_among (search_trace search.new)
+        ≡ lines_among (search_trace search.old)) }
     ensures emptied { OnErr result (line.new ≡ []) }
 {
     *line = Bytes::new(alloc);

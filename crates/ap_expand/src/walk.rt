@@ -53,7 +53,9 @@ fn push_words(
     left: &mut Vec<u8>,
     right: &mut Vec<u8>,
 ) -> Result<Option<usize>, Memory>
-    ensures adds { IfOk result (λ number. Adds part.now number left.old.items right.old.items left.new.items right.new.items) }
+    ensures adds { IfOk result
+        (λ number. Adds part.now number left.old.items right.old.items left.new.items
+        right.new.items) }
     ensures left { Begins left.old.items left.new.items }
     ensures right { Begins right.old.items right.new.items }
 {
@@ -87,7 +89,9 @@ pub(crate) fn walk<'a>(
 ) -> Result<Option<Met<'a>>, Memory>
     requires linked { AreLinked (reverse frames.now) }
     requires parent { parent ≤ length frames.now }
-    ensures comes { IfOk result (λ met. ComesTo (reverse frames.now) parts.now parent left.old.items right.old.items met left.new.items right.new.items) }
+    ensures comes { IfOk result
+        (λ met. ComesTo (reverse frames.now) parts.now parent left.old.items right.old.items met
+        left.new.items right.new.items) }
     ensures left { Begins left.old.items left.new.items }
     ensures right { Begins right.old.items right.new.items }
 {

@@ -39,7 +39,8 @@ pub record Grows (old added new : List ℕ) : Type 0 where
 -- reached from these states over these arcs
 pub data Reaches (arcs : List Arc) (starts : List ℕ) : ℕ → Type 0 where
   begins : {s : ℕ} → IsIn s starts → Reaches arcs starts s
-  follows : {s : ℕ} (a : Arc) → Reaches arcs starts a.from → IsIn a arcs → s ≡ a.to → Reaches arcs starts s
+  follows : {s : ℕ} (a : Arc) → Reaches arcs starts a.from → IsIn a arcs → s ≡ a.to →
+      Reaches arcs starts s
 
 -- the state at this place of a is added where b holds it
 pub record AddsCommon (a b : List ℕ) (at : ℕ) (old new : List ℕ) : Type 0 where

@@ -9,7 +9,8 @@ abbrev pub Ascends : {X : Type 0} → (X → X → Ordering) → List X → Type
 Ascends cmp [] = Unit {0}
 Ascends {X} cmp (x ∷ xs) = ((y : X) → IsIn y xs → cmp x y ≡ Less) × Ascends cmp xs
 
--- in a list whose keys do not fall, the items before this place, and no others, have a key below this one
+-- in a list whose keys do not fall, the items before this place, and no others, have a key below
+-- this one
 pub record IsLow {X : Type 0} (key : X → ℕ) (s : ℕ) (xs : List X) (at : ℕ) : Type 0 where
   pub end : at ≤ length xs
   pub below : (k : ℕ) (d : X) → k < at → key (slice_index_or xs k d) < s

@@ -38,11 +38,15 @@ edges_of m state = filter (λ e. edge_from e == state) m.edges
 pub record IsSpan (edges : List Edge) (state low high : ℕ) : Type 0 where
   pub end : high ≤ length edges
   pub inside : (j : ℕ) (e : Edge) → slice_get edges j ≡ Some e → low ≤ j → j < high → e.from ≡ state
-  pub outside : (j : ℕ) (e : Edge) → slice_get edges j ≡ Some e → e.from ≡ state → (low ≤ j) × (j < high)
+  pub outside : (j : ℕ) (e : Edge) → slice_get edges j ≡ Some e → e.from ≡ state →
+      (low ≤ j) × (j < high)
 
 -- the edges of a state with this left side stand at the places from low up to high
-pub record IsSpanBy (edges : List Edge) (state : ℕ) (left : Option Symbol) (low high : ℕ) : Type 0 where
+pub record IsSpanBy (edges : List Edge) (state : ℕ) (left : Option Symbol)
+    (low high : ℕ) : Type 0 where
   pub rises : low ≤ high
   pub end : high ≤ length edges
-  pub inside : (j : ℕ) (e : Edge) → slice_get edges j ≡ Some e → low ≤ j → j < high → (e.from ≡ state) × (e.label.left ≡ left)
-  pub outside : (j : ℕ) (e : Edge) → slice_get edges j ≡ Some e → e.from ≡ state → e.label.left ≡ left → (low ≤ j) × (j < high)
+  pub inside : (j : ℕ) (e : Edge) → slice_get edges j ≡ Some e → low ≤ j → j < high →
+      (e.from ≡ state) × (e.label.left ≡ left)
+  pub outside : (j : ℕ) (e : Edge) → slice_get edges j ≡ Some e → e.from ≡ state →
+      e.label.left ≡ left → (low ≤ j) × (j < high)

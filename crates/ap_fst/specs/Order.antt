@@ -33,15 +33,18 @@ side_text (Some At) = []
 
 -- the order of sides: by class, and within a class by the text
 abbrev pub side_cmp : Option Symbol → Option Symbol → Ordering
-side_cmp a b = ordering_then (nat_cmp (side_class a) (side_class b)) (slice_cmp nat_cmp (side_text a) (side_text b))
+side_cmp a b = ordering_then (nat_cmp (side_class a) (side_class b))
+    (slice_cmp nat_cmp (side_text a) (side_text b))
 
 -- labels are ordered by the left side, then by the right
 abbrev pub label_cmp : Label → Label → Ordering
 label_cmp a b = ordering_then (side_cmp a.left b.left) (side_cmp a.right b.right)
 
--- edges are ordered by the state that they leave, then by the label, then by the state that they enter
+-- edges are ordered by the state that they leave, then by the label, then by the state that they
+-- enter
 abbrev pub edge_cmp : Edge → Edge → Ordering
-edge_cmp a b = ordering_then (nat_cmp a.from b.from) (ordering_then (label_cmp a.label b.label) (nat_cmp a.to b.to))
+edge_cmp a b = ordering_then (nat_cmp a.from b.from)
+    (ordering_then (label_cmp a.label b.label) (nat_cmp a.to b.to))
 
 -- how an edge stands to the edges of a state with a left side
 abbrev pub left_cmp : Edge → ℕ → Option Symbol → Ordering

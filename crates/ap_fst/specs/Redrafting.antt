@@ -15,6 +15,8 @@ end_move end s = record { from = s; label = None; to = end }
 abbrev pub start_move : ℕ → Move
 start_move start = record { from = start; label = None; to = 0 }
 
--- The moves of a draft of a transducer: its edges, and empty moves from a start and to an end behind its states.
+-- The moves of a draft of a transducer: its edges, and empty moves from a start and to an end
+-- behind its states.
 abbrev pub draft_moves : Machine → List Move
-draft_moves m = (start_move m.states ∷ map edge_move m.edges) ++ map (end_move (m.states + 1)) m.finals
+draft_moves m = (start_move m.states ∷ map edge_move m.edges)
+    ++ map (end_move (m.states + 1)) m.finals

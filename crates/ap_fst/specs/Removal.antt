@@ -36,33 +36,39 @@ pub record AreLoud (moves : List Move) (arcs : List Arc) : Type 0 where
   pub only : (a : Arc) → IsIn a arcs → IsLoudArc moves a.to a
   pub there : (at : ℕ) (a : Arc) → IsLoudArc moves at a → IsIn a arcs
 
--- the edge of the labelled move that an arc names: from this number, to the number of the state that it enters
-pub record IsMoved (moves : List Move) (kept : List ℕ) (number : ℕ) (a : Arc) (e : Edge) : Type 0 where
+-- the edge of the labelled move that an arc names: from this number, to the number of the state
+-- that it enters
+pub record IsMoved (moves : List Move) (kept : List ℕ) (number : ℕ) (a : Arc)
+    (e : Edge) : Type 0 where
   pub move : Move
   pub move_at : slice_get moves a.to ≡ Some move
   pub label_is : move.label ≡ Some e.label
   pub from_is : e.from ≡ number
   pub to_is : place_of kept move.to ≡ Some e.to
 
-pub record IsMovedBy (moves : List Move) (kept : List ℕ) (number : ℕ) (arcs : List Arc) (e : Edge) : Type 0 where
+pub record IsMovedBy (moves : List Move) (kept : List ℕ) (number : ℕ) (arcs : List Arc)
+    (e : Edge) : Type 0 where
   pub arc : Arc
   pub listed : IsIn arc arcs
   pub moved : IsMoved moves kept number arc e
 
 -- the edge of a labelled move from one of these states
-pub record IsMovedFrom (moves : List Move) (loud : List Arc) (kept near : List ℕ) (number : ℕ) (e : Edge) : Type 0 where
+pub record IsMovedFrom (moves : List Move) (loud : List Arc) (kept near : List ℕ) (number : ℕ)
+    (e : Edge) : Type 0 where
   pub state : ℕ
   pub near_in : IsIn state near
   pub by : IsMovedBy moves kept number (arcs_at loud state) e
 
 -- the same from the state at one place
-pub record NearAt (moves : List Move) (loud : List Arc) (kept near : List ℕ) (number k : ℕ) (e : Edge) : Type 0 where
+pub record NearAt (moves : List Move) (loud : List Arc) (kept near : List ℕ) (number k : ℕ)
+    (e : Edge) : Type 0 where
   pub state : ℕ
   pub at : slice_get near k ≡ Some state
   pub by : IsMovedBy moves kept number (arcs_at loud state) e
 
 -- the edge of a labelled move that follows quiet ones from the state with this number
-pub record IsEdgeOut (moves : List Move) (quiet loud : List Arc) (kept : List ℕ) (number : ℕ) (e : Edge) : Type 0 where
+pub record IsEdgeOut (moves : List Move) (quiet loud : List Arc) (kept : List ℕ) (number : ℕ)
+    (e : Edge) : Type 0 where
   pub start : ℕ
   pub start_at : slice_get kept number ≡ Some start
   pub state : ℕ
@@ -77,7 +83,8 @@ pub record IsNumberIn (kept back : List ℕ) (number : ℕ) : Type 0 where
 
 -- the number goes last where its state is among these, and else nothing changes
 pub data AddsFinal (kept back : List ℕ) (number : ℕ) (old new : List ℕ) : Type 0 where
-  added : IsNumberIn kept back number → new ≡ old ++ number ∷ [] → AddsFinal kept back number old new
+  added : IsNumberIn kept back number → new ≡ old ++ number ∷ [] →
+      AddsFinal kept back number old new
   same : (IsNumberIn kept back number → ⊥) → new ≡ old → AddsFinal kept back number old new
 
 -- the states that labelled moves enter

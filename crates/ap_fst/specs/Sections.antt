@@ -16,7 +16,8 @@ use Rattle.ap_fst.specs.declared.compiled.Kind2.{Kind2}
 use Rattle.ap_fst.specs.declared.compiled.Kind2.TheVariants.{Standard, Inconditional, Postblank, Preblank}
 use Rattle.ap_fst.specs.declared.compiled.Way.{Way}
 
--- a side of a dictionary's label: no Star, no At, no white-space letter, and a tag with the name of a tag
+-- a side of a dictionary's label: no Star, no At, no white-space letter, and a tag with the name of
+-- a tag
 abbrev pub is_plain_side : Option Symbol → Bool
 is_plain_side None = true
 is_plain_side (Some (Letter c)) = not (is_white c)
@@ -31,7 +32,8 @@ is_plain_side (Some At) = false
 abbrev pub is_plain_label : Label → Bool
 is_plain_label l = is_plain_side l.left && is_plain_side l.right
 
--- A section of a compiled dictionary: trimmed, without an empty cycle and an empty side, and with plain labels.
+-- A section of a compiled dictionary: trimmed, without an empty cycle and an empty side, and with
+-- plain labels.
 pub record IsSection (m : Machine) : Type 0 where
   pub sound : IsMachine m
   pub trimmed : IsTrimmed m

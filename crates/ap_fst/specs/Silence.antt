@@ -19,7 +19,8 @@ pub record HasEmptySide (m : Machine) : Type 0 where
 -- So many edges with an empty left side lead from one state to another.
 pub data SilentWalk (edges : List Edge) : ℕ → ℕ → ℕ → Type 0 where
   still : {s t : ℕ} → s ≡ t → SilentWalk edges s zero t
-  step : {s t n : ℕ} (u j : ℕ) (e : Edge) → SilentWalk edges s n u → slice_get edges j ≡ Some e → e.label.left ≡ None → u ≡ e.from → t ≡ e.to → SilentWalk edges s (suc n) t
+  step : {s t n : ℕ} (u j : ℕ) (e : Edge) → SilentWalk edges s n u → slice_get edges j ≡ Some e →
+      e.label.left ≡ None → u ≡ e.from → t ≡ e.to → SilentWalk edges s (suc n) t
 
 -- the edge at this place has an empty left side and lies on a cycle of such edges
 pub record IsOnEmptyCycle (edges : List Edge) (j : ℕ) : Type 0 where
@@ -59,7 +60,8 @@ pub record Rises (number : ℕ → Option ℕ) (e : Edge) : Type 0 where
 
 -- each edge before this place whose left side is empty leads to a higher number
 abbrev pub RiseBefore : (ℕ → Option ℕ) → List Edge → ℕ → Type 0
-RiseBefore number edges j = (i : ℕ) (e : Edge) → i < j → slice_get edges i ≡ Some e → is_silent e ≡ true → Rises number e
+RiseBefore number edges j = (i : ℕ) (e : Edge) → i < j → slice_get edges i ≡ Some e →
+    is_silent e ≡ true → Rises number e
 
 -- A run of labels with empty left sides within a label string.
 pub record IsSilentRun (labels middle : List Label) : Type 0 where
@@ -68,7 +70,9 @@ pub record IsSilentRun (labels middle : List Label) : Type 0 where
   pub whole : labels ≡ front ++ (middle ++ back)
   pub silent : left_word middle ≡ []
 
--- Some number bounds how many labels with an empty left side follow one another in the label strings.
+-- Some number bounds how many labels with an empty left side follow one another in the label
+-- strings.
 pub record HasBoundedRuns (m : Machine) : Type 0 where
   pub bound : ℕ
-  pub short : (labels middle : List Label) → AcceptsLabels m labels → IsSilentRun labels middle → length middle ≤ bound
+  pub short : (labels middle : List Label) → AcceptsLabels m labels → IsSilentRun labels middle →
+      length middle ≤ bound

@@ -21,11 +21,13 @@ pub record IsFinishing (m : Machine) (s : ℕ) : Type 0 where
   pub final : IsIn last m.finals
   pub walk : Walk m.edges s labels last
 
--- Each state other than the start is reached from it and reaches a final one, and where nothing is accepted there is one state and no edge.
+-- Each state other than the start is reached from it and reaches a final one, and where nothing is
+-- accepted there is one state and no edge.
 pub record IsTrimmed (m : Machine) : Type 0 where
   pub reached : (s : ℕ) → 0 < s → s < m.states → IsReached m s
   pub finishing : (s : ℕ) → 0 < s → s < m.states → IsFinishing m s
-  pub nothing : ((labels : List Label) → AcceptsLabels m labels → ⊥) → (m.states ≡ 1) × (m.edges ≡ [])
+  pub nothing : ((labels : List Label) → AcceptsLabels m labels → ⊥) →
+      (m.states ≡ 1) × (m.edges ≡ [])
 
 abbrev pub IsUseful : Machine → ℕ → Type 0
 IsUseful m s = IsReached m s × IsFinishing m s
@@ -44,7 +46,12 @@ kept_state states s = option_to_list (place_of states s)
 
 -- what is left where these states stay, each numbered by its place
 abbrev pub trimmed_to : List ℕ → Machine → Machine
-trimmed_to states m = record { states = max (length states) 1; edges = flat_map (kept_edge states) m.edges; finals = flat_map (kept_state states) m.finals }
+trimmed_to states m = record {
+  states = max (length states) 1;
+  edges =
+      flat_map (kept_edge states) m.edges;
+  finals = flat_map (kept_state states) m.finals;
+}
 
 -- The states that are reached and reach a final one stay, in their old order.
 pub record IsTrimOf (old new : Machine) : Type 0 where

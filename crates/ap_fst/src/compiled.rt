@@ -41,9 +41,27 @@ impl Model for Compiled {
 
     ghost Value = { Parts };
 
-    ghost view = { λ c. record { alphabet = c.alphabet; way = c.way; standard = c.standard; inconditional = c.inconditional; postblank = c.postblank; preblank = c.preblank } };
+    ghost view = { λ c. record {
+      alphabet = c.alphabet;
+      way = c.way;
+      standard =
+          c.standard;
+      inconditional = c.inconditional;
+      postblank = c.postblank;
+      preblank =
+          c.preblank;
+    } };
 
-    ghost invariant = { λ c. IsCompiled (record { alphabet = c.alphabet; way = c.way; standard = c.standard; inconditional = c.inconditional; postblank = c.postblank; preblank = c.preblank }) };
+    ghost invariant = { λ c. IsCompiled
+        (record {
+          alphabet = c.alphabet;
+          way = c.way;
+          standard = c.standard;
+          inconditional =
+              c.inconditional;
+          postblank = c.postblank;
+          preblank = c.preblank;
+        }) };
 }
 
 fn is_listed(letters: &[char], c: char) -> bool
@@ -57,8 +75,8 @@ impl Compiled {
     ghost use Rattle.ap_fst.specs.Sections.{Parts, IsCompiled, section_of};
 
     /// The compiled dictionary of these parts. It takes no memory. Each section is trimmed and has
-    /// no empty cycle, no empty side and no label with Star, At, white space or a tag without the name
-    /// of a tag; the alphabet ascends, is closed under case partners and holds no white space.
+    /// no empty cycle, no empty side and no label with Star, At, white space or a tag without the
+    /// name of a tag; the alphabet ascends, is closed under case partners and holds no white space.
     pub fn new(
         alphabet: Letters,
         way: Way,
@@ -67,8 +85,24 @@ impl Compiled {
         postblank: Fst,
         preblank: Fst,
     ) -> Compiled
-        requires { IsCompiled (record { alphabet = alphabet; way = way; standard = standard; inconditional = inconditional; postblank = postblank; preblank = preblank }) }
-        ensures { result ≡ record { alphabet = alphabet; way = way; standard = standard; inconditional = inconditional; postblank = postblank; preblank = preblank } }
+        requires { IsCompiled (record {
+          alphabet = alphabet;
+          way = way;
+          standard =
+              standard;
+          inconditional = inconditional;
+          postblank = postblank;
+          preblank = preblank;
+        }) }
+        ensures { result ≡ record {
+          alphabet = alphabet;
+          way = way;
+          standard =
+              standard;
+          inconditional = inconditional;
+          postblank = postblank;
+          preblank = preblank;
+        } }
     {
         Compiled {
             alphabet,

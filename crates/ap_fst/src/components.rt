@@ -47,7 +47,8 @@ impl Descent {
         Ok(())
     }
 
-    /// Follows the next arc of the last state of the path, or finishes the state where no arc is left.
+    /// Follows the next arc of the last state of the path, or finishes the state where no arc is
+    /// left.
     fn go_on(&mut self, arcs: &[Arc]) -> Result<(), Memory>
         requires { IsNonDecreasingBy arc_from arcs.now }
     {

@@ -29,7 +29,8 @@ fn numbers_at(numbers: &IndexMap<usize, usize>, edge: &Edge) -> Option<(usize, u
 }
 
 fn edge_keeps_up(numbers: &IndexMap<usize, usize>, edge: &Edge) -> bool
-    ensures { IsTrue result → is_silent edge.now ≡ true → KeepsUp (get nat_eq numbers.now) edge.now }
+    ensures { IsTrue result → is_silent edge.now ≡ true →
+        KeepsUp (get nat_eq numbers.now) edge.now }
 {
     if edge.label.left.is_some() {
         return true;
@@ -42,7 +43,8 @@ fn edge_keeps_up(numbers: &IndexMap<usize, usize>, edge: &Edge) -> bool
 
 /// Whether no edge with an empty left side leads to a state with a lower number.
 fn all_keep_up(numbers: &IndexMap<usize, usize>, edges: &[Edge]) -> bool
-    ensures { IsTrue result → (e : Edge) → IsIn e edges.now → is_silent e ≡ true → KeepsUp (get nat_eq numbers.now) e }
+    ensures { IsTrue result → (e : Edge) → IsIn e edges.now → is_silent e ≡ true →
+        KeepsUp (get nat_eq numbers.now) e }
 {
     for edge in edges {
         if !edge_keeps_up(numbers, edge) {
@@ -66,7 +68,8 @@ fn edge_rises(numbers: &IndexMap<usize, usize>, edge: &Edge) -> bool
 
 /// The place of the first edge with an empty left side that doesn't lead to a higher number.
 fn first_level(numbers: &IndexMap<usize, usize>, edges: &[Edge]) -> Option<usize>
-    ensures { MatchOption result (RiseBefore (get nat_eq numbers.now) edges.now (length edges.now)) (λ j. RiseBefore (get nat_eq numbers.now) edges.now j) }
+    ensures { MatchOption result (RiseBefore (get nat_eq numbers.now) edges.now (length edges.now))
+        (λ j. RiseBefore (get nat_eq numbers.now) edges.now j) }
 {
     for (at, edge) in edges.iter().enumerate() {
         if !edge_rises(numbers, edge) {
@@ -101,7 +104,8 @@ fn is_on_cycle(alloc: Global, arcs: &[Arc], edges: &[Edge], at: usize) -> Result
 fn first_on_cycle(alloc: Global, arcs: &[Arc], edges: &[Edge]) -> Result<Option<usize>, Memory>
     requires arcs { arcs.now ≡ map forward (filter is_silent edges.now) }
     requires sorted { IsNonDecreasingBy arc_from arcs.now }
-    ensures { IfOk result (λ answer. MatchOption answer ((j : ℕ) → IsOnEmptyCycle edges.now j → ⊥) (λ j. IsFirstOnEmptyCycle edges.now j)) }
+    ensures { IfOk result (λ answer. MatchOption answer ((j : ℕ) → IsOnEmptyCycle edges.now j → ⊥)
+        (λ j. IsFirstOnEmptyCycle edges.now j)) }
 {
     for at in 0..edges.len() {
         if is_on_cycle(alloc, arcs, edges, at)? {
@@ -112,8 +116,8 @@ fn first_on_cycle(alloc: Global, arcs: &[Arc], edges: &[Edge]) -> Result<Option<
 }
 
 /// The first edge on a cycle, by the numbers of the states: an edge to a higher number lies on no
-/// cycle where none leads to a lower one, so the first that leads to the same number is tried alone.
-/// Where the numbers don't serve, it is found by a search from each edge.
+/// cycle where none leads to a lower one, so the first that leads to the same number is tried
+/// alone. Where the numbers don't serve, it is found by a search from each edge.
 fn first_by_numbers(
     alloc: Global,
     numbers: &IndexMap<usize, usize>,
@@ -122,7 +126,8 @@ fn first_by_numbers(
 ) -> Result<Option<usize>, Memory>
     requires arcs { arcs.now ≡ map forward (filter is_silent edges.now) }
     requires sorted { IsNonDecreasingBy arc_from arcs.now }
-    ensures { IfOk result (λ answer. MatchOption answer ((j : ℕ) → IsOnEmptyCycle edges.now j → ⊥) (λ j. IsFirstOnEmptyCycle edges.now j)) }
+    ensures { IfOk result (λ answer. MatchOption answer ((j : ℕ) → IsOnEmptyCycle edges.now j → ⊥)
+        (λ j. IsFirstOnEmptyCycle edges.now j)) }
 {
     if !all_keep_up(numbers, edges) {
         return first_on_cycle(alloc, arcs, edges);
@@ -140,7 +145,8 @@ fn first_by_numbers(
 /// It is linear in the edges, but for the look-ups of states, and takes memory by the edges and not
 /// by the number of states.
 pub fn empty_cycle(alloc: Global, fst: &Fst) -> Result<Option<usize>, Memory>
-    ensures { IfOk result (λ answer. MatchOption answer (HasNoEmptyCycle fst.now) (λ j. IsFirstOnEmptyCycle fst.now.edges j)) }
+    ensures { IfOk result (λ answer. MatchOption answer (HasNoEmptyCycle fst.now)
+        (λ j. IsFirstOnEmptyCycle fst.now.edges j)) }
 {
     let edges = fst.edges();
     let arcs = silent_arcs(alloc, edges)?;
@@ -151,8 +157,11 @@ pub fn empty_cycle(alloc: Global, fst: &Fst) -> Result<Option<usize>, Memory>
 
 /// The law on empty cycles. A trimmed transducer has no cycle of edges with an empty left side
 /// exactly where some number bounds how many labels with an empty left side follow one another in
-/// its label strings. Without such a cycle, a walk over such edges has fewer edges than there are states.
+/// its label strings. Without such a cycle, a walk over such edges has fewer edges than there are
+/// states.
 pub fn empty_cycle_law()
-    ensures runs { (m : Machine) → IsMachine m → IsTrimmed m → (HasNoEmptyCycle m ↔ HasBoundedRuns m) }
-    ensures walks { (m : Machine) → IsMachine m → HasNoEmptyCycle m → (s n t : ℕ) → SilentWalk m.edges s n t → s < m.states → n < m.states }
+    ensures runs { (m : Machine) → IsMachine m → IsTrimmed m →
+        (HasNoEmptyCycle m ↔ HasBoundedRuns m) }
+    ensures walks { (m : Machine) → IsMachine m → HasNoEmptyCycle m → (s n t : ℕ) →
+        SilentWalk m.edges s n t → s < m.states → n < m.states }
 {}

@@ -79,7 +79,8 @@ fn copy_moves(alloc: Global, moves: &[Move]) -> Result<Vec<Move>, Memory>
 }
 
 fn push_empty(moves: &mut Vec<Move>, from: usize, to: usize) -> Result<(), Memory>
-    ensures { OnOk result (moves.new.items ≡ moves.old.items ++ record { from = from; label = None; to = to } ∷ []) }
+    ensures { OnOk result (moves.new.items ≡ moves.old.items
+        ++ record { from = from; label = None; to = to } ∷ []) }
 {
     moves.push(Move {
         from,
@@ -89,7 +90,8 @@ fn push_empty(moves: &mut Vec<Move>, from: usize, to: usize) -> Result<(), Memor
     Ok(())
 }
 
-/// A transducer with empty moves, one start and one end. No move enters its start or leaves its end.
+/// A transducer with empty moves, one start and one end. No move enters its start or leaves its
+/// end.
 #[derive(Debug, Drop)]
 pub struct Draft {
     states: usize,
@@ -103,9 +105,16 @@ impl Model for Draft {
 
     ghost Value = { Sketch };
 
-    ghost view = { λ d. record { states = d.states; start = d.start; finish = d.end; moves = d.moves.items } };
+    ghost view = { λ d. record {
+      states = d.states;
+      start = d.start;
+      finish = d.end;
+      moves =
+          d.moves.items;
+    } };
 
-    ghost invariant = { λ d. IsSketch (record { states = d.states; start = d.start; finish = d.end; moves = d.moves.items }) };
+    ghost invariant = { λ d. IsSketch
+        (record { states = d.states; start = d.start; finish = d.end; moves = d.moves.items }) };
 }
 
 impl Draft {
@@ -128,7 +137,8 @@ impl Draft {
     /// Accepts that one label.
     pub fn letter(alloc: Global, label: Label) -> Result<Draft, Memory>
         requires { IsTrue (has_side label) }
-        ensures { IfOk result (λ made. (labels : List Label) → Accepts made labels ↔ (labels ≡ label ∷ [])) }
+        ensures { IfOk result (λ made. (labels : List Label) →
+            Accepts made labels ↔ (labels ≡ label ∷ [])) }
     {
         let mut moves = Vec::new(alloc);
         moves.push(Move {
@@ -146,7 +156,8 @@ impl Draft {
 
     /// Accepts the empty string.
     pub fn empty(alloc: Global) -> Result<Draft, Memory>
-        ensures { IfOk result (λ made. (labels : List Label) → Accepts made labels ↔ (labels ≡ [])) }
+        ensures { IfOk result (λ made. (labels : List Label) →
+            Accepts made labels ↔ (labels ≡ [])) }
     {
         let mut moves = Vec::new(alloc);
         moves.push(Move {
@@ -164,7 +175,8 @@ impl Draft {
 
     /// Accepts a string of the first and then one of the second.
     pub fn join(self, other: Draft) -> Result<Draft, Memory>
-        ensures { IfOk result (λ made. (labels : List Label) → Accepts made labels ↔ IsJoined self other labels) }
+        ensures { IfOk result (λ made. (labels : List Label) →
+            Accepts made labels ↔ IsJoined self other labels) }
     {
         let Draft {
             states,
@@ -199,7 +211,8 @@ impl Draft {
 
     /// Accepts the strings of both.
     pub fn either(self, other: Draft) -> Result<Draft, Memory>
-        ensures { IfOk result (λ made. (labels : List Label) → Accepts made labels ↔ IsEither self other labels) }
+        ensures { IfOk result (λ made. (labels : List Label) →
+            Accepts made labels ↔ IsEither self other labels) }
     {
         let Draft {
             states,
@@ -234,7 +247,8 @@ impl Draft {
 
     /// Accepts any number of strings of it, one after another.
     pub fn star(self) -> Result<Draft, Memory>
-        ensures { IfOk result (λ made. (labels : List Label) → Accepts made labels ↔ Repeats self labels) }
+        ensures { IfOk result (λ made. (labels : List Label) →
+            Accepts made labels ↔ Repeats self labels) }
     {
         let Draft {
             states,
@@ -259,7 +273,8 @@ impl Draft {
 
     /// Accepts one string of it or more, one after another.
     pub fn plus(self) -> Result<Draft, Memory>
-        ensures { IfOk result (λ made. (labels : List Label) → Accepts made labels ↔ IsMoreThanNone self labels) }
+        ensures { IfOk result (λ made. (labels : List Label) →
+            Accepts made labels ↔ IsMoreThanNone self labels) }
     {
         let Draft {
             states,
@@ -283,7 +298,8 @@ impl Draft {
 
     /// Accepts at most one string of it.
     pub fn opt(self) -> Result<Draft, Memory>
-        ensures { IfOk result (λ made. (labels : List Label) → Accepts made labels ↔ IsOptional self labels) }
+        ensures { IfOk result (λ made. (labels : List Label) →
+            Accepts made labels ↔ IsOptional self labels) }
     {
         let Draft {
             states,
@@ -302,7 +318,8 @@ impl Draft {
 
     /// A draft of a transducer: it accepts the same label strings.
     pub fn of(alloc: Global, fst: &Fst) -> Result<Draft, Memory>
-        ensures { IfOk result (λ made. (labels : List Label) → Accepts made labels ↔ AcceptsLabels fst.now labels) }
+        ensures { IfOk result (λ made. (labels : List Label) →
+            Accepts made labels ↔ AcceptsLabels fst.now labels) }
     {
         let states = fst.states();
         let Some(all) = states.checked_add(2) else {

@@ -18,7 +18,8 @@ const NEAR: usize = 8;
 
 fn low_of(edges: &[Edge], state: usize) -> usize
     requires { IsNonDecreasingBy edge_from edges.now }
-    ensures point { IsPartitionPoint (λ e. nat_lt (edge_from e) state ≡ true) (λ e. nat_lt (edge_from e) state ≡ false) edges.now result }
+    ensures point { IsPartitionPoint (λ e. nat_lt (edge_from e) state ≡ true)
+        (λ e. nat_lt (edge_from e) state ≡ false) edges.now result }
     ensures bound { result ≤ length edges.now }
 {
     edges.partition_point(|e| e.from < state)
@@ -26,7 +27,8 @@ fn low_of(edges: &[Edge], state: usize) -> usize
 
 fn high_of(edges: &[Edge], state: usize) -> usize
     requires { IsNonDecreasingBy edge_from edges.now }
-    ensures point { IsPartitionPoint (λ e. nat_le (edge_from e) state ≡ true) (λ e. nat_le (edge_from e) state ≡ false) edges.now result }
+    ensures point { IsPartitionPoint (λ e. nat_le (edge_from e) state ≡ true)
+        (λ e. nat_le (edge_from e) state ≡ false) edges.now result }
     ensures bound { result ≤ length edges.now }
 {
     edges.partition_point(|e| e.from <= state)
@@ -35,7 +37,8 @@ fn high_of(edges: &[Edge], state: usize) -> usize
 /// The same point, looked for among the first few edges before the rest.
 fn near_high_of(edges: &[Edge], state: usize) -> usize
     requires { IsNonDecreasingBy edge_from edges.now }
-    ensures point { IsPartitionPoint (λ e. nat_le (edge_from e) state ≡ true) (λ e. nat_le (edge_from e) state ≡ false) edges.now result }
+    ensures point { IsPartitionPoint (λ e. nat_le (edge_from e) state ≡ true)
+        (λ e. nat_le (edge_from e) state ≡ false) edges.now result }
     ensures bound { result ≤ length edges.now }
 {
     let near = edges.len().min(NEAR);
@@ -58,7 +61,8 @@ fn range_of(edges: &[Edge], state: usize) -> (usize, usize)
 
 fn is_below(edges: &[Edge], state: usize, at: usize) -> bool
     requires { at ≤ length edges.now }
-    ensures { IsTrue result → 0 < at → (d : Edge) → edge_from (slice_index_or edges.now (at - 1) d) < state }
+    ensures { IsTrue result → 0 < at → (d : Edge) →
+        edge_from (slice_index_or edges.now (at - 1) d) < state }
 {
     if at == 0 {
         return true;
@@ -67,7 +71,8 @@ fn is_below(edges: &[Edge], state: usize, at: usize) -> bool
 }
 
 fn is_above(edges: &[Edge], state: usize, at: usize) -> bool
-    ensures { IsTrue result → at < length edges.now → (d : Edge) → state ≤ edge_from (slice_index_or edges.now at d) }
+    ensures { IsTrue result → at < length edges.now → (d : Edge) →
+        state ≤ edge_from (slice_index_or edges.now at d) }
 {
     if at >= edges.len() {
         return true;
@@ -92,7 +97,8 @@ fn is_low(edges: &[Edge], state: usize, at: usize) -> bool
 /// Where the edges of a state begin: at the guess if it is right, else by halving.
 fn low_near(edges: &[Edge], state: usize, guess: usize) -> usize
     requires { IsNonDecreasingBy edge_from edges.now }
-    ensures point { IsPartitionPoint (λ e. nat_lt (edge_from e) state ≡ true) (λ e. nat_lt (edge_from e) state ≡ false) edges.now result }
+    ensures point { IsPartitionPoint (λ e. nat_lt (edge_from e) state ≡ true)
+        (λ e. nat_lt (edge_from e) state ≡ false) edges.now result }
     ensures bound { result ≤ length edges.now }
 {
     if is_low(edges, state, guess) {
@@ -121,7 +127,9 @@ fn part_of(edges: &[Edge], state: usize) -> &[Edge]
 
 fn low_by(edges: &[Edge], state: usize, left: Option<&Symbol>) -> usize
     requires { IsNonDecreasingBy (left_place state (option_copied left)) edges.now }
-    ensures point { IsPartitionPoint (λ e. nat_lt (left_place state (option_copied left.entry) e) 1 ≡ true) (λ e. nat_lt (left_place state (option_copied left.entry) e) 1 ≡ false) edges.now result }
+    ensures point { IsPartitionPoint (λ e. nat_lt (left_place state (option_copied left.entry) e) 1
+        ≡ true) (λ e. nat_lt (left_place state (option_copied left.entry) e) 1 ≡ false)
+        edges.now result }
     ensures bound { result ≤ length edges.now }
 {
     edges.partition_point(|e| compare_left(e, state, left).is_lt())
@@ -129,7 +137,9 @@ fn low_by(edges: &[Edge], state: usize, left: Option<&Symbol>) -> usize
 
 fn high_by(edges: &[Edge], state: usize, left: Option<&Symbol>) -> usize
     requires { IsNonDecreasingBy (left_place state (option_copied left)) edges.now }
-    ensures point { IsPartitionPoint (λ e. nat_le (left_place state (option_copied left.entry) e) 1 ≡ true) (λ e. nat_le (left_place state (option_copied left.entry) e) 1 ≡ false) edges.now result }
+    ensures point { IsPartitionPoint (λ e. nat_le (left_place state (option_copied left.entry) e) 1
+        ≡ true) (λ e. nat_le (left_place state (option_copied left.entry) e) 1 ≡ false)
+        edges.now result }
     ensures bound { result ≤ length edges.now }
 {
     edges.partition_point(|e| compare_left(e, state, left).is_le())
@@ -138,7 +148,9 @@ fn high_by(edges: &[Edge], state: usize, left: Option<&Symbol>) -> usize
 /// The same point, looked for among the first few edges before the rest.
 fn near_high_by(edges: &[Edge], state: usize, left: Option<&Symbol>) -> usize
     requires { IsNonDecreasingBy (left_place state (option_copied left)) edges.now }
-    ensures point { IsPartitionPoint (λ e. nat_le (left_place state (option_copied left.entry) e) 1 ≡ true) (λ e. nat_le (left_place state (option_copied left.entry) e) 1 ≡ false) edges.now result }
+    ensures point { IsPartitionPoint (λ e. nat_le (left_place state (option_copied left.entry) e) 1
+        ≡ true) (λ e. nat_le (left_place state (option_copied left.entry) e) 1 ≡ false)
+        edges.now result }
     ensures bound { result ≤ length edges.now }
 {
     let near = edges.len().min(NEAR);
@@ -153,7 +165,8 @@ fn near_high_by(edges: &[Edge], state: usize, left: Option<&Symbol>) -> usize
 /// from there on.
 fn range_by(edges: &[Edge], state: usize, left: Option<&Symbol>) -> (usize, usize)
     requires { IsNonDecreasingBy (left_place state (option_copied left)) edges.now }
-    ensures { IsKeyRange (left_place state (option_copied left.entry)) 1 edges.now result.0 result.1 }
+    ensures { IsKeyRange (left_place state (option_copied left.entry)) 1 edges.now
+        result.0 result.1 }
 {
     let low = low_by(edges, state, left);
     let more = near_high_by(&edges[low..], state, left);
@@ -182,7 +195,8 @@ impl Model for Fst {
 
     ghost view = { λ f. record { states = f.states; edges = f.edges; finals = f.finals } };
 
-    ghost invariant = { λ f. IsMachine (record { states = f.states; edges = f.edges; finals = f.finals }) };
+    ghost invariant = { λ f. IsMachine
+        (record { states = f.states; edges = f.edges; finals = f.finals }) };
 }
 
 impl Fst {
@@ -240,8 +254,8 @@ impl Fst {
         range_of(self.edges.as_slice(), state)
     }
 
-    /// The same places, found at once where the guess of the first is right. A wrong guess costs time
-    /// alone.
+    /// The same places, found at once where the guess of the first is right. A wrong guess costs
+    /// time alone.
     pub fn span_near(&self, state: usize, guess: usize) -> (usize, usize)
         ensures span { IsSpan self.now.edges state result.0 result.1 }
         ensures sound { IsMachine self.now }

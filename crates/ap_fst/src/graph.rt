@@ -27,7 +27,8 @@ pub(crate) fn sort_arcs(arcs: &mut Vec<Arc>)
 /// Where the arcs of a state begin, by halving.
 pub(crate) fn low_of(arcs: &[Arc], state: usize) -> usize
     requires { IsNonDecreasingBy arc_from arcs.now }
-    ensures point { IsPartitionPoint (λ a. nat_lt (arc_from a) state ≡ true) (λ a. nat_lt (arc_from a) state ≡ false) arcs.now result }
+    ensures point { IsPartitionPoint (λ a. nat_lt (arc_from a) state ≡ true)
+        (λ a. nat_lt (arc_from a) state ≡ false) arcs.now result }
     ensures bound { result ≤ length arcs.now }
 {
     arcs.partition_point(|a| a.from < state)
@@ -35,7 +36,8 @@ pub(crate) fn low_of(arcs: &[Arc], state: usize) -> usize
 
 fn high_of(arcs: &[Arc], state: usize) -> usize
     requires { IsNonDecreasingBy arc_from arcs.now }
-    ensures point { IsPartitionPoint (λ a. nat_le (arc_from a) state ≡ true) (λ a. nat_le (arc_from a) state ≡ false) arcs.now result }
+    ensures point { IsPartitionPoint (λ a. nat_le (arc_from a) state ≡ true)
+        (λ a. nat_le (arc_from a) state ≡ false) arcs.now result }
     ensures bound { result ≤ length arcs.now }
 {
     arcs.partition_point(|a| a.from <= state)
@@ -45,7 +47,8 @@ fn high_of(arcs: &[Arc], state: usize) -> usize
 fn leave_below(arcs: &[Arc], state: usize, count: usize) -> bool
     requires { IsNonDecreasingBy arc_from arcs.now }
     ensures within { IsTrue result → count ≤ length arcs.now }
-    ensures below { IsTrue result → AllWithin (λ a. nat_lt (arc_from a) state ≡ true) arcs.now 0 count }
+    ensures below { IsTrue result →
+        AllWithin (λ a. nat_lt (arc_from a) state ≡ true) arcs.now 0 count }
 {
     if count > arcs.len() {
         return false;
@@ -59,7 +62,8 @@ fn leave_below(arcs: &[Arc], state: usize, count: usize) -> bool
 /// Whether no arc from this place on leaves a state below this one.
 fn none_leaves_below(arcs: &[Arc], state: usize, place: usize) -> bool
     requires { IsNonDecreasingBy arc_from arcs.now }
-    ensures { IsTrue result → AllWithin (λ a. nat_lt (arc_from a) state ≡ false) arcs.now place (length arcs.now) }
+    ensures { IsTrue result →
+        AllWithin (λ a. nat_lt (arc_from a) state ≡ false) arcs.now place (length arcs.now) }
 {
     if place >= arcs.len() {
         return true;
@@ -70,7 +74,9 @@ fn none_leaves_below(arcs: &[Arc], state: usize, place: usize) -> bool
 /// Whether the arcs of a state, and of those above it, begin at a place.
 fn begin_at(arcs: &[Arc], state: usize, place: usize) -> bool
     requires { IsNonDecreasingBy arc_from arcs.now }
-    ensures point { IsTrue result → IsPartitionPoint (λ a. nat_lt (arc_from a) state ≡ true) (λ a. nat_lt (arc_from a) state ≡ false) arcs.now place }
+    ensures point { IsTrue result →
+        IsPartitionPoint (λ a. nat_lt (arc_from a) state ≡ true) (λ a. nat_lt (arc_from a) state
+        ≡ false) arcs.now place }
     ensures bound { IsTrue result → place ≤ length arcs.now }
 {
     if !leave_below(arcs, state, place) {
@@ -86,7 +92,8 @@ fn noted_place(places: &[usize], state: usize) -> usize {
 /// Where the arcs of a state begin: at the place that is noted for it, or else by halving.
 fn low_by(arcs: &[Arc], places: &[usize], state: usize) -> usize
     requires { IsNonDecreasingBy arc_from arcs.now }
-    ensures point { IsPartitionPoint (λ a. nat_lt (arc_from a) state ≡ true) (λ a. nat_lt (arc_from a) state ≡ false) arcs.now result }
+    ensures point { IsPartitionPoint (λ a. nat_lt (arc_from a) state ≡ true)
+        (λ a. nat_lt (arc_from a) state ≡ false) arcs.now result }
     ensures bound { result ≤ length arcs.now }
 {
     let place = noted_place(places, state);
@@ -99,7 +106,8 @@ fn low_by(arcs: &[Arc], places: &[usize], state: usize) -> usize
 /// Where the arcs of a state end: where those of the next one begin.
 fn high_by(arcs: &[Arc], places: &[usize], state: usize) -> usize
     requires { IsNonDecreasingBy arc_from arcs.now }
-    ensures point { IsPartitionPoint (λ a. nat_le (arc_from a) state ≡ true) (λ a. nat_le (arc_from a) state ≡ false) arcs.now result }
+    ensures point { IsPartitionPoint (λ a. nat_le (arc_from a) state ≡ true)
+        (λ a. nat_le (arc_from a) state ≡ false) arcs.now result }
     ensures bound { result ≤ length arcs.now }
 {
     if state == usize::MAX {

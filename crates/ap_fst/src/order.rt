@@ -49,8 +49,8 @@ fn compare_sides(a: Option<&Symbol>, b: Option<&Symbol>) -> Ordering
     }
 }
 
-/// The order of labels: by the left side, then by the right. A side without a symbol comes first, then
-/// letters by code point, tags by the bytes of the name, and the marks.
+/// The order of labels: by the left side, then by the right. A side without a symbol comes first,
+/// then letters by code point, tags by the bytes of the name, and the marks.
 pub fn compare_labels(a: &Label, b: &Label) -> Ordering
     ensures { result ≡ label_cmp a.now b.now }
 {

@@ -38,7 +38,8 @@ fn quiet_list(alloc: Global, moves: &[Move]) -> Result<Vec<Arc>, Memory>
 
 /// The moves without a label, in the order of the states that they leave.
 fn quiet_arcs(alloc: Global, moves: &[Move]) -> Result<Vec<Arc>, Memory>
-    ensures permutation { IfOk result (λ arcs. IsPermutation (map move_arc (filter is_quiet moves.now)) arcs.items) }
+    ensures permutation { IfOk result
+        (λ arcs. IsPermutation (map move_arc (filter is_quiet moves.now)) arcs.items) }
     ensures sorted { IfOk result (λ arcs. IsNonDecreasingBy arc_from arcs.items) }
 {
     let mut arcs = quiet_list(alloc, moves)?;
@@ -63,7 +64,8 @@ fn turned_list(alloc: Global, moves: &[Move]) -> Result<Vec<Arc>, Memory>
 
 /// The moves without a label turned round, in the order of the states that they enter.
 fn turned_quiet_arcs(alloc: Global, moves: &[Move]) -> Result<Vec<Arc>, Memory>
-    ensures permutation { IfOk result (λ arcs. IsPermutation (map turned_arc (filter is_quiet moves.now)) arcs.items) }
+    ensures permutation { IfOk result
+        (λ arcs. IsPermutation (map turned_arc (filter is_quiet moves.now)) arcs.items) }
     ensures sorted { IfOk result (λ arcs. IsNonDecreasingBy arc_from arcs.items) }
 {
     let mut arcs = turned_list(alloc, moves)?;
@@ -141,7 +143,8 @@ fn add_move(
     arc: Arc,
     edges: &mut Vec<Edge>,
 ) -> Result<(), Memory>
-    ensures { OnOk result (AddsWhere (IsMoved moves.now kept.now number arc) edges.old.items edges.new.items) }
+    ensures { OnOk result (AddsWhere (IsMoved moves.now kept.now number arc) edges.old.items
+        edges.new.items) }
 {
     let Some(next) = move_at(moves, arc.to) else {
         return Ok(());
@@ -168,7 +171,8 @@ fn add_moves_of(
     arcs: &[Arc],
     edges: &mut Vec<Edge>,
 ) -> Result<(), Memory>
-    ensures { OnOk result (AddsWhere (IsMovedBy moves.now kept.now number arcs.now) edges.old.items edges.new.items) }
+    ensures { OnOk result (AddsWhere (IsMovedBy moves.now kept.now number arcs.now) edges.old.items
+        edges.new.items) }
 {
     for arc in arcs {
         add_move(alloc, moves, kept, number, *arc, edges)?;
@@ -187,7 +191,8 @@ fn add_near_at(
     edges: &mut Vec<Edge>,
 ) -> Result<(), Memory>
     requires { IsNonDecreasingBy arc_from loud.now }
-    ensures { OnOk result (AddsWhere (NearAt moves.now loud.now kept.now near.now number at) edges.old.items edges.new.items) }
+    ensures { OnOk result (AddsWhere (NearAt moves.now loud.now kept.now near.now number at)
+        edges.old.items edges.new.items) }
 {
     let Some(state) = near.get(at) else {
         return Ok(());
@@ -207,7 +212,8 @@ fn add_near(
     edges: &mut Vec<Edge>,
 ) -> Result<(), Memory>
     requires { IsNonDecreasingBy arc_from loud.now }
-    ensures { OnOk result (AddsWhere (IsMovedFrom moves.now loud.now kept.now near.now number) edges.old.items edges.new.items) }
+    ensures { OnOk result (AddsWhere (IsMovedFrom moves.now loud.now kept.now near.now number)
+        edges.old.items edges.new.items) }
 {
     for at in 0..near.len() {
         add_near_at(alloc, moves, loud, kept, near, number, at, edges)?;
@@ -226,7 +232,8 @@ fn add_number(
 ) -> Result<(), Memory>
     requires quiet { IsNonDecreasingBy arc_from quiet.now }
     requires loud { IsNonDecreasingBy arc_from loud.now }
-    ensures { OnOk result (AddsWhere (IsEdgeOut moves.now quiet.now loud.now kept.now number) edges.old.items edges.new.items) }
+    ensures { OnOk result (AddsWhere (IsEdgeOut moves.now quiet.now loud.now kept.now number)
+        edges.old.items edges.new.items) }
 {
     let Some(state) = kept.get(number) else {
         return Ok(());
@@ -245,7 +252,8 @@ fn all_edges(
 ) -> Result<Vec<Edge>, Memory>
     requires quiet { IsNonDecreasingBy arc_from quiet.now }
     requires loud { IsNonDecreasingBy arc_from loud.now }
-    ensures { IfOk result (λ edges. (e : Edge) → IsIn e edges.items ↔ IsEdgeOut moves.now quiet.now loud.now kept.now e.from e) }
+    ensures { IfOk result (λ edges. (e : Edge) →
+        IsIn e edges.items ↔ IsEdgeOut moves.now quiet.now loud.now kept.now e.from e) }
 {
     let mut edges = Vec::new(alloc);
     for number in 0..kept.len() {
@@ -283,7 +291,8 @@ fn add_final(
 /// The numbers of the states that are among these.
 fn final_numbers(alloc: Global, kept: &Numbering, back: &StateSet) -> Result<Finals, Memory>
     ensures ascend { IfOk result (λ finals. Ascends nat_cmp finals) }
-    ensures members { IfOk result (λ finals. (n : ℕ) → IsIn n finals ↔ IsNumberIn kept.now back.now n) }
+    ensures members { IfOk result (λ finals. (n : ℕ) →
+        IsIn n finals ↔ IsNumberIn kept.now back.now n) }
 {
     let mut finals = Finals::new(alloc);
     for number in 0..kept.len() {
@@ -292,10 +301,12 @@ fn final_numbers(alloc: Global, kept: &Numbering, back: &StateSet) -> Result<Fin
     Ok(finals)
 }
 
-/// The transducer of a draft: its label strings are those of the draft. States that only empty moves
-/// enter are left out; each of the others gets the labelled moves that follow empty ones from it.
+/// The transducer of a draft: its label strings are those of the draft. States that only empty
+/// moves enter are left out; each of the others gets the labelled moves that follow empty ones from
+/// it.
 pub fn without_empty(alloc: Global, draft: &Draft) -> Result<Fst, Memory>
-    ensures { IfOk result (λ fst. (labels : List Label) → AcceptsLabels fst labels ↔ Accepts draft.now labels) }
+    ensures { IfOk result (λ fst. (labels : List Label) → AcceptsLabels fst labels
+        ↔ Accepts draft.now labels) }
 {
     let moves = draft.moves.as_slice();
     let quiet = quiet_arcs(alloc, moves)?;

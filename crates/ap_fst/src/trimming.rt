@@ -82,7 +82,8 @@ fn both_lists(alloc: Global, a: &StateSet, b: &StateSet) -> Result<Vec<usize>, M
 /// The states that are in both, ascending.
 fn common_states(alloc: Global, a: &StateSet, b: &StateSet) -> Result<Vec<usize>, Memory>
     ensures ascend { IfOk result (λ both. Ascends nat_cmp both.items) }
-    ensures exactly { IfOk result (λ both. (s : ℕ) → IsIn s both.items ↔ IsIn s a.now × IsIn s b.now) }
+    ensures exactly { IfOk result (λ both. (s : ℕ) → IsIn s both.items ↔ IsIn s a.now
+        × IsIn s b.now) }
 {
     let mut both = both_lists(alloc, a, b)?;
     both.sort_unstable();
@@ -175,7 +176,8 @@ fn kept_finals(alloc: Global, states: &[usize], finals: &[usize]) -> Result<Fina
 /// transducer is given back as it is. The label strings stay the same. Memory is taken by the edges
 /// and final states, not by the number of states.
 pub fn trim(alloc: Global, fst: &Fst) -> Result<Fst, Memory>
-    ensures same { IfOk result (λ made. (labels : List Label) → AcceptsLabels made labels ↔ AcceptsLabels fst.now labels) }
+    ensures same { IfOk result (λ made. (labels : List Label) → AcceptsLabels made labels
+        ↔ AcceptsLabels fst.now labels) }
     ensures trimmed { IfOk result (λ made. IsTrimmed made) }
     ensures exact { IfOk result (λ made. IsTrimOf fst.now made) }
     ensures unchanged { IfOk result (λ made. IsTrimmed fst.now → made ≡ fst.now) }

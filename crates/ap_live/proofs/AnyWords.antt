@@ -1,4 +1,5 @@
--- What is read and what is viable in a coherent lexicon, and right words that stay proper with a case carried to them.
+-- What is read and what is viable in a coherent lexicon, and right words that stay proper with a
+-- case carried to them.
 use Rattle.std.specs.Prelude.{◌≡◌, ◌⊎◌, ℕ, ◌≤◌, Bool, true, false, List, [], ◌∷◌, ◌++◌, map, take, drop, refl}
 use Rattle.std.proofs.Common.{ap, sym, ◌∙◌, subst, inl, inr}
 use Rattle.std.proofs.lemmas.List.{take-append-drop, take-take}
@@ -18,15 +19,19 @@ use Rattle.ap_live.proofs.Coherence.{sections_proper}
 use Rattle.ap_live.proofs.Finding.{found_is_output, output_proper}
 use Rattle.ap_live.proofs.WordOrder.{some_word}
 
-pub some_append : (a b : List (List Symbol)) → has_words (a ++ b) ≡ true → (has_words a ≡ true) ⊎ (has_words b ≡ true)
+pub some_append : (a b : List (List Symbol)) → has_words (a ++ b) ≡ true →
+    (has_words a ≡ true) ⊎ (has_words b ≡ true)
 some_append [] b h = inr h
 some_append (word ∷ a) b h = inl refl
 
-pub read_viable : (lexicon : Lexicon) (kind : Kind2) (symbols : List Symbol) → IsCoherent lexicon → has_words (lexicon.readings kind symbols) ≡ true → lexicon.viable symbols ≡ true
-read_viable lexicon kind symbols coherent h = let s = some_word (lexicon.readings kind symbols) h in coherent.read kind symbols s.0 s.1
+pub read_viable : (lexicon : Lexicon) (kind : Kind2) (symbols : List Symbol) → IsCoherent lexicon →
+    has_words (lexicon.readings kind symbols) ≡ true → lexicon.viable symbols ≡ true
+read_viable lexicon kind symbols coherent h = let s = some_word (lexicon.readings kind symbols) h in
+    coherent.read kind symbols s.0 s.1
 
 -- what is read is viable
-pub any_viable : (lexicon : Lexicon) (symbols : List Symbol) → IsCoherent lexicon → has_words (any_words lexicon symbols) ≡ true → lexicon.viable symbols ≡ true
+pub any_viable : (lexicon : Lexicon) (symbols : List Symbol) → IsCoherent lexicon →
+    has_words (any_words lexicon symbols) ≡ true → lexicon.viable symbols ≡ true
 any_viable lexicon symbols whole h =
     elim (some_append (lexicon.readings Standard symbols) _ h) [
       | inl s ↦ read_viable lexicon Standard symbols whole s
@@ -40,16 +45,24 @@ any_viable lexicon symbols whole h =
     ]
 
 -- so many symbols of a list are viable where more of them are
-pub viable_front : (lexicon : Lexicon) (word : List Symbol) (m n : ℕ) → IsCoherent lexicon → m ≤ n → lexicon.viable (take n word) ≡ true → lexicon.viable (take m word) ≡ true
+pub viable_front : (lexicon : Lexicon) (word : List Symbol) (m n : ℕ) → IsCoherent lexicon → m ≤ n →
+    lexicon.viable (take n word) ≡ true → lexicon.viable (take m word) ≡ true
 viable_front lexicon word m n whole le t =
-    let parts : take m word ++ drop m (take n word) ≡ take n word = ap (λ symbols. symbols ++ drop m (take n word)) (sym (take-take m n word le)) ∙ take-append-drop m (take n word) in
+    let parts : take m word ++ drop m (take n word) ≡ take n word =
+    ap (λ symbols. symbols ++ drop m (take n word)) (sym (take-take m n word le))
+    ∙ take-append-drop m (take n word) in
     whole.shorter (take m word) (drop m (take n word)) (ap lexicon.viable parts ∙ t)
 
 -- what is read is proper
-pub reading_proper : (p : Parts) (sensitive : Bool) (kind : Kind2) (symbols w : List Symbol) → IsCompiled p → IsIn w ((lexicon_of p sensitive).readings kind symbols) → AreProper w
-reading_proper p sensitive kind symbols w compiled i = output_proper (section_of p kind) (inputs_of sensitive symbols) w (sections_proper p compiled kind) (found_is_output (section_of p kind) (inputs_of sensitive symbols) w i)
+pub reading_proper : (p : Parts) (sensitive : Bool) (kind : Kind2) (symbols w : List Symbol) →
+    IsCompiled p → IsIn w ((lexicon_of p sensitive).readings kind symbols) → AreProper w
+reading_proper p sensitive kind symbols w compiled i =
+    output_proper (section_of p kind) (inputs_of sensitive symbols) w
+    (sections_proper p compiled kind)
+    (found_is_output (section_of p kind) (inputs_of sensitive symbols) w i)
 
-pub any_proper : (p : Parts) (sensitive : Bool) (symbols w : List Symbol) → IsCompiled p → IsIn w (any_words (lexicon_of p sensitive) symbols) → AreProper w
+pub any_proper : (p : Parts) (sensitive : Bool) (symbols w : List Symbol) → IsCompiled p →
+    IsIn w (any_words (lexicon_of p sensitive) symbols) → AreProper w
 any_proper p sensitive symbols w compiled i =
     let lexicon : Lexicon = lexicon_of p sensitive in
     let b : List (List Symbol) = lexicon.readings Inconditional symbols in
@@ -59,17 +72,28 @@ any_proper p sensitive symbols w compiled i =
       | inl k ↦ reading_proper p sensitive Standard symbols w compiled k
       | inr k ↦ elim (in_either w b (c ++ d) k) [
         | inl j ↦ reading_proper p sensitive Inconditional symbols w compiled j
-        | inr j ↦ elim (in_either w c d j) [ inl h ↦ reading_proper p sensitive Postblank symbols w compiled h | inr h ↦ reading_proper p sensitive Preblank symbols w compiled h ]
+        | inr j ↦ elim (in_either w c d j) [
+          | inl h ↦
+              reading_proper p sensitive Postblank symbols w compiled h
+          | inr h ↦
+              reading_proper p sensitive Preblank symbols w compiled h
+        ]
       ]
     ]
 
-stays : StaysProper → (sensitive : Bool) (seen word : List Symbol) → AreProper word → AreProper (carried sensitive seen word)
+stays : StaysProper → (sensitive : Bool) (seen word : List Symbol) → AreProper word →
+    AreProper (carried sensitive seen word)
 stays law true seen word h = h
 stays law false seen word h = (law (case_of_lem seen) word h).0
 
 -- proper words stay so with a case carried to them
-pub carried_proper : StaysProper → (sensitive : Bool) (seen : List Symbol) (words made : List (List Symbol)) → made ≡ map (carried sensitive seen) words → ((v : List Symbol) → IsIn v words → AreProper v)
+pub carried_proper : StaysProper →
+    (sensitive : Bool) (seen : List Symbol) (words made : List (List Symbol)) →
+    made ≡ map (carried sensitive seen) words → ((v : List Symbol) → IsIn v words → AreProper v)
     → (w : List Symbol) → IsIn w made → AreProper w
 carried_proper law sensitive seen words made is proper w i =
-    let m : IsImage (carried sensitive seen) w words = in_mapped (carried sensitive seen) w words (subst (λ (z : List (List Symbol)). IsIn w z) is i) in
-    subst (λ (z : List Symbol). AreProper z) (sym m.image) (stays law sensitive seen m.source (proper m.source m.listed))
+    let m : IsImage (carried sensitive seen) w words =
+    in_mapped (carried sensitive seen) w words
+    (subst (λ (z : List (List Symbol)). IsIn w z) is i) in
+    subst (λ (z : List Symbol). AreProper z) (sym m.image)
+    (stays law sensitive seen m.source (proper m.source m.listed))

@@ -19,162 +19,295 @@ get_end : {X : Type 0} (xs : List X) (x : X) → slice_get (xs ++ x ∷ []) (len
 get_end [] x = refl
 get_end (y ∷ xs) x = get_end xs x
 
-taken_get : {X : Type 0} (xs : List X) (n k : ℕ) (x : X) → slice_get xs k ≡ Some x → k < n → slice_get (take n xs) k ≡ Some x
+taken_get : {X : Type 0} (xs : List X) (n k : ℕ) (x : X) → slice_get xs k ≡ Some x → k < n →
+    slice_get (take n xs) k ≡ Some x
 taken_get [] n k x h lt = absurd (none-some x h)
 taken_get (y ∷ xs) zero k x h lt = absurd (omega arith)
 taken_get (y ∷ xs) (suc n) zero x h lt = h
 taken_get (y ∷ xs) (suc n) (suc k) x h lt = taken_get xs n k x h (omega arith)
 
-pub nothing_known : (edges : List Edge) (finals : List ℕ) (rows known : List Row) (links : List Link) (path : List ℕ) → ((at : ℕ) (row : Row) → slice_get rows at ≡ Some row → Tells finals row) → known ≡ [] → links ≡ [] → path ≡ [] → IsKnown edges finals rows known links path
+pub nothing_known : (edges : List Edge) (finals : List ℕ) (rows known : List Row)
+    (links : List Link) (path : List ℕ) →
+    ((at : ℕ) (row : Row) → slice_get rows at ≡ Some row → Tells finals row) → known ≡ [] →
+    links ≡ [] → path ≡ [] → IsKnown edges finals rows known links path
 nothing_known edges finals rows known links path told k l p = record {
   told = told;
-  known_told = λ at row h. absurd (none-some row (ap (λ (z : List Row). slice_get z at) (sym k) ∙ h));
+  known_told = λ at row h.
+      absurd (none-some row (ap (λ (z : List Row). slice_get z at) (sym k) ∙ h));
   leads = λ link i. elim (subst (λ (z : List Link). IsIn link z) l i) [ ];
-  stands = λ at number h. absurd (none-some number (ap (λ (z : List ℕ). slice_get z at) (sym p) ∙ h));
+  stands = λ at number h. absurd (none-some number
+      (ap (λ (z : List ℕ). slice_get z at) (sym p) ∙ h));
 }
 
-pub row_kept : (edges : List Edge) (finals : List ℕ) (rows known known' : List Row) (links : List Link) (path : List ℕ) (row : Row) → known' ≡ known ++ row ∷ [] → Tells finals row → IsKnown edges finals rows known links path → IsKnown edges finals rows known' links path
-row_kept edges finals rows known known' links path row e t is = subst (λ (z : List Row). IsKnown edges finals rows z links path) (sym e) (record {
-  leads = λ link i. let l : Leads edges known link = is.leads link i in
-      record { last = l.last; row = l.row; last_at = place_front known (row ∷ []) link.from l.last l.last_at; row_at = place_front known (row ∷ []) link.to l.row l.row_at; next = l.next };
-  stands = λ at number h. let s : Stands rows known at number = is.stands at number h in record { row = s.row; there = s.there; as_known = place_front known (row ∷ []) number s.row s.as_known };
-  told = is.told;
-  known_told = λ at x h. elim (snoc_get known row x at h) [ inl (a, b) ↦ is.known_told at x b | inr (a, b) ↦ subst (λ (z : Row). Tells finals z) b t ];
-})
+pub row_kept : (edges : List Edge) (finals : List ℕ) (rows known known' : List Row)
+    (links : List Link) (path : List ℕ) (row : Row) → known' ≡ known ++ row ∷ [] →
+    Tells finals row → IsKnown edges finals rows known links path →
+    IsKnown edges finals rows known' links path
+row_kept edges finals rows known known' links path row e t is =
+    subst (λ (z : List Row). IsKnown edges finals rows z links path) (sym e) (record {
+      leads = λ link i. let l : Leads edges known link = is.leads link i in
+          record {
+            last = l.last;
+            row = l.row;
+            last_at =
+                place_front known (row ∷ []) link.from l.last l.last_at;
+            row_at =
+                place_front known (row ∷ []) link.to l.row l.row_at;
+            next = l.next;
+          };
+      stands = λ at number h. let s : Stands rows known at number = is.stands at number h in
+          record {
+            row = s.row;
+            there = s.there;
+            as_known =
+                place_front known (row ∷ []) number s.row s.as_known;
+          };
+      told = is.told;
+      known_told = λ at x h. elim (snoc_get known row x at h) [
+        | inl (a, b) ↦ is.known_told at x b
+        | inr (a, b) ↦ subst (λ (z : Row). Tells finals z) b t
+      ];
+    })
 
-pub link_kept : (edges : List Edge) (finals : List ℕ) (rows known : List Row) (links links' : List Link) (path : List ℕ) (link : Link) → links' ≡ links ++ link ∷ [] → Leads edges known link → IsKnown edges finals rows known links path → IsKnown edges finals rows known links' path
+pub link_kept : (edges : List Edge) (finals : List ℕ) (rows known : List Row)
+    (links links' : List Link) (path : List ℕ) (link : Link) → links' ≡ links ++ link ∷ [] →
+    Leads edges known link → IsKnown edges finals rows known links path →
+    IsKnown edges finals rows known links' path
 link_kept edges finals rows known links links' path link e new is = record {
   leads = λ x i. elim (in_either x links (link ∷ []) (subst (λ (z : List Link). IsIn x z) e i)) [
     | inl h ↦ is.leads x h
-    | inr h ↦ elim h [ inl same ↦ subst (λ (z : Link). Leads edges known z) (sym same) new | inr n ↦ elim n [ ] ]
+    | inr h ↦ elim h [
+      | inl same ↦ subst (λ (z : Link). Leads edges known z) (sym same) new
+      | inr n ↦ elim n [ ]
+    ]
   ];
   stands = is.stands;
   told = is.told;
   known_told = is.known_told;
 }
 
-pub step_kept : (edges : List Edge) (finals : List ℕ) (rows known : List Row) (links : List Link) (path path' : List ℕ) (number : ℕ) → path' ≡ path ++ number ∷ [] → Stands rows known (length path) number → IsKnown edges finals rows known links path → IsKnown edges finals rows known links path'
+pub step_kept : (edges : List Edge) (finals : List ℕ) (rows known : List Row) (links : List Link)
+    (path path' : List ℕ) (number : ℕ) → path' ≡ path ++ number ∷ [] →
+    Stands rows known (length path) number → IsKnown edges finals rows known links path →
+    IsKnown edges finals rows known links path'
 step_kept edges finals rows known links path path' number e new is = record {
   leads = is.leads;
   told = is.told;
   known_told = is.known_told;
-  stands = λ at n h. elim (snoc_get path number n at (ap (λ (z : List ℕ). slice_get z at) (sym e) ∙ h)) [
-    | inl (a, b) ↦ is.stands at n b
-    | inr (a, b) ↦ subst (λ (z : ℕ). Stands rows known z n) (sym a) (subst (λ (z : ℕ). Stands rows known (length path) z) b new)
-  ];
+  stands = λ at n h. elim (snoc_get path number n
+      at (ap (λ (z : List ℕ). slice_get z at) (sym e) ∙ h)) [
+        | inl (a, b) ↦ is.stands at n b
+        | inr (a, b) ↦ subst (λ (z : ℕ). Stands rows known z n) (sym a)
+            (subst (λ (z : ℕ). Stands rows known (length path) z) b new)
+      ];
 }
 
-pub known_grown : (edges : List Edge) (finals : List ℕ) (rows rows' known : List Row) (links : List Link) (path : List ℕ) (row : Row) → rows' ≡ rows ++ row ∷ [] → Tells finals row → IsKnown edges finals rows known links path → IsKnown edges finals rows' known links path
-known_grown edges finals rows rows' known links path row e t is = subst (λ (z : List Row). IsKnown edges finals z known links path) (sym e) (record {
-  leads = is.leads;
-  told = λ at x h. elim (snoc_get rows row x at h) [ inl (a, b) ↦ is.told at x b | inr (a, b) ↦ subst (λ (z : Row). Tells finals z) b t ];
-  known_told = is.known_told;
-  stands = λ at number h. let s : Stands rows known at number = is.stands at number h in record { row = s.row; there = place_front rows (row ∷ []) at s.row s.there; as_known = s.as_known };
-})
+pub known_grown : (edges : List Edge) (finals : List ℕ) (rows rows' known : List Row)
+    (links : List Link) (path : List ℕ) (row : Row) → rows' ≡ rows ++ row ∷ [] → Tells finals row →
+    IsKnown edges finals rows known links path → IsKnown edges finals rows' known links path
+known_grown edges finals rows rows' known links path row e t is =
+    subst (λ (z : List Row). IsKnown edges finals z known links path) (sym e) (record {
+      leads = is.leads;
+      told = λ at x h. elim (snoc_get rows row x at h) [
+        | inl (a, b) ↦ is.told at x b
+        | inr (a, b) ↦
+            subst (λ (z : Row). Tells finals z) b t
+      ];
+      known_told = is.known_told;
+      stands = λ at number h. let s : Stands rows known at number = is.stands at number h in
+          record {
+            row = s.row;
+            there = place_front rows (row ∷ []) at s.row s.there;
+            as_known =
+                s.as_known;
+          };
+    })
 
-pub known_cut : (edges : List Edge) (finals : List ℕ) (rows rows' known : List Row) (links : List Link) (path path' : List ℕ) (n : ℕ) → rows' ≡ take n rows → path' ≡ take n path → IsKnown edges finals rows known links path → IsKnown edges finals rows' known links path'
-known_cut edges finals rows rows' known links path path' n r p is = subst (λ (z : List Row). IsKnown edges finals z known links path') (sym r) (record {
-  leads = is.leads;
-  told = λ at x h. is.told at x (get_taken rows n at x h).0;
-  known_told = is.known_told;
-  stands = λ at number h.
-      let (b, lt) = get_taken path n at number (ap (λ (z : List ℕ). slice_get z at) (sym p) ∙ h) in
-      let s : Stands rows known at number = is.stands at number b in
-      record { row = s.row; there = taken_get rows n at s.row s.there lt; as_known = s.as_known };
-})
+pub known_cut : (edges : List Edge) (finals : List ℕ) (rows rows' known : List Row)
+    (links : List Link) (path path' : List ℕ) (n : ℕ) → rows' ≡ take n rows → path' ≡ take n path →
+    IsKnown edges finals rows known links path → IsKnown edges finals rows' known links path'
+known_cut edges finals rows rows' known links path path' n r p is =
+    subst (λ (z : List Row). IsKnown edges finals z known links path') (sym r) (record {
+      leads = is.leads;
+      told = λ at x h. is.told at x (get_taken rows n at x h).0;
+      known_told = is.known_told;
+      stands = λ at number h.
+          let (b, lt) = get_taken path n at number
+          (ap (λ (z : List ℕ). slice_get z at) (sym p) ∙ h) in
+          let s : Stands rows known at number = is.stands at number b in
+          record {
+            row = s.row;
+            there = taken_get rows n at s.row s.there lt;
+            as_known =
+                s.as_known;
+          };
+    })
 
 same_input : (x y : Symbol) (s t : Bool) → x ≡ y → s ≡ t → input_of x s ≡ input_of y t
 same_input x y s t e f = ap (λ (z : Symbol). input_of z s) e ∙ ap (λ (z : Bool). input_of y z) f
 
-pub follows : (edges : List Edge) (finals : List ℕ) (rows known : List Row) (links : List Link) (path : List ℕ) (symbol : Symbol) (sensitive : Bool) (count from to : ℕ) → length path ≡ count → count ≡ length rows → slice_get path (length path - 1) ≡ Some from
-    → IsKnown edges finals rows known links path → IsLinked links from (input_of symbol sensitive) to → Follows edges rows known path (input_of symbol sensitive) to
+pub follows : (edges : List Edge) (finals : List ℕ) (rows known : List Row) (links : List Link)
+    (path : List ℕ) (symbol : Symbol) (sensitive : Bool) (count from to : ℕ) → length path ≡ count →
+    count ≡ length rows → slice_get path (length path - 1) ≡ Some from
+    → IsKnown edges finals rows known links path →
+    IsLinked links from (input_of symbol sensitive) to →
+    Follows edges rows known path (input_of symbol sensitive) to
 follows edges finals rows known links path symbol sensitive count from to n m at is l =
     let le : Leads edges known l.link = is.leads l.link l.listed in
     let s : Stands rows known (length path - 1) from = is.stands (length path - 1) from at in
-    let same : le.last ≡ s.row = same_Some le.last s.row (sym le.last_at ∙ ap (λ (z : ℕ). slice_get known z) l.from_is ∙ s.as_known) in
-    let input : input_of l.link.symbol l.link.sensitive ≡ input_of symbol sensitive = same_input l.link.symbol symbol l.link.sensitive sensitive l.symbol_is l.sensitive_is in
+    let same : le.last ≡ s.row =
+    same_Some le.last s.row (sym le.last_at ∙ ap (λ (z : ℕ). slice_get known z) l.from_is
+    ∙ s.as_known) in
+    let input : input_of l.link.symbol l.link.sensitive ≡ input_of symbol sensitive =
+    same_input l.link.symbol symbol l.link.sensitive sensitive l.symbol_is l.sensitive_is in
     record {
       last = s.row;
       row = le.row;
       count = n ∙ m;
       last_at = ap (λ (z : ℕ). slice_get rows (z - 1)) (sym (n ∙ m)) ∙ s.there;
       row_at = ap (λ (z : ℕ). slice_get known z) (sym l.to_is) ∙ le.row_at;
-      next = subst (λ (z : Row). IsNext edges (Some (input_of symbol sensitive)) z.states.items le.row) same (subst (λ (z : Input). IsNext edges (Some z) le.last.states.items le.row) input le.next);
+      next = subst (λ (z : Row). IsNext edges (Some (input_of symbol sensitive)) z.states.items
+          le.row) same (subst (λ (z : Input). IsNext edges (Some z) le.last.states.items le.row)
+          input le.next);
     }
 
-last_is : (edges : List Edge) (finals : List ℕ) (seen : List Input) (rows : List Row) (last : Row) → AreRows edges seen rows → slice_get rows (length rows - 1) ≡ Some last → IsRow edges seen last
-last_is edges finals seen rows last live at = let c : length rows ≡ length seen + 1 = live.count in last_row edges seen rows last (length rows - 1) live (omega arith) at
+last_is : (edges : List Edge) (finals : List ℕ) (seen : List Input) (rows : List Row) (last : Row) →
+    AreRows edges seen rows → slice_get rows (length rows - 1) ≡ Some last → IsRow edges seen last
+last_is edges finals seen rows last live at = let c : length rows ≡ length seen + 1 = live.count in
+    last_row edges seen rows last (length rows - 1) live (omega arith) at
 
 -- a known row more, whether there is memory for its number or not
-pub known_taken : (edges : List Edge) (finals : List ℕ) (seen : List Input) (input : Input) (rows rows' known : List Row) (links : List Link) (path path' : List ℕ) (row : Row) (to : ℕ) (room : Bool) → Some row ≡ slice_get known to → rows' ≡ rows ++ row ∷ []
-    → path' ≡ (if room then path ++ to ∷ [] else path) → AreRows edges seen rows → IsKnown edges finals rows known links path → Follows edges rows known path input to
+pub known_taken : (edges : List Edge) (finals : List ℕ) (seen : List Input) (input : Input)
+    (rows rows' known : List Row) (links : List Link) (path path' : List ℕ) (row : Row) (to : ℕ)
+    (room : Bool) → Some row ≡ slice_get known to → rows' ≡ rows ++ row ∷ []
+    → path' ≡ (if room then path ++ to ∷ [] else path) → AreRows edges seen rows →
+    IsKnown edges finals rows known links path → Follows edges rows known path input to
     → AreRows edges (seen ++ input ∷ []) rows' × IsKnown edges finals rows' known links path'
-known_taken edges finals seen input rows rows' known links path path' row to false at e p live is f =
+known_taken edges finals seen input rows rows' known links path path' row to false at e
+    p live is f =
     let same : f.row ≡ row = same_Some f.row row (sym f.row_at ∙ sym at) in
-    let next : IsNext edges (Some input) f.last.states.items row = subst (λ (z : Row). IsNext edges (Some input) f.last.states.items z) same f.next in (
-      live_pushed edges seen input rows rows' f.last row live (last_is edges finals seen rows f.last live f.last_at) e next,
-      subst (λ (z : List ℕ). IsKnown edges finals rows' known links z) (sym p) (known_grown edges finals rows rows' known links path row e (is.known_told to row (sym at)) is),
+    let next : IsNext edges (Some input) f.last.states.items row =
+    subst (λ (z : Row). IsNext edges (Some input) f.last.states.items z) same f.next in (
+      live_pushed edges seen input rows rows' f.last row live
+          (last_is edges finals seen rows f.last live f.last_at) e next,
+      subst (λ (z : List ℕ). IsKnown edges finals rows' known links z) (sym p)
+          (known_grown edges finals rows rows' known links path row e
+          (is.known_told to row (sym at)) is),
     )
 known_taken edges finals seen input rows rows' known links path path' row to true at e p live is f =
     let same : f.row ≡ row = same_Some f.row row (sym f.row_at ∙ sym at) in
-    let next : IsNext edges (Some input) f.last.states.items row = subst (λ (z : Row). IsNext edges (Some input) f.last.states.items z) same f.next in
-    let there : slice_get rows' (length path) ≡ Some row = ap (λ (z : List Row). slice_get z (length path)) e ∙ ap (λ (z : ℕ). slice_get (rows ++ row ∷ []) z) f.count ∙ get_end rows row in (
-      live_pushed edges seen input rows rows' f.last row live (last_is edges finals seen rows f.last live f.last_at) e next,
-      step_kept edges finals rows' known links path path' to p (record { row = row; there = there; as_known = sym at }) (known_grown edges finals rows rows' known links path row e (is.known_told to row (sym at)) is),
+    let next : IsNext edges (Some input) f.last.states.items row =
+    subst (λ (z : Row). IsNext edges (Some input) f.last.states.items z) same f.next in
+    let there : slice_get rows' (length path) ≡ Some row =
+    ap (λ (z : List Row). slice_get z (length path)) e
+    ∙ ap (λ (z : ℕ). slice_get (rows ++ row ∷ []) z) f.count ∙ get_end rows row in (
+      live_pushed edges seen input rows rows' f.last row live
+          (last_is edges finals seen rows f.last live f.last_at) e next,
+      step_kept edges finals rows' known links path path' to p
+          (record { row = row; there = there; as_known = sym at })
+          (known_grown edges finals rows rows' known links path row e
+          (is.known_told to row (sym at)) is),
     )
 
 -- an empty list, as the code tests it
-empty_by : {X : Type 0} (xs ys : List X) (empty : Bool) → empty ≡ true → empty ≡ nat_eq (length ys) 0 → ys ≡ xs → length xs ≡ 0
-empty_by {X} xs ys empty t e s = let z : length ys ≡ 0 = grind (arith, nat_tests, sym e ∙ t) in ap (length {A = X}) (sym s) ∙ z
+empty_by : {X : Type 0} (xs ys : List X) (empty : Bool) → empty ≡ true →
+    empty ≡ nat_eq (length ys) 0 → ys ≡ xs → length xs ≡ 0
+empty_by {X} xs ys empty t e s = let z : length ys ≡ 0 = grind (arith, nat_tests, sym e ∙ t) in
+    ap (length {A = X}) (sym s) ∙ z
 
-pub planted : (edges : List Edge) (finals : List ℕ) (rows known known' : List Row) (links : List Link) (path path' : List ℕ) (known-slice : List Row) (path-slice : List ℕ) (row first : Row) (a b : Bool) → a ≡ true → a ≡ nat_eq (length known-slice) 0 → known-slice ≡ known
-    → b ≡ true → b ≡ nat_eq (length path-slice) 0 → path-slice ≡ path → row ≡ first → Some first ≡ slice_get rows 0 → known' ≡ known ++ row ∷ [] → path' ≡ path ++ 0 ∷ [] → IsKnown edges finals rows known links path → IsKnown edges finals rows known' links path'
-planted edges finals rows known known' links path path' known-slice path-slice row first a b na ae ka nb be pb same at e p is =
+pub planted : (edges : List Edge) (finals : List ℕ) (rows known known' : List Row)
+    (links : List Link) (path path' : List ℕ) (known-slice : List Row) (path-slice : List ℕ)
+    (row first : Row) (a b : Bool) → a ≡ true → a ≡ nat_eq (length known-slice) 0 →
+    known-slice ≡ known
+    → b ≡ true → b ≡ nat_eq (length path-slice) 0 → path-slice ≡ path → row ≡ first →
+    Some first ≡ slice_get rows 0 → known' ≡ known ++ row ∷ [] → path' ≡ path ++ 0 ∷ [] →
+    IsKnown edges finals rows known links path → IsKnown edges finals rows known' links path'
+planted edges finals rows known known' links path path' known-slice path-slice row first a b na ae
+    ka nb be pb same at e p is =
     let k : length known ≡ 0 = empty_by known known-slice a na ae ka in
     let n : length path ≡ 0 = empty_by path path-slice b nb be pb in
     step_kept edges finals rows known' links path path' 0 p (record {
       row = row;
       there = ap (λ (z : ℕ). slice_get rows z) n ∙ (sym at ∙ ap (λ (z : Row). Some z) (sym same));
-      as_known = ap (λ (z : List Row). slice_get z 0) e ∙ (ap (λ (z : ℕ). slice_get (known ++ row ∷ []) z) (sym k) ∙ get_end known row);
-    }) (row_kept edges finals rows known known' links path row e (subst (λ (z : Row). Tells finals z) (sym same) (is.told 0 first (sym at))) is)
+      as_known = ap (λ (z : List Row). slice_get z 0) e
+          ∙ (ap (λ (z : ℕ). slice_get (known ++ row ∷ []) z) (sym k) ∙ get_end known row);
+    }) (row_kept edges finals rows known known' links path row e
+    (subst (λ (z : Row). Tells finals z) (sym same) (is.told 0 first (sym at))) is)
 
-pub linked_kept : (edges : List Edge) (finals : List ℕ) (rows known known' : List Row) (links links' : List Link) (path : List ℕ) (last row : Row) (link : Link) (symbol : Symbol) (from : ℕ) → known' ≡ known ++ row ∷ [] → links' ≡ links ++ link ∷ []
-    → slice_get known from ≡ Some last → link.from ≡ from → link.to ≡ length known → Tells finals row → link.symbol ≡ symbol → IsNext edges (Some (input_of symbol link.sensitive)) last.states.items row → IsKnown edges finals rows known links path → IsKnown edges finals rows known' links' path
-linked_kept edges finals rows known known' links links' path last row link symbol from e f at fr t tells sy next is =
-    link_kept edges finals rows known' links links' path link f (subst (λ (z : List Row). Leads edges z link) (sym e) (record {
+pub linked_kept : (edges : List Edge) (finals : List ℕ) (rows known known' : List Row)
+    (links links' : List Link) (path : List ℕ) (last row : Row) (link : Link) (symbol : Symbol)
+    (from : ℕ) → known' ≡ known ++ row ∷ [] → links' ≡ links ++ link ∷ []
+    → slice_get known from ≡ Some last → link.from ≡ from → link.to ≡ length known →
+    Tells finals row → link.symbol ≡ symbol →
+    IsNext edges (Some (input_of symbol link.sensitive)) last.states.items row →
+    IsKnown edges finals rows known links path → IsKnown edges finals rows known' links' path
+linked_kept edges finals rows known known' links links' path last row link symbol from e f at fr t
+    tells sy next is =
+    link_kept edges finals rows known' links links' path link f
+    (subst (λ (z : List Row). Leads edges z link) (sym e) (record {
       last = last;
       row = row;
-      last_at = ap (λ (z : ℕ). slice_get (known ++ row ∷ []) z) fr ∙ place_front known (row ∷ []) from last at;
+      last_at = ap (λ (z : ℕ). slice_get (known ++ row ∷ []) z) fr
+          ∙ place_front known (row ∷ []) from last at;
       row_at = ap (λ (z : ℕ). slice_get (known ++ row ∷ []) z) t ∙ get_end known row;
-      next = subst (λ (z : Symbol). IsNext edges (Some (input_of z link.sensitive)) last.states.items row) (sym sy) next;
+      next = subst (λ (z : Symbol). IsNext edges (Some (input_of z link.sensitive))
+          last.states.items row) (sym sy) next;
     })) (row_kept edges finals rows known known' links path row e tells is)
 
-pub new_stands : (rows known known' : List Row) (path : List ℕ) (row : Row) (to : ℕ) → known' ≡ known ++ row ∷ [] → to ≡ length known → slice_get rows (length path) ≡ Some row → Stands rows known' (length path) to
-new_stands rows known known' path row to e t at = record { row = row; there = at; as_known = ap (λ (z : List Row). slice_get z to) e ∙ (ap (λ (z : ℕ). slice_get (known ++ row ∷ []) z) t ∙ get_end known row) }
+pub new_stands : (rows known known' : List Row) (path : List ℕ) (row : Row) (to : ℕ) →
+    known' ≡ known ++ row ∷ [] → to ≡ length known → slice_get rows (length path) ≡ Some row →
+    Stands rows known' (length path) to
+new_stands rows known known' path row to e t at =
+    record {
+      row = row;
+      there = at;
+      as_known = ap (λ (z : List Row). slice_get z to) e
+          ∙ (ap (λ (z : ℕ). slice_get (known ++ row ∷ []) z) t ∙ get_end known row);
+    }
 
 -- the known row before the last row, by its number
-pub last_known : (edges : List Edge) (finals : List ℕ) (rows before known : List Row) (links : List Link) (path : List ℕ) (last row : Row) (from : ℕ) → rows ≡ before ++ row ∷ [] → slice_get before (length before - 1) ≡ Some last → length path ≡ length rows - 1
-    → Some from ≡ slice_get path (length path - 1) → IsKnown edges finals rows known links path → slice_get known from ≡ Some last
+pub last_known : (edges : List Edge) (finals : List ℕ) (rows before known : List Row)
+    (links : List Link) (path : List ℕ) (last row : Row) (from : ℕ) → rows ≡ before ++ row ∷ [] →
+    slice_get before (length before - 1) ≡ Some last → length path ≡ length rows - 1
+    → Some from ≡ slice_get path (length path - 1) → IsKnown edges finals rows known links path →
+    slice_get known from ≡ Some last
 last_known edges finals rows before known links path last row from e at n p is =
     let s : Stands rows known (length path - 1) from = is.stands (length path - 1) from (sym p) in
-    let count : length rows ≡ length before + 1 = ap (length {A = Row}) e ∙ length-append before (row ∷ []) in
+    let count : length rows ≡ length before + 1 =
+    ap (length {A = Row}) e ∙ length-append before (row ∷ []) in
     let same : length path ≡ length before = omega arith in
-    let there : slice_get rows (length path - 1) ≡ Some last = ap (λ (z : List Row). slice_get z (length path - 1)) e ∙ ap (λ (z : ℕ). slice_get (before ++ row ∷ []) (z - 1)) same ∙ place_front before (row ∷ []) (length before - 1) last at in
+    let there : slice_get rows (length path - 1) ≡ Some last =
+    ap (λ (z : List Row). slice_get z (length path - 1)) e
+    ∙ ap (λ (z : ℕ). slice_get (before ++ row ∷ []) (z - 1)) same
+    ∙ place_front before (row ∷ []) (length before - 1) last at in
     s.as_known ∙ sym s.there ∙ there
 
-pub end_there : (rows before : List Row) (path : List ℕ) (row row' : Row) → rows ≡ before ++ row ∷ [] → length path ≡ length rows - 1 → Some row' ≡ slice_get rows (length rows - 1) → (row' ≡ row) × (slice_get rows (length path) ≡ Some row')
+pub end_there : (rows before : List Row) (path : List ℕ) (row row' : Row) →
+    rows ≡ before ++ row ∷ [] → length path ≡ length rows - 1 →
+    Some row' ≡ slice_get rows (length rows - 1) →
+    (row' ≡ row) × (slice_get rows (length path) ≡ Some row')
 end_there rows before path row row' e n at =
-    let count : length rows ≡ length before + 1 = ap (length {A = Row}) e ∙ length-append before (row ∷ []) in
+    let count : length rows ≡ length before + 1 =
+    ap (length {A = Row}) e ∙ length-append before (row ∷ []) in
     let last : length rows - 1 ≡ length before = omega arith in
-    let is : slice_get rows (length rows - 1) ≡ Some row = ap (λ (z : ℕ). slice_get rows z) last ∙ ap (λ (z : List Row). slice_get z (length before)) e ∙ get_end before row in
+    let is : slice_get rows (length rows - 1) ≡ Some row = ap (λ (z : ℕ). slice_get rows z) last
+    ∙ ap (λ (z : List Row). slice_get z (length before)) e ∙ get_end before row in
     (same_Some row' row (at ∙ is), ap (λ (z : ℕ). slice_get rows z) n ∙ sym at)
 
-pub rows_and_known_cut : (edges : List Edge) (finals : List ℕ) (seen : List Input) (rows rows' known : List Row) (links : List Link) (path path' : List ℕ) (n : ℕ) → n < length rows → rows' ≡ take (n + 1) rows → path' ≡ take (n + 1) path → AreRows edges seen rows → IsKnown edges finals rows known links path
+pub rows_and_known_cut : (edges : List Edge) (finals : List ℕ) (seen : List Input)
+    (rows rows' known : List Row) (links : List Link) (path path' : List ℕ) (n : ℕ) →
+    n < length rows → rows' ≡ take (n + 1) rows → path' ≡ take (n + 1) path →
+    AreRows edges seen rows → IsKnown edges finals rows known links path
     → AreRows edges (take n seen) rows' × IsKnown edges finals rows' known links path'
-rows_and_known_cut edges finals seen rows rows' known links path path' n lt r p live is = (rows_cut edges seen rows rows' n lt r live, known_cut edges finals rows rows' known links path path' (n + 1) r p is)
+rows_and_known_cut edges finals seen rows rows' known links path path' n lt r p live is = (
+  rows_cut edges seen rows rows' n lt r live,
+  known_cut edges finals rows rows' known links path path' (n + 1) r p is,
+)
 
-pub found_link : (links : List Link) (at : ℕ) (link : Link) (from to : ℕ) (symbol : Symbol) (sensitive : Bool) → 0 < at → at ≤ length links → link ≡ get_or links (at - 1) link
-    → (link.from ≡ from) × (link.sensitive ≡ sensitive) × (link.symbol ≡ symbol) → Some link.to ≡ Some to → IsLinked links from (input_of symbol sensitive) to
+pub found_link : (links : List Link) (at : ℕ) (link : Link) (from to : ℕ) (symbol : Symbol)
+    (sensitive : Bool) → 0 < at → at ≤ length links → link ≡ get_or links (at - 1) link
+    → (link.from ≡ from) × (link.sensitive ≡ sensitive) × (link.symbol ≡ symbol) →
+    Some link.to ≡ Some to → IsLinked links from (input_of symbol sensitive) to
 found_link links at link from to symbol sensitive pos le is h t = record {
   link = link;
   listed = subst (λ (z : Link). IsIn z links) (sym is) (in_at links (at - 1) link (omega arith));
@@ -184,8 +317,11 @@ found_link links at link from to symbol sensitive pos le is h t = record {
   sensitive_is = h.1;
 }
 
-pub first_told : (finals : List ℕ) (rows before : List Row) (row : Row) → before ≡ [] → rows ≡ before ++ row ∷ [] → Tells finals row → (at : ℕ) (x : Row) → slice_get rows at ≡ Some x → Tells finals x
-first_told finals rows before row n e t at x h = elim (snoc_get before row x at (ap (λ (z : List Row). slice_get z at) (sym e) ∙ h)) [
-  | inl (a, b) ↦ absurd (none-some x (ap (λ (z : List Row). slice_get z at) (sym n) ∙ b))
-  | inr (a, b) ↦ subst (λ (z : Row). Tells finals z) b t
-]
+pub first_told : (finals : List ℕ) (rows before : List Row) (row : Row) → before ≡ [] →
+    rows ≡ before ++ row ∷ [] → Tells finals row → (at : ℕ) (x : Row) → slice_get rows at ≡ Some x →
+    Tells finals x
+first_told finals rows before row n e t at x h =
+    elim (snoc_get before row x at (ap (λ (z : List Row). slice_get z at) (sym e) ∙ h)) [
+      | inl (a, b) ↦ absurd (none-some x (ap (λ (z : List Row). slice_get z at) (sym n) ∙ b))
+      | inr (a, b) ↦ subst (λ (z : Row). Tells finals z) b t
+    ]

@@ -34,165 +34,299 @@ record IsTrace (edges : List Edge) (seen : List Input) (s : ℕ) : Type 0 where
   walk : Walk edges 0 labels s
   fit : fits_inputs (left_word labels) seen ≡ true
 
-fits_more : (xs : List Symbol) (x : Symbol) (seen : List Input) (i : Input) → fits_inputs xs seen ≡ true → fits_lem i.sensitive x i.symbol ≡ true → fits_inputs (xs ++ x ∷ []) (seen ++ i ∷ []) ≡ true
+fits_more : (xs : List Symbol) (x : Symbol) (seen : List Input) (i : Input) →
+    fits_inputs xs seen ≡ true → fits_lem i.sensitive x i.symbol ≡ true →
+    fits_inputs (xs ++ x ∷ []) (seen ++ i ∷ []) ≡ true
 fits_more [] x [] i h k = both_true (fits_lem i.sensitive x i.symbol) true k refl
 fits_more [] x (j ∷ seen) i h k = cc
 fits_more (y ∷ xs) x [] i h k = cc
 fits_more (y ∷ xs) x (j ∷ seen) i h k =
     let p = and_parts (fits_lem j.sensitive y j.symbol) (fits_inputs xs seen) h in
-    both_true (fits_lem j.sensitive y j.symbol) (fits_inputs (xs ++ x ∷ []) (seen ++ i ∷ [])) p.0 (fits_more xs x seen i p.1 k)
+    both_true (fits_lem j.sensitive y j.symbol) (fits_inputs (xs ++ x ∷ []) (seen ++ i ∷ [])) p.0
+    (fits_more xs x seen i p.1 k)
 
-silent_word : (labels : List Label) (l : Label) (left : Option Symbol) → l.left ≡ left → is_empty_side left ≡ true → left_word (labels ++ l ∷ []) ≡ left_word labels
+silent_word : (labels : List Label) (l : Label) (left : Option Symbol) → l.left ≡ left →
+    is_empty_side left ≡ true → left_word (labels ++ l ∷ []) ≡ left_word labels
 silent_word labels l (Some x) e h = cc
-silent_word labels l None e h = left_word_then labels (l ∷ []) ∙ ap (λ (o : Option Symbol). left_word labels ++ (option_to_list o ++ [])) e ∙ append-nil (left_word labels)
+silent_word labels l None e h = left_word_then labels (l ∷ [])
+    ∙ ap (λ (o : Option Symbol). left_word labels ++ (option_to_list o ++ [])) e
+    ∙ append-nil (left_word labels)
 
-taken_fit : (labels : List Label) (l : Label) (left : Option Symbol) (seen : List Input) (i : Input) → l.left ≡ left → fits_side i left ≡ true → fits_inputs (left_word labels) seen ≡ true → fits_inputs (left_word (labels ++ l ∷ [])) (seen ++ i ∷ []) ≡ true
+taken_fit : (labels : List Label) (l : Label) (left : Option Symbol) (seen : List Input) (i : Input)
+    → l.left ≡ left → fits_side i left ≡ true → fits_inputs (left_word labels) seen ≡ true →
+    fits_inputs (left_word (labels ++ l ∷ [])) (seen ++ i ∷ []) ≡ true
 taken_fit labels l None seen i e h k = cc
 taken_fit labels l (Some x) seen i e h k =
-    let w : left_word (labels ++ l ∷ []) ≡ left_word labels ++ x ∷ [] = left_word_then labels (l ∷ []) ∙ ap (λ (o : Option Symbol). left_word labels ++ (option_to_list o ++ [])) e in
-    ap (λ (z : List Symbol). fits_inputs z (seen ++ i ∷ [])) w ∙ fits_more (left_word labels) x seen i k h
+    let w : left_word (labels ++ l ∷ []) ≡ left_word labels ++ x ∷ [] =
+    left_word_then labels (l ∷ [])
+    ∙ ap (λ (o : Option Symbol). left_word labels ++ (option_to_list o ++ [])) e in
+    ap (λ (z : List Symbol). fits_inputs z (seen ++ i ∷ [])) w
+    ∙ fits_more (left_word labels) x seen i k h
 
-step_on : (edges : List Edge) (f s j : ℕ) (labels : List Label) (e : Edge) → slice_get edges j ≡ Some e → f ≡ e.from → s ≡ e.to → Walk edges 0 labels f → Walk edges 0 (labels ++ e.label ∷ []) s
-step_on edges f s j labels e at from to walk = walk_then edges 0 f s labels (e.label ∷ []) walk (goes j e at from refl (ends (sym to)))
+step_on : (edges : List Edge) (f s j : ℕ) (labels : List Label) (e : Edge) →
+    slice_get edges j ≡ Some e → f ≡ e.from → s ≡ e.to → Walk edges 0 labels f →
+    Walk edges 0 (labels ++ e.label ∷ []) s
+step_on edges f s j labels e at from to walk =
+    walk_then edges 0 f s labels (e.label ∷ []) walk (goes j e at from refl (ends (sym to)))
 
 trace : (edges : List Edge) (seen : List Input) (s : ℕ) → Reach edges seen s → IsTrace edges seen s
-trace edges seen s (begin e z) = record { labels = []; walk = ends (sym z); fit = ap (fits_inputs []) e }
+trace edges seen s (begin e z) =
+    record { labels = []; walk = ends (sym z); fit = ap (fits_inputs []) e }
 trace edges seen s (silent f j p more) =
     let t : IsTrace edges seen f = trace edges seen f more in
     record {
       labels = t.labels ++ p.edge.label ∷ [];
       walk = step_on edges f s j t.labels p.edge p.at p.from_is p.to_is t.walk;
-      fit = ap (λ (z : List Symbol). fits_inputs z seen) (silent_word t.labels p.edge.label p.edge.label.left refl p.passes) ∙ t.fit;
+      fit = ap (λ (z : List Symbol). fits_inputs z seen)
+          (silent_word t.labels p.edge.label p.edge.label.left refl p.passes) ∙ t.fit;
     }
 trace edges seen s (taken before input f j p e more) =
     let t : IsTrace edges before f = trace edges before f more in
     record {
       labels = t.labels ++ p.edge.label ∷ [];
       walk = step_on edges f s j t.labels p.edge p.at p.from_is p.to_is t.walk;
-      fit = ap (fits_inputs (left_word (t.labels ++ p.edge.label ∷ []))) e ∙ taken_fit t.labels p.edge.label p.edge.label.left before input refl p.passes t.fit;
+      fit = ap (fits_inputs (left_word (t.labels ++ p.edge.label ∷ []))) e
+          ∙ taken_fit t.labels p.edge.label p.edge.label.left before input refl p.passes t.fit;
     }
 
-fits_take : (xs ys : List Symbol) (seen : List Input) → fits_inputs xs seen ≡ true → fits_inputs (take (length seen) (xs ++ ys)) seen ≡ true
+fits_take : (xs ys : List Symbol) (seen : List Input) → fits_inputs xs seen ≡ true →
+    fits_inputs (take (length seen) (xs ++ ys)) seen ≡ true
 fits_take [] [] [] h = refl
 fits_take [] (y ∷ ys) [] h = refl
 fits_take [] ys (i ∷ seen) h = cc
 fits_take (x ∷ xs) ys [] h = cc
 fits_take (x ∷ xs) ys (i ∷ seen) h =
     let p = and_parts (fits_lem i.sensitive x i.symbol) (fits_inputs xs seen) h in
-    both_true (fits_lem i.sensitive x i.symbol) (fits_inputs (take (length seen) (xs ++ ys)) seen) p.0 (fits_take xs ys seen p.1)
+    both_true (fits_lem i.sensitive x i.symbol) (fits_inputs (take (length seen) (xs ++ ys)) seen)
+    p.0 (fits_take xs ys seen p.1)
 
-start_finishing : (m : Machine) (finals : List ℕ) → IsMachine m → IsTrimmed m → m.finals ≡ finals → (m.finals ≡ [] → ⊥) → IsFinishing m 0
+start_finishing : (m : Machine) (finals : List ℕ) → IsMachine m → IsTrimmed m → m.finals ≡ finals →
+    (m.finals ≡ [] → ⊥) → IsFinishing m 0
 start_finishing m [] ok trimmed e some = absurd (some e)
 start_finishing m (x ∷ xs) ok trimmed e some =
     let i : IsIn x m.finals = subst (λ (z : List ℕ). IsIn x z) (sym e) (inl refl) in
     elim (cases_lt 0 x) [
-      | inl pos ↦ let r : IsReached m x = trimmed.reached x pos (ok.finals_in x i) in record { labels = r.labels; last = x; final = i; walk = r.walk }
-      | inr low ↦ record { labels = []; last = x; final = i; walk = ends (let z : 0 ≡ x = omega arith in z) }
+      | inl pos ↦ let r : IsReached m x = trimmed.reached x pos (ok.finals_in x i) in
+          record { labels = r.labels; last = x; final = i; walk = r.walk }
+      | inr low ↦ record {
+        labels = [];
+        last = x;
+        final = i;
+        walk =
+            ends (let z : 0 ≡ x = omega arith in z);
+      }
     ]
 
-finishing_at : (m : Machine) (s : ℕ) → IsMachine m → IsTrimmed m → (m.finals ≡ [] → ⊥) → s < m.states → IsFinishing m s
+finishing_at : (m : Machine) (s : ℕ) → IsMachine m → IsTrimmed m → (m.finals ≡ [] → ⊥) →
+    s < m.states → IsFinishing m s
 finishing_at m s ok trimmed some lt =
     elim (cases_lt 0 s) [
       | inl pos ↦ trimmed.finishing s pos lt
-      | inr low ↦ subst (λ (z : ℕ). IsFinishing m z) (let z : 0 ≡ s = omega arith in z) (start_finishing m m.finals ok trimmed refl some)
+      | inr low ↦ subst (λ (z : ℕ). IsFinishing m z) (let z : 0 ≡ s = omega arith in z)
+          (start_finishing m m.finals ok trimmed refl some)
     ]
 
-reach_below : (m : Machine) (seen : List Input) (s : ℕ) → IsMachine m → Reach m.edges seen s → s < m.states
+reach_below : (m : Machine) (seen : List Input) (s : ℕ) → IsMachine m →
+    Reach m.edges seen s → s < m.states
 reach_below m seen s ok (begin e z) = let h : 0 < m.states = ok.some in omega arith
-reach_below m seen s ok (silent f j p more) = let h : p.edge.to < m.states = to_in m ok j p.edge p.at in let q : s ≡ p.edge.to = p.to_is in omega arith
-reach_below m seen s ok (taken before input f j p e more) = let h : p.edge.to < m.states = to_in m ok j p.edge p.at in let q : s ≡ p.edge.to = p.to_is in omega arith
+reach_below m seen s ok (silent f j p more) = let h : p.edge.to < m.states =
+    to_in m ok j p.edge p.at in let q : s ≡ p.edge.to = p.to_is in omega arith
+reach_below m seen s ok (taken before input f j p e more) = let h : p.edge.to < m.states =
+    to_in m ok j p.edge p.at in let q : s ≡ p.edge.to = p.to_is in omega arith
 
-pub beginning : (m : Machine) (seen : List Input) (s : ℕ) → IsMachine m → IsTrimmed m → (m.finals ≡ [] → ⊥) → Reach m.edges seen s → FitBeginning m seen
+pub beginning : (m : Machine) (seen : List Input) (s : ℕ) → IsMachine m → IsTrimmed m →
+    (m.finals ≡ [] → ⊥) → Reach m.edges seen s → FitBeginning m seen
 beginning m seen s ok trimmed some reach =
     let t : IsTrace m.edges seen s = trace m.edges seen s reach in
     let f : IsFinishing m s = finishing_at m s ok trimmed some (reach_below m seen s ok reach) in
     record {
       labels = t.labels ++ f.labels;
-      accepted = record { last = f.last; final = f.final; walk = walk_then m.edges 0 s f.last t.labels f.labels t.walk f.walk };
-      fit = ap (λ (z : List Symbol). fits_inputs (take (length seen) z) seen) (left_word_then t.labels f.labels) ∙ fits_take (left_word t.labels) (left_word f.labels) seen t.fit;
+      accepted = record {
+        last = f.last;
+        final = f.final;
+        walk =
+            walk_then m.edges 0 s f.last t.labels f.labels t.walk f.walk;
+      };
+      fit = ap (λ (z : List Symbol). fits_inputs (take (length seen) z) seen)
+          (left_word_then t.labels f.labels)
+          ∙ fits_take (left_word t.labels) (left_word f.labels) seen t.fit;
     }
 
 -- ---- and back from accepted labels
 
-reach_step : (edges : List Edge) (before later : List Input) (s j : ℕ) (e : Edge) (labels : List Label) (left : Option Symbol) → slice_get edges j ≡ Some e → s ≡ e.from → e.label.left ≡ left → Reach edges before s
+reach_step : (edges : List Edge) (before later : List Input) (s j : ℕ) (e : Edge)
+    (labels : List Label) (left : Option Symbol) → slice_get edges j ≡ Some e → s ≡ e.from →
+    e.label.left ≡ left → Reach edges before s
     → fits_inputs (take (length later) (option_to_list left ++ left_word labels)) later ≡ true
-    → ((b l : List Input) → Reach edges b e.to → fits_inputs (take (length l) (left_word labels)) l ≡ true → (t : ℕ) × Reach edges (b ++ l) t) → (t : ℕ) × Reach edges (before ++ later) t
+    → ((b l : List Input) → Reach edges b e.to → fits_inputs (take (length l) (left_word labels)) l
+    ≡ true → (t : ℕ) × Reach edges (b ++ l) t) → (t : ℕ) × Reach edges (before ++ later) t
 reach_step edges before later s j e labels None at from is reach fit go =
-    let p : Picked edges None s e.to j = record { edge = e; at = at; from_is = from; to_is = refl; passes = ap is_empty_side is } in
+    let p : Picked edges None s e.to j =
+    record { edge = e; at = at; from_is = from; to_is = refl; passes = ap is_empty_side is } in
     go before later (silent s j p reach) fit
-reach_step edges before [] s j e labels (Some x) at from is reach fit go = (s, subst (λ (z : List Input). Reach edges z s) (sym (append-nil before)) reach)
+reach_step edges before [] s j e labels (Some x) at from is reach fit go =
+    (s, subst (λ (z : List Input). Reach edges z s) (sym (append-nil before)) reach)
 reach_step edges before (i ∷ more) s j e labels (Some x) at from is reach fit go =
-    let both = and_parts (fits_lem i.sensitive x i.symbol) (fits_inputs (take (length more) (left_word labels)) more) fit in
-    let p : Picked edges (Some i) s e.to j = record { edge = e; at = at; from_is = from; to_is = refl; passes = ap (fits_side i) is ∙ both.0 } in
+    let both = and_parts (fits_lem i.sensitive x i.symbol)
+    (fits_inputs (take (length more) (left_word labels)) more) fit in
+    let p : Picked edges (Some i) s e.to j =
+    record {
+      edge = e;
+      at = at;
+      from_is = from;
+      to_is = refl;
+      passes =
+          ap (fits_side i) is ∙ both.0;
+    } in
     let (t, r) = go (before ++ i ∷ []) more (taken before i s j p refl reach) both.1 in
     (t, subst (λ (z : List Input). Reach edges z t) (append_assoc before (i ∷ []) more) r)
 
-reached_on : (edges : List Edge) (before later : List Input) (s last : ℕ) (labels : List Label) → Walk edges s labels last → Reach edges before s → fits_inputs (take (length later) (left_word labels)) later ≡ true
+reached_on : (edges : List Edge) (before later : List Input) (s last : ℕ) (labels : List Label) →
+    Walk edges s labels last → Reach edges before s →
+    fits_inputs (take (length later) (left_word labels)) later ≡ true
     → (t : ℕ) × Reach edges (before ++ later) t
-reached_on edges before [] s last labels (ends e) reach fit = (s, subst (λ (z : List Input). Reach edges z s) (sym (append-nil before)) reach)
+reached_on edges before [] s last labels (ends e) reach fit =
+    (s, subst (λ (z : List Input). Reach edges z s) (sym (append-nil before)) reach)
 reached_on edges before (i ∷ later) s last labels (ends e) reach fit = cc
 reached_on edges before later s last whole (goes {labels = labels} j e at from is walk) reach fit =
-    reach_step edges before later s j e labels e.label.left at from refl reach (ap (λ (z : List Label). fits_inputs (take (length later) (left_word z)) later) (sym is) ∙ fit)
+    reach_step edges before later s j e labels e.label.left at from refl reach
+    (ap (λ (z : List Label). fits_inputs (take (length later) (left_word z)) later)
+    (sym is) ∙ fit)
     (λ b l r h. reached_on edges b l e.to last labels walk r h)
 
 -- ---- and at the end of accepted labels
 
-arrive_step : (edges : List Edge) (before later : List Input) (s last j : ℕ) (e : Edge) (labels : List Label) (left : Option Symbol) → slice_get edges j ≡ Some e → s ≡ e.from → e.label.left ≡ left → Reach edges before s
-    → fits_inputs (option_to_list left ++ left_word labels) later ≡ true → ((b l : List Input) → Reach edges b e.to → fits_inputs (left_word labels) l ≡ true → Reach edges (b ++ l) last) → Reach edges (before ++ later) last
+arrive_step : (edges : List Edge) (before later : List Input) (s last j : ℕ) (e : Edge)
+    (labels : List Label) (left : Option Symbol) → slice_get edges j ≡ Some e → s ≡ e.from →
+    e.label.left ≡ left → Reach edges before s
+    → fits_inputs (option_to_list left ++ left_word labels) later ≡ true →
+    ((b l : List Input) → Reach edges b e.to → fits_inputs (left_word labels) l ≡ true →
+    Reach edges (b ++ l) last) → Reach edges (before ++ later) last
 arrive_step edges before later s last j e labels None at from is reach fit go =
-    let p : Picked edges None s e.to j = record { edge = e; at = at; from_is = from; to_is = refl; passes = ap is_empty_side is } in
+    let p : Picked edges None s e.to j =
+    record { edge = e; at = at; from_is = from; to_is = refl; passes = ap is_empty_side is } in
     go before later (silent s j p reach) fit
 arrive_step edges before [] s last j e labels (Some x) at from is reach fit go = cc
 arrive_step edges before (i ∷ more) s last j e labels (Some x) at from is reach fit go =
-    let both = and_parts (fits_lem i.sensitive x i.symbol) (fits_inputs (left_word labels) more) fit in
-    let p : Picked edges (Some i) s e.to j = record { edge = e; at = at; from_is = from; to_is = refl; passes = ap (fits_side i) is ∙ both.0 } in
-    subst (λ (z : List Input). Reach edges z last) (append_assoc before (i ∷ []) more) (go (before ++ i ∷ []) more (taken before i s j p refl reach) both.1)
+    let both = and_parts (fits_lem i.sensitive x i.symbol)
+    (fits_inputs (left_word labels) more) fit in
+    let p : Picked edges (Some i) s e.to j =
+    record {
+      edge = e;
+      at = at;
+      from_is = from;
+      to_is = refl;
+      passes =
+          ap (fits_side i) is ∙ both.0;
+    } in
+    subst (λ (z : List Input). Reach edges z last) (append_assoc before (i ∷ []) more)
+    (go (before ++ i ∷ []) more (taken before i s j p refl reach) both.1)
 
-arrive : (edges : List Edge) (before later : List Input) (s last : ℕ) (labels : List Label) → Walk edges s labels last → Reach edges before s → fits_inputs (left_word labels) later ≡ true → Reach edges (before ++ later) last
-arrive edges before [] s last labels (ends e) reach fit = subst (λ (z : List Input). Reach edges z last) (sym (append-nil before)) (subst (λ (z : ℕ). Reach edges before z) e reach)
+arrive : (edges : List Edge) (before later : List Input) (s last : ℕ) (labels : List Label) →
+    Walk edges s labels last → Reach edges before s → fits_inputs (left_word labels) later ≡ true →
+    Reach edges (before ++ later) last
+arrive edges before [] s last labels (ends e) reach fit =
+    subst (λ (z : List Input). Reach edges z last) (sym (append-nil before))
+    (subst (λ (z : ℕ). Reach edges before z) e reach)
 arrive edges before (i ∷ later) s last labels (ends e) reach fit = cc
 arrive edges before later s last whole (goes {labels = labels} j e at from is walk) reach fit =
-    arrive_step edges before later s last j e labels e.label.left at from refl reach (ap (λ (z : List Label). fits_inputs (left_word z) later) (sym is) ∙ fit) (λ b l r h. arrive edges b l e.to last labels walk r h)
+    arrive_step edges before later s last j e labels e.label.left at from refl reach
+    (ap (λ (z : List Label). fits_inputs (left_word z) later) (sym is) ∙ fit)
+    (λ b l r h. arrive edges b l e.to last labels walk r h)
 
 -- ---- the calls
 
-pub accepts_law : (m : Machine) (seen : List Input) (l : Lives) (rows : List Row) (answer : Bool) → IsLive m seen l → rows ≡ l.rows
-    → ((s : List Input) → AreRows m.edges s rows → (IsTrue answer ↔ ((t : ℕ) × (Reach m.edges s t × IsIn t m.finals)))) → IsTrue answer ↔ ((output : List Symbol) × IsOutput m seen output)
+pub accepts_law : (m : Machine) (seen : List Input) (l : Lives) (rows : List Row) (answer : Bool) →
+    IsLive m seen l → rows ≡ l.rows
+    → ((s : List Input) → AreRows m.edges s rows →
+    (IsTrue answer ↔ ((t : ℕ) × (Reach m.edges s t × IsIn t m.finals)))) →
+    IsTrue answer ↔ ((output : List Symbol) × IsOutput m seen output)
 accepts_law m seen l rows answer live r h =
     let k = h seen (subst (λ (z : List Row). AreRows m.edges seen z) (sym r) live.rows_are) in (
       (λ t. let (s, (reach, final)) = k.0 t in
-          let w : IsTrace m.edges seen s = trace m.edges seen s reach in
-          (right_word w.labels, record { labels = w.labels; accepted = record { last = s; final = final; walk = w.walk }; fit = w.fit; is = refl })),
-      (λ (output, o). k.1 (o.accepted.last, (arrive m.edges [] seen 0 o.accepted.last o.labels o.accepted.walk (begin refl refl) o.fit, o.accepted.final))),
+          let w : IsTrace m.edges seen s = trace m.edges seen s reach in (
+            right_word w.labels,
+            record {
+              labels = w.labels;
+              accepted =
+                  record { last = s; final = final; walk = w.walk };
+              fit = w.fit;
+              is = refl;
+            },
+          )),
+      (λ (output, o). k.1 (
+        o.accepted.last,
+        (
+          arrive m.edges [] seen 0 o.accepted.last o.labels o.accepted.walk (begin refl refl)
+              o.fit,
+          o.accepted.final,
+        ),
+      )),
     )
 
-pub told_rows : (m : Machine) (seen : List Input) (l : Lives) (rows : List Row) → IsLive m seen l → rows ≡ l.rows → (at : ℕ) (row : Row) → slice_get rows at ≡ Some row → Tells m.finals row
-told_rows m seen l rows live r at row h = live.known_is.told at row (ap (λ (z : List Row). slice_get z at) (sym r) ∙ h)
+pub told_rows : (m : Machine) (seen : List Input) (l : Lives) (rows : List Row) → IsLive m seen l →
+    rows ≡ l.rows → (at : ℕ) (row : Row) → slice_get rows at ≡ Some row → Tells m.finals row
+told_rows m seen l rows live r at row h =
+    live.known_is.told at row (ap (λ (z : List Row). slice_get z at) (sym r) ∙ h)
 
-pub dead_law : (m : Machine) (seen : List Input) (l : Lives) (rows : List Row) (void none : Bool) → IsMachine m → IsTrimmed m → IsLive m seen l → rows ≡ l.rows → void ≡ l.is_void → void ≡ false
-    → ((edges : List Edge) (s : List Input) → AreRows edges s rows → (IsTrue none ↔ ((t : ℕ) → Reach edges s t → ⊥))) → IsTrue none ↔ (FitBeginning m seen → ⊥)
+pub dead_law : (m : Machine) (seen : List Input) (l : Lives) (rows : List Row) (void none : Bool) →
+    IsMachine m → IsTrimmed m → IsLive m seen l → rows ≡ l.rows → void ≡ l.is_void → void ≡ false
+    → ((edges : List Edge) (s : List Input) → AreRows edges s rows →
+    (IsTrue none ↔ ((t : ℕ) → Reach edges s t → ⊥))) → IsTrue none ↔ (FitBeginning m seen → ⊥)
 dead_law m seen l rows void none ok trimmed live r v not_void h =
-    let k = h m.edges seen (subst (λ (z : List Row). AreRows m.edges seen z) (sym r) live.rows_are) in
+    let k = h m.edges seen (subst (λ (z : List Row). AreRows m.edges seen z) (sym r)
+    live.rows_are) in
     let some : m.finals ≡ [] → ⊥ = λ e. let t : l.is_void ≡ true = live.void_is.1 e in cc in (
-      (λ t b. let (s, reach) = reached_on m.edges [] seen 0 b.accepted.last b.labels b.accepted.walk (begin refl refl) b.fit in k.0 t s reach),
+      (λ t b. let (s, reach) =
+          reached_on m.edges [] seen 0 b.accepted.last b.labels b.accepted.walk (begin refl refl)
+          b.fit in k.0 t s reach),
       (λ f. k.1 (λ s reach. f (beginning m seen s ok trimmed some reach))),
     )
 
-pub outputs_law : (m : Machine) (seen : List Input) (l : Lives) (rows : List Row) (backs words : List (List Symbol)) → rows ≡ l.rows → IsLive m seen l → ((s : List Input) → AreRows m.edges s rows → AreBacks m s backs)
-    → ((w : List Symbol) → IsIn w words ↔ IsIn w (map reverse backs)) → (output : List Symbol) → IsIn output words ↔ IsOutput m seen output
+pub outputs_law : (m : Machine) (seen : List Input) (l : Lives) (rows : List Row)
+    (backs words : List (List Symbol)) → rows ≡ l.rows → IsLive m seen l →
+    ((s : List Input) → AreRows m.edges s rows → AreBacks m s backs)
+    → ((w : List Symbol) → IsIn w words ↔ IsIn w (map reverse backs)) → (output : List Symbol) →
+    IsIn output words ↔ IsOutput m seen output
 outputs_law m seen l rows backs words r live h k output =
-    let are : AreBacks m seen backs = h seen (subst (λ (z : List Row). AreRows m.edges seen z) (sym r) live.rows_are) in (
-      (λ i. let b : IsImage reverse output backs = in_mapped reverse output backs ((k output).0 i) in
-          subst (λ (z : List Symbol). IsOutput m seen z) (sym b.image) (output_from_tail m seen b.source (are.sound b.source b.listed))),
-      (λ o. (k output).1 (subst (λ (z : List Symbol). IsIn z (map reverse backs)) (reverse-reverse output) (in_map reverse (reverse output) backs (are.complete (reverse output) (tail_from_output m seen output o))))),
+    let are : AreBacks m seen backs =
+    h seen (subst (λ (z : List Row). AreRows m.edges seen z) (sym r) live.rows_are) in (
+      (λ i. let b : IsImage reverse output backs =
+          in_mapped reverse output backs ((k output).0 i) in
+          subst (λ (z : List Symbol). IsOutput m seen z) (sym b.image)
+          (output_from_tail m seen b.source (are.sound b.source b.listed))),
+      (λ o. (k output).1 (subst (λ (z : List Symbol). IsIn z (map reverse backs))
+          (reverse-reverse output)
+          (in_map reverse (reverse output) backs
+          (are.complete (reverse output) (tail_from_output m seen output o))))),
     )
 
-pub start_law : (m : Machine) (l : Lives) → AreRows m.edges [] l.rows → ((at : ℕ) (row : Row) → slice_get l.rows at ≡ Some row → Tells m.finals row) → l.known ≡ [] → l.links ≡ [] → l.path ≡ [] → (IsTrue l.is_void ↔ (m.finals ≡ [])) → IsLive m [] l
-start_law m l are told known links path void = record { rows_are = are; known_is = nothing_known m.edges m.finals l.rows l.known l.links l.path told known links path; void_is = void }
+pub start_law : (m : Machine) (l : Lives) → AreRows m.edges [] l.rows →
+    ((at : ℕ) (row : Row) → slice_get l.rows at ≡ Some row → Tells m.finals row) → l.known ≡ [] →
+    l.links ≡ [] → l.path ≡ [] → (IsTrue l.is_void ↔ (m.finals ≡ [])) → IsLive m [] l
+start_law m l are told known links path void =
+    record {
+      rows_are = are;
+      known_is =
+          nothing_known m.edges m.finals l.rows l.known l.links l.path told known links path;
+      void_is = void;
+    }
 
-pub live_on : (m : Machine) (seen seen' : List Input) (l old new : Lives) → IsLive m seen l → old ≡ l
-    → (AreRows m.edges seen old.rows → IsKnown m.edges m.finals old.rows old.known old.links old.path → AreRows m.edges seen' new.rows × IsKnown m.edges m.finals new.rows new.known new.links new.path) → new.is_void ≡ old.is_void → IsLive m seen' new
+pub live_on : (m : Machine) (seen seen' : List Input) (l old new : Lives) →
+    IsLive m seen l → old ≡ l
+    → (AreRows m.edges seen old.rows →
+    IsKnown m.edges m.finals old.rows old.known old.links old.path →
+    AreRows m.edges seen' new.rows
+    × IsKnown m.edges m.finals new.rows new.known new.links new.path) →
+    new.is_void ≡ old.is_void → IsLive m seen' new
 live_on m seen seen' l old new live o h v =
     let live' : IsLive m seen old = subst (λ (z : Lives). IsLive m seen z) (sym o) live in
-    let both : AreRows m.edges seen' new.rows × IsKnown m.edges m.finals new.rows new.known new.links new.path = h live'.rows_are live'.known_is in
-    record { rows_are = both.0; known_is = both.1; void_is = subst (λ (z : Bool). IsTrue z ↔ (m.finals ≡ [])) (sym v) live'.void_is }
+    let both : AreRows m.edges seen' new.rows
+    × IsKnown m.edges m.finals new.rows new.known new.links new.path =
+    h live'.rows_are live'.known_is in
+    record {
+      rows_are = both.0;
+      known_is = both.1;
+      void_is =
+          subst (λ (z : Bool). IsTrue z ↔ (m.finals ≡ [])) (sym v) live'.void_is;
+    }

@@ -13,22 +13,29 @@ abbrev input_of : Symbol → Bool → Input
 input_of x s = record { symbol = x; sensitive = s }
 
 -- no other fits where the input is no letter, or case counts
-other_none : (x : Symbol) (s : Bool) → ((c : ℕ) → s ≡ false → x ≡ Letter c → ⊥) → IsOther (input_of x s) None
+other_none : (x : Symbol) (s : Bool) → ((c : ℕ) → s ≡ false → x ≡ Letter c → ⊥) →
+    IsOther (input_of x s) None
 other_none x s not = record {
   fits = λ y e. absurd (none-some y e);
-  only = λ y h. elim ((fits_is s y x).0 h) [ inl e ↦ inl e | inr (q, (c, (i, l))) ↦ absurd (not c q i) ];
+  only = λ y h. elim ((fits_is s y x).0 h) [
+    | inl e ↦ inl e
+    | inr (q, (c, (i, l))) ↦
+        absurd (not c q i)
+  ];
 }
 
 pub other_sensitive : (x : Symbol) (s : Bool) → s ≡ true → IsOther (input_of x s) None
 other_sensitive x s e = other_none x s (λ c q i. cc)
 
-pub other_mark : (x : Symbol) (s : Bool) → ((c : ℕ) → x ≡ Letter c → ⊥) → IsOther (input_of x s) None
+pub other_mark : (x : Symbol) (s : Bool) → ((c : ℕ) → x ≡ Letter c → ⊥) →
+    IsOther (input_of x s) None
 other_mark x s not = other_none x s (λ c q i. not c i)
 
 letter_same : (c d : ℕ) → Letter c ≡ Letter d → c ≡ d
 letter_same c d e = cc
 
-pub other_lower : (c small : ℕ) → small ≡ lower_lem c → IsOther (input_of (Letter c) false) (Some (Letter small))
+pub other_lower : (c small : ℕ) → small ≡ lower_lem c →
+    IsOther (input_of (Letter c) false) (Some (Letter small))
 other_lower c small is = record {
   fits = λ y e.
       let q : Letter small ≡ y = same_Some (Letter small) y e in
@@ -41,7 +48,8 @@ other_lower c small is = record {
   ];
 }
 
-pub other_same : (c small : ℕ) → small ≡ lower_lem c → small ≡ c → IsOther (input_of (Letter c) false) None
+pub other_same : (c small : ℕ) → small ≡ lower_lem c → small ≡ c →
+    IsOther (input_of (Letter c) false) None
 other_same c small is e = record {
   fits = λ y f. absurd (none-some y f);
   only = λ y h. elim ((fits_is false y (Letter c)).0 h) [
@@ -55,31 +63,44 @@ other_same c small is e = record {
 
 -- the edges that are picked, by their left sides
 
-side_is : (input : Input) (other left : Option Symbol) → IsOther input other → fits_side input left ≡ true → (left ≡ Some input.symbol) ⊎ ((x : Symbol) × (left ≡ Some x) × (other ≡ Some x))
+side_is : (input : Input) (other left : Option Symbol) → IsOther input other →
+    fits_side input left ≡ true → (left ≡ Some input.symbol)
+    ⊎ ((x : Symbol) × (left ≡ Some x) × (other ≡ Some x))
 side_is input other None is h = cc
-side_is input other (Some x) is h = elim (is.only x h) [ inl e ↦ inl (ap (λ (z : Symbol). Some z) e) | inr e ↦ inr (x, refl, e) ]
+side_is input other (Some x) is h =
+    elim (is.only x h) [ inl e ↦ inl (ap (λ (z : Symbol). Some z) e) | inr e ↦ inr (x, refl, e) ]
 
-place_has : (edges : List Edge) (pick : Option Input) (from s j : ℕ) (left : Option Symbol) (p : Picked edges pick from s j) → p.edge.label.left ≡ left → HasLeft edges left j
+place_has : (edges : List Edge) (pick : Option Input) (from s j : ℕ) (left : Option Symbol)
+    (p : Picked edges pick from s j) → p.edge.label.left ≡ left → HasLeft edges left j
 place_has edges pick from s j left p h e at =
     let same : p.edge ≡ e = same_Some p.edge e (sym p.at ∙ at) in
     subst (λ (z : Edge). z.label.left ≡ left) same h
 
-passes_as : (pick : Option Input) (input : Input) (e : Edge) → pick ≡ Some input → picks pick e ≡ true → fits_side input e.label.left ≡ true
+passes_as : (pick : Option Input) (input : Input) (e : Edge) → pick ≡ Some input →
+    picks pick e ≡ true → fits_side input e.label.left ≡ true
 passes_as pick input e is h = ap (λ (z : Option Input). picks z e) (sym is) ∙ h
 
-pub two_sides : (edges : List Edge) (pick : Option Input) (input : Input) (x y : Symbol) (other : Option Symbol) → pick ≡ Some input → input.symbol ≡ x → other ≡ Some y → IsOther input other
-    → (from s j : ℕ) → Picked edges pick from s j → HasLeft edges (Some x) j ⊎ HasLeft edges (Some y) j
-two_sides edges pick input x y other is same there o from s j p = elim (side_is input other p.edge.label.left o (passes_as pick input p.edge is p.passes)) [
-  | inl e ↦ inl (place_has edges pick from s j (Some x) p (e ∙ ap (λ (z : Symbol). Some z) same))
-  | inr (z, e, f) ↦ inr (place_has edges pick from s j (Some y) p (e ∙ sym f ∙ there))
-]
-
-pub one_side : (edges : List Edge) (pick : Option Input) (input : Input) (x : Symbol) (other : Option Symbol) → pick ≡ Some input → input.symbol ≡ x → other ≡ None → IsOther input other
+pub two_sides : (edges : List Edge) (pick : Option Input) (input : Input) (x y : Symbol)
+    (other : Option Symbol) → pick ≡ Some input → input.symbol ≡ x → other ≡ Some y →
+    IsOther input other
     → (from s j : ℕ) → Picked edges pick from s j → HasLeft edges (Some x) j
-one_side edges pick input x other is same there o from s j p = elim (side_is input other p.edge.label.left o (passes_as pick input p.edge is p.passes)) [
-  | inl e ↦ place_has edges pick from s j (Some x) p (e ∙ ap (λ (z : Symbol). Some z) same)
-  | inr (z, e, f) ↦ absurd (none-some z (sym there ∙ f))
-]
+    ⊎ HasLeft edges (Some y) j
+two_sides edges pick input x y other is same there o from s j p =
+    elim (side_is input other p.edge.label.left o (passes_as pick input p.edge is p.passes)) [
+      | inl e ↦ inl (place_has edges pick from s j (Some x) p
+          (e ∙ ap (λ (z : Symbol). Some z) same))
+      | inr (z, e, f) ↦ inr (place_has edges pick from s j (Some y) p (e ∙ sym f ∙ there))
+    ]
+
+pub one_side : (edges : List Edge) (pick : Option Input) (input : Input) (x : Symbol)
+    (other : Option Symbol) → pick ≡ Some input → input.symbol ≡ x → other ≡ None →
+    IsOther input other
+    → (from s j : ℕ) → Picked edges pick from s j → HasLeft edges (Some x) j
+one_side edges pick input x other is same there o from s j p =
+    elim (side_is input other p.edge.label.left o (passes_as pick input p.edge is p.passes)) [
+      | inl e ↦ place_has edges pick from s j (Some x) p (e ∙ ap (λ (z : Symbol). Some z) same)
+      | inr (z, e, f) ↦ absurd (none-some z (sym there ∙ f))
+    ]
 
 -- an empty side
 pub side_none : (o : Option Symbol) → is_empty_side o ≡ true → o ≡ None

@@ -1,4 +1,5 @@
--- The right words of a compiled dictionary can be written in a unit and read again, and so with a case carried to them.
+-- The right words of a compiled dictionary can be written in a unit and read again, and so with a
+-- case carried to them.
 use Rattle.std.specs.Prelude.{ℕ, Bool, true, false, List, [], ◌∷◌, ◌++◌, map, Option, Some, None}
 use Rattle.std.specs.Option.{option_to_list}
 use Rattle.std.proofs.Common.{sym, subst, inl, inr}
@@ -34,31 +35,47 @@ side_coded : (o : Option Symbol) → IsCodedSide o → AreCoded (option_to_list 
 side_coded None h = tt
 side_coded (Some x) h = (h, tt)
 
-walk_coded : (m : Machine) (s t : ℕ) (labels : List Label) → WritesCoded m → Walk m.edges s labels t → AreCoded (right_word labels)
+walk_coded : (m : Machine) (s t : ℕ) (labels : List Label) → WritesCoded m →
+    Walk m.edges s labels t → AreCoded (right_word labels)
 walk_coded m s t labels writes (ends e) = tt
 walk_coded m s t whole writes (goes {labels = labels} j e at from is walk) =
     subst (λ (z : List Label). AreCoded (right_word z)) (sym is)
-    (coded_both (option_to_list e.label.right) (right_word labels) (side_coded e.label.right (writes e (in_from_place m.edges j e at))) (walk_coded m e.to t labels writes walk))
+    (coded_both (option_to_list e.label.right) (right_word labels)
+    (side_coded e.label.right (writes e (in_from_place m.edges j e at)))
+    (walk_coded m e.to t labels writes walk))
 
-output_coded : (m : Machine) (seen : List Input) (w : List Symbol) → WritesCoded m → IsOutput m seen w → AreCoded w
-output_coded m seen w writes o = subst AreCoded (sym o.is) (walk_coded m 0 o.accepted.last o.labels writes o.accepted.walk)
+output_coded : (m : Machine) (seen : List Input) (w : List Symbol) → WritesCoded m →
+    IsOutput m seen w → AreCoded w
+output_coded m seen w writes o =
+    subst AreCoded (sym o.is) (walk_coded m 0 o.accepted.last o.labels writes o.accepted.walk)
 
-pub compiled_readable : (p : Parts) → AreSidesProper p → ((kind : Kind2) → WritesCoded (section_of p kind)) → (sensitive : Bool) → GivesReadable (lexicon_of p sensitive)
+pub compiled_readable : (p : Parts) → AreSidesProper p →
+    ((kind : Kind2) → WritesCoded (section_of p kind)) → (sensitive : Bool) →
+    GivesReadable (lexicon_of p sensitive)
 compiled_readable p proper coded sensitive kind symbols w i =
-    let o = found_is_output (section_of p kind) (inputs_of sensitive symbols) w i in
-    (output_proper (section_of p kind) (inputs_of sensitive symbols) w (proper kind) o, output_coded (section_of p kind) (inputs_of sensitive symbols) w (coded kind) o)
+    let o = found_is_output (section_of p kind) (inputs_of sensitive symbols) w i in (
+      output_proper (section_of p kind) (inputs_of sensitive symbols) w (proper kind) o,
+      output_coded (section_of p kind) (inputs_of sensitive symbols) w (coded kind) o,
+    )
 
 -- with a case carried to them
-carried_readable : (sensitive : Bool) (seen word : List Symbol) → IsReadable word → IsReadable (carried sensitive seen word)
+carried_readable : (sensitive : Bool) (seen word : List Symbol) → IsReadable word →
+    IsReadable (carried sensitive seen word)
 carried_readable true seen word h = h
-carried_readable false seen word h = ((stays_proper (case_of_lem seen) word h.0).0, (stays_coded (case_of_lem seen) word h.1).0)
+carried_readable false seen word h =
+    ((stays_proper (case_of_lem seen) word h.0).0, (stays_coded (case_of_lem seen) word h.1).0)
 
-pub ordered_readable : (sensitive : Bool) (seen : List Symbol) (words : List (List Symbol)) → ((v : List Symbol) → IsIn v words → IsReadable v) → (w : List Symbol) → IsIn w (in_order (map (carried sensitive seen) words)) → IsReadable w
+pub ordered_readable : (sensitive : Bool) (seen : List Symbol) (words : List (List Symbol)) →
+    ((v : List Symbol) → IsIn v words → IsReadable v) → (w : List Symbol) →
+    IsIn w (in_order (map (carried sensitive seen) words)) → IsReadable w
 ordered_readable sensitive seen words h w i =
-    let m : IsImage (carried sensitive seen) w words = in_mapped (carried sensitive seen) w words (in_order_sound (map (carried sensitive seen) words) w i) in
+    let m : IsImage (carried sensitive seen) w words =
+    in_mapped (carried sensitive seen) w words
+    (in_order_sound (map (carried sensitive seen) words) w i) in
     subst IsReadable (sym m.image) (carried_readable sensitive seen m.source (h m.source m.listed))
 
-any_readable : (lexicon : Lexicon) (symbols : List Symbol) → GivesReadable lexicon → (w : List Symbol) → IsIn w (any_words lexicon symbols) → IsReadable w
+any_readable : (lexicon : Lexicon) (symbols : List Symbol) → GivesReadable lexicon →
+    (w : List Symbol) → IsIn w (any_words lexicon symbols) → IsReadable w
 any_readable lexicon symbols gives w i =
     let b : List (List Symbol) = lexicon.readings Inconditional symbols in
     let c : List (List Symbol) = lexicon.readings Postblank symbols in
@@ -67,13 +84,24 @@ any_readable lexicon symbols gives w i =
       | inl k ↦ gives Standard symbols w k
       | inr k ↦ elim (in_either w b (c ++ d) k) [
         | inl j ↦ gives Inconditional symbols w j
-        | inr j ↦ elim (in_either w c d j) [ inl h ↦ gives Postblank symbols w h | inr h ↦ gives Preblank symbols w h ]
+        | inr j ↦ elim (in_either w c d j) [
+          | inl h ↦ gives Postblank symbols w h
+          | inr h ↦
+              gives Preblank symbols w h
+        ]
       ]
     ]
 
-pub words_readable : (lexicon : Lexicon) (sensitive : Bool) (seen symbols : List Symbol) → GivesReadable lexicon → (w : List Symbol) → IsIn w (carried_words lexicon sensitive seen symbols) → IsReadable w
-words_readable lexicon sensitive seen symbols gives w i = ordered_readable sensitive seen (any_words lexicon symbols) (any_readable lexicon symbols gives) w i
+pub words_readable : (lexicon : Lexicon) (sensitive : Bool) (seen symbols : List Symbol) →
+    GivesReadable lexicon → (w : List Symbol) →
+    IsIn w (carried_words lexicon sensitive seen symbols) → IsReadable w
+words_readable lexicon sensitive seen symbols gives w i =
+    ordered_readable sensitive seen (any_words lexicon symbols)
+    (any_readable lexicon symbols gives) w i
 
 -- what is said of one lexicon of a relation holds of each
-pub same_readable : (sensitive : Bool) (letters : ℕ → Bool) (relates : Kind2 → List Symbol → List Symbol → Type 0) (a b : Lexicon) → IsLexiconOf a sensitive letters relates → IsLexiconOf b sensitive letters relates → GivesReadable a → GivesReadable b
-same_readable sensitive letters relates a b p q gives kind symbols w i = gives kind symbols w ((p.exactly kind symbols w).1 ((q.exactly kind symbols w).0 i))
+pub same_readable : (sensitive : Bool) (letters : ℕ → Bool) (relates : Kind2 → List Symbol →
+    List Symbol → Type 0) (a b : Lexicon) → IsLexiconOf a sensitive letters relates →
+    IsLexiconOf b sensitive letters relates → GivesReadable a → GivesReadable b
+same_readable sensitive letters relates a b p q gives kind symbols w i =
+    gives kind symbols w ((p.exactly kind symbols w).1 ((q.exactly kind symbols w).0 i))

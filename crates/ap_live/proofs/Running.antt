@@ -21,7 +21,8 @@ use Rattle.ap_live.proofs.Others.{side_none}
 use Rattle.ap_live.proofs.Spreading.{spread_none, spread_seen}
 
 -- later keys are no smaller
-pub rises : {X : Type 0} (key : X → ℕ) (xs : List X) (j k : ℕ) (d e : X) → IsNonDecreasingBy key xs → slice_get xs j ≡ Some d → slice_get xs k ≡ Some e → j ≤ k → key d ≤ key e
+pub rises : {X : Type 0} (key : X → ℕ) (xs : List X) (j k : ℕ) (d e : X) → IsNonDecreasingBy key xs
+    → slice_get xs j ≡ Some d → slice_get xs k ≡ Some e → j ≤ k → key d ≤ key e
 rises key xs j k d e sorted at at' le =
     let within : k < length xs = slice_get_within xs k e at' in
     let up : key (get_or xs j d) ≤ key (get_or xs k d) = sorted j k d le within in
@@ -30,28 +31,42 @@ rises key xs j k d e sorted at at' le =
     omega arith
 
 -- before an edge that leaves a smaller state
-pub all_smaller : (edges : List Edge) (place from : ℕ) (d : Edge) → IsNonDecreasingBy edge_from edges → 0 < place → slice_get edges (place - 1) ≡ Some d → d.from < from → (j : ℕ) (e : Edge) → slice_get edges j ≡ Some e → j < place → e.from < from
-all_smaller edges place from d sorted some at less j e at' lt = let up : e.from ≤ d.from = rises edge_from edges j (place - 1) e d sorted at' at (omega arith) in omega arith
+pub all_smaller : (edges : List Edge) (place from : ℕ) (d : Edge) →
+    IsNonDecreasingBy edge_from edges → 0 < place → slice_get edges (place - 1) ≡ Some d →
+    d.from < from → (j : ℕ) (e : Edge) → slice_get edges j ≡ Some e → j < place → e.from < from
+all_smaller edges place from d sorted some at less j e at' lt = let up : e.from ≤ d.from =
+    rises edge_from edges j (place - 1) e d sorted at' at (omega arith) in omega arith
 
 -- from an edge on that leaves no smaller state
-pub none_smaller : (edges : List Edge) (place from : ℕ) (d : Edge) → IsNonDecreasingBy edge_from edges → slice_get edges place ≡ Some d → from ≤ d.from → (j : ℕ) (e : Edge) → slice_get edges j ≡ Some e → place ≤ j → from ≤ e.from
-none_smaller edges place from d sorted at more j e at' le = let up : d.from ≤ e.from = rises edge_from edges place j d e sorted at at' le in omega arith
+pub none_smaller : (edges : List Edge) (place from : ℕ) (d : Edge) →
+    IsNonDecreasingBy edge_from edges → slice_get edges place ≡ Some d → from ≤ d.from →
+    (j : ℕ) (e : Edge) → slice_get edges j ≡ Some e → place ≤ j → from ≤ e.from
+none_smaller edges place from d sorted at more j e at' le = let up : d.from ≤ e.from =
+    rises edge_from edges place j d e sorted at at' le in omega arith
 
 -- between smaller states and no smaller ones
-pub run_between : (edges : List Edge) (place from : ℕ) → IsNonDecreasingBy edge_from edges → ((j : ℕ) (e : Edge) → slice_get edges j ≡ Some e → j < place → e.from < from) → ((j : ℕ) (e : Edge) → slice_get edges j ≡ Some e → place ≤ j → from ≤ e.from)
+pub run_between : (edges : List Edge) (place from : ℕ) → IsNonDecreasingBy edge_from edges →
+    ((j : ℕ) (e : Edge) → slice_get edges j ≡ Some e → j < place → e.from < from) →
+    ((j : ℕ) (e : Edge) → slice_get edges j ≡ Some e → place ≤ j → from ≤ e.from)
     → IsRun edges (Leaves from) place
 run_between edges place from sorted smaller others = record {
-  after = λ j e at is. elim (cases_lt j place) [ inl lt ↦ let less : e.from < from = smaller j e at lt in absurd (omega arith) | inr le ↦ le ];
+  after = λ j e at is. elim (cases_lt j place) [
+    | inl lt ↦ let less : e.from < from =
+        smaller j e at lt in absurd (omega arith)
+    | inr le ↦ le
+  ];
   together = λ j k d e at at' is le up.
       let low : from ≤ d.from = others j d at le in
       let high : d.from ≤ e.from = rises edge_from edges j k d e sorted at at' up in
       omega arith;
 }
 
-pub run_span : (edges : List Edge) (from low high : ℕ) → IsSpan edges from low high → IsRun edges (Leaves from) low
+pub run_span : (edges : List Edge) (from low high : ℕ) → IsSpan edges from low high →
+    IsRun edges (Leaves from) low
 run_span edges from low high span = record {
   after = λ j e at is. (span.outside j e at is).0;
-  together = λ j k d e at at' is le up. let below : k < high = (span.outside k e at' is).1 in span.inside j d at le (omega arith);
+  together = λ j k d e at at' is le up. let below : k < high = (span.outside k e at' is).1 in
+      span.inside j d at le (omega arith);
 }
 
 side_index : (o : Option Symbol) → ordering_index (side_cmp o None) ≤ 1 → o ≡ None
@@ -65,44 +80,72 @@ side_index (Some Alarm) h = absurd (omega arith)
 side_index (Some Star) h = absurd (omega arith)
 side_index (Some At) h = absurd (omega arith)
 
-place_here : (from : ℕ) (e : Edge) → e.from ≡ from → left_place from None e ≡ ordering_index (side_cmp e.label.left None)
-place_here from e is = ap (λ (z : Ordering). ordering_index (ordering_then z (side_cmp e.label.left None))) (cmp_same e.from from is)
+place_here : (from : ℕ) (e : Edge) → e.from ≡ from →
+    left_place from None e ≡ ordering_index (side_cmp e.label.left None)
+place_here from e is = ap (λ (z : Ordering). ordering_index
+    (ordering_then z (side_cmp e.label.left None))) (cmp_same e.from from is)
 
 -- those with an empty left side come first
-pub run_silent : (edges : List Edge) (from place : ℕ) → Ascends edge_cmp edges → IsRun edges (Leaves from) place → IsRun edges (LeavesSilently from) place
+pub run_silent : (edges : List Edge) (from place : ℕ) → Ascends edge_cmp edges →
+    IsRun edges (Leaves from) place → IsRun edges (LeavesSilently from) place
 run_silent edges from place ascend run = record {
   after = λ j e at is. run.after j e at is.0;
   together = λ j k d e at at' is le up.
       let same : d.from ≡ from = run.together j k d e at at' is.0 le up in
-      let rise : left_place from None d ≤ left_place from None e = rises (left_place from None) edges j k d e (places_sorted from None edges ascend) at at' up in
-      let one : left_place from None e ≡ 1 = place_here from e is.0 ∙ ap (λ (o : Option Symbol). ordering_index (side_cmp o None)) is.1 in
-      let here : left_place from None d ≡ ordering_index (side_cmp d.label.left None) = place_here from d same in
+      let rise : left_place from None d ≤ left_place from None e =
+      rises (left_place from None) edges j k d e
+      (places_sorted from None edges ascend) at at' up in
+      let one : left_place from None e ≡ 1 =
+      place_here from e is.0 ∙
+      ap (λ (o : Option Symbol). ordering_index (side_cmp o None)) is.1 in
+      let here : left_place from None d ≡ ordering_index (side_cmp d.label.left None) =
+      place_here from d same in
       (same, side_index d.label.left (omega arith));
 }
 
-pub run_in : (edges edges' : List Edge) (sort : Edge → Type 0) (place : ℕ) → edges ≡ edges' → IsRun edges sort place → IsRun edges' sort place
+pub run_in : (edges edges' : List Edge) (sort : Edge → Type 0) (place : ℕ) → edges ≡ edges' →
+    IsRun edges sort place → IsRun edges' sort place
 run_in edges edges' sort place same run = subst (λ (z : List Edge). IsRun z sort place) same run
 
 -- Nothing that is picked stands before the run.
-pub run_starts : (edges : List Edge) (pick : Option Input) (from place : ℕ) (sort : Edge → Type 0) (states : List ℕ) (links : List Arrival) → IsRun edges sort place → ((s j : ℕ) (p : Picked edges pick from s j) → sort p.edge)
+pub run_starts : (edges : List Edge) (pick : Option Input) (from place : ℕ) (sort : Edge → Type 0)
+    (states : List ℕ) (links : List Arrival) → IsRun edges sort place →
+    ((s j : ℕ) (p : Picked edges pick from s j) → sort p.edge)
     → SpreadOne edges pick from (PlaceBelow place) states links states links
 run_starts edges pick from place sort states links run sorts =
-    spread_none edges pick from (PlaceBelow place) states links (λ s j p lt. let le : place ≤ j = run.after j p.edge p.at (sorts s j p) in absurd (omega arith))
+    spread_none edges pick from (PlaceBelow place) states links (λ s j p lt. let le : place ≤ j =
+    run.after j p.edge p.at (sorts s j p) in absurd (omega arith))
 
 -- Nothing that is picked stands behind an edge of another sort.
-pub run_stops : (edges : List Edge) (pick : Option Input) (from place k : ℕ) (e : Edge) (sort : Edge → Type 0) (states : List ℕ) (links : List Arrival) (states' : List ℕ) (links' : List Arrival) → IsRun edges sort place → ((s j : ℕ) (p : Picked edges pick from s j) → sort p.edge)
-    → slice_get edges k ≡ Some e → (sort e → ⊥) → place ≤ k → SpreadOne edges pick from (PlaceBelow k) states links states' links' → SpreadOne edges pick from AnyPlace states links states' links'
+pub run_stops : (edges : List Edge) (pick : Option Input) (from place k : ℕ) (e : Edge)
+    (sort : Edge → Type 0) (states : List ℕ) (links : List Arrival) (states' : List ℕ)
+    (links' : List Arrival) → IsRun edges sort place →
+    ((s j : ℕ) (p : Picked edges pick from s j) → sort p.edge)
+    → slice_get edges k ≡ Some e → (sort e → ⊥) → place ≤ k →
+    SpreadOne edges pick from (PlaceBelow k) states links states' links' →
+    SpreadOne edges pick from AnyPlace states links states' links'
 run_stops edges pick from place k e sort states links states' links' run sorts at other le h =
     spread_seen edges pick from (PlaceBelow k) AnyPlace states links states' links'
-    (λ s j p any. elim (cases_lt j k) [ inl lt ↦ lt | inr up ↦ absurd (other (run.together k j e p.edge at p.at (sorts s j p) le up)) ]) h
+    (λ s j p any. elim (cases_lt j k) [
+      | inl lt ↦ lt
+      | inr up ↦
+          absurd (other (run.together k j e p.edge at p.at (sorts s j p) le up))
+    ]) h
 
 -- No edge follows.
-pub run_over : (edges : List Edge) (pick : Option Input) (from k : ℕ) (states : List ℕ) (links : List Arrival) (states' : List ℕ) (links' : List Arrival) → length edges ≤ k → SpreadOne edges pick from (PlaceBelow k) states links states' links' → SpreadOne edges pick from AnyPlace states links states' links'
+pub run_over : (edges : List Edge) (pick : Option Input) (from k : ℕ) (states : List ℕ)
+    (links : List Arrival) (states' : List ℕ) (links' : List Arrival) → length edges ≤ k →
+    SpreadOne edges pick from (PlaceBelow k) states links states' links' →
+    SpreadOne edges pick from AnyPlace states links states' links'
 run_over edges pick from k states links states' links' end h =
-    spread_seen edges pick from (PlaceBelow k) AnyPlace states links states' links' (λ s j p any. let lt : j < length edges = slice_get_within edges j p.edge p.at in omega arith) h
+    spread_seen edges pick from (PlaceBelow k) AnyPlace states links states' links'
+    (λ s j p any. let lt : j < length edges = slice_get_within edges j p.edge p.at in
+    omega arith) h
 
-pub leaves_it : (edges : List Edge) (pick : Option Input) (from s j : ℕ) (p : Picked edges pick from s j) → Leaves from p.edge
+pub leaves_it : (edges : List Edge) (pick : Option Input) (from s j : ℕ)
+    (p : Picked edges pick from s j) → Leaves from p.edge
 leaves_it edges pick from s j p = sym p.from_is
 
-pub leaves_silently : (edges : List Edge) (from s j : ℕ) (p : Picked edges None from s j) → LeavesSilently from p.edge
+pub leaves_silently : (edges : List Edge) (from s j : ℕ) (p : Picked edges None from s j) →
+    LeavesSilently from p.edge
 leaves_silently edges from s j p = (sym p.from_is, side_none p.edge.label.left p.passes)

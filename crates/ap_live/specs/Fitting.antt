@@ -13,7 +13,8 @@ pub record Input : Type 0 where
 -- symbols fit inputs where they are as many and fit one by one, each under the flag of its own step
 abbrev pub fits_inputs : List Symbol → List Input → Bool
 fits_inputs [] [] = true
-fits_inputs (x ∷ symbols) (input ∷ inputs) = fits_lem input.sensitive x input.symbol && fits_inputs symbols inputs
+fits_inputs (x ∷ symbols) (input ∷ inputs) = fits_lem input.sensitive x input.symbol
+    && fits_inputs symbols inputs
 fits_inputs _ _ = false
 
 -- the left side has a symbol, and it fits

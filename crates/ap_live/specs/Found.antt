@@ -10,7 +10,8 @@ use Rattle.ap_fst.specs.declared.label.Edge.{Edge}
 use Rattle.ap_live.specs.Fitting.{Input, picks}
 
 -- a word against the first of some words: before it, it itself, or somewhere in the rest
-abbrev pub placed : Ordering → List Symbol → List Symbol → List (List Symbol) → List (List Symbol) → List (List Symbol)
+abbrev pub placed : Ordering → List Symbol → List Symbol → List (List Symbol) → List (List Symbol) →
+    List (List Symbol)
 placed Less word first words rest = word ∷ first ∷ words
 placed Equal word first words rest = first ∷ words
 placed Greater word first words rest = first ∷ rest
@@ -18,7 +19,8 @@ placed Greater word first words rest = first ∷ rest
 -- words in order, with one more in its place, unless it is there
 abbrev pub with_word : List Symbol → List (List Symbol) → List (List Symbol)
 with_word word [] = word ∷ []
-with_word word (first ∷ words) = placed (word_cmp word first) word first words (with_word word words)
+with_word word (first ∷ words) =
+    placed (word_cmp word first) word first words (with_word word words)
 
 -- these words in order, each once
 abbrev pub in_order : List (List Symbol) → List (List Symbol)
@@ -31,7 +33,8 @@ picked_from edges pick s = filter (λ e. (s == edge_from e) && picks pick e) edg
 
 -- the right sides of these edges, each followed by what is written from the state that it enters
 abbrev pub through : (ℕ → List (List Symbol)) → List Edge → List (List Symbol)
-through go edges = flat_map (λ e. map (λ word. option_to_list e.label.right ++ word) (go e.to)) edges
+through go edges = flat_map
+    (λ e. map (λ word. option_to_list e.label.right ++ word) (go e.to)) edges
 
 -- the empty word, where no input is left and the state is final
 abbrev pub ended : List ℕ → ℕ → List Input → List (List Symbol)
@@ -39,17 +42,21 @@ ended finals s [] = if list_any (λ t. s == t) finals then [] ∷ [] else []
 ended finals s (input ∷ inputs) = []
 
 -- over the edges that fit the first input, and on with the others
-abbrev pub taking : List Edge → (List Input → ℕ → List (List Symbol)) → ℕ → List Input → List (List Symbol)
+abbrev pub taking : List Edge → (List Input → ℕ → List (List Symbol)) → ℕ → List Input →
+    List (List Symbol)
 taking edges go s [] = []
 taking edges go s (input ∷ inputs) = through (go inputs) (picked_from edges (Some input) s)
 
--- what the paths of fewer edges than this number write from a state to a final one, where their left sides fit the inputs
+-- what the paths of fewer edges than this number write from a state to a final one, where their
+-- left sides fit the inputs
 abbrev pub words_from : Machine → ℕ → List Input → ℕ → List (List Symbol)
 words_from m zero inputs s = []
-words_from m (suc n) inputs s = ended m.finals s inputs ++ (through (words_from m n inputs) (picked_from m.edges None s) ++ taking m.edges (words_from m n) s inputs)
+words_from m (suc n) inputs s =
+    ended m.finals s inputs ++ (through (words_from m n inputs) (picked_from m.edges None s)
+    ++ taking m.edges (words_from m n) s inputs)
 
--- So many edges are enough: without a cycle of edges with an empty left side fewer than all states follow one another by such
--- edges, before each input and after the last.
+-- So many edges are enough: without a cycle of edges with an empty left side fewer than all states
+-- follow one another by such edges, before each input and after the last.
 abbrev pub edges_enough : ℕ → List Input → ℕ
 edges_enough states [] = states
 edges_enough states (input ∷ inputs) = states + edges_enough states inputs
@@ -69,18 +76,20 @@ has_output m inputs = has_words (outputs m inputs)
 -- an edge that fits the first input leads on with the others
 abbrev pub takes_on : List Edge → (List Input → ℕ → Bool) → ℕ → List Input → Bool
 takes_on edges go s [] = true
-takes_on edges go s (input ∷ inputs) = list_any (λ e. go inputs e.to) (picked_from edges (Some input) s)
+takes_on edges go s (input ∷ inputs) =
+    list_any (λ e. go inputs e.to) (picked_from edges (Some input) s)
 
 -- from a state all these inputs are taken by a path of fewer edges than this number
 abbrev pub leads_on : List Edge → ℕ → List Input → ℕ → Bool
 leads_on edges zero inputs s = false
-leads_on edges (suc n) inputs s = takes_on edges (leads_on edges n) s inputs || list_any (λ e. leads_on edges n inputs e.to) (picked_from edges None s)
+leads_on edges (suc n) inputs s = takes_on edges (leads_on edges n) s inputs
+    || list_any (λ e. leads_on edges n inputs e.to) (picked_from edges None s)
 
 abbrev pub has_final : List ℕ → Bool
 has_final [] = false
 has_final (s ∷ finals) = true
 
--- In a trimmed transducer: the inputs fit a beginning of the left word of what it accepts. There each state leads on to a
--- final one, so a path that takes them is enough.
+-- In a trimmed transducer: the inputs fit a beginning of the left word of what it accepts. There
+-- each state leads on to a final one, so a path that takes them is enough.
 abbrev pub is_viable : Machine → List Input → Bool
 is_viable m inputs = has_final m.finals && leads_on m.edges (edges_enough m.states inputs) inputs 0

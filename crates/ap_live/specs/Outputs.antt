@@ -31,7 +31,8 @@ is_word_side (Some x) = is_word_symbol x
 abbrev pub WritesWords : Machine → Type 0
 WritesWords m = (e : Edge) → IsIn e m.edges → IsTrue (is_word_side e.label.right)
 
--- the side has no symbol, or a proper one: one that a word may hold, and where it is a tag, with the name of a tag
+-- the side has no symbol, or a proper one: one that a word may hold, and where it is a tag, with
+-- the name of a tag
 abbrev pub is_proper_side : Option Symbol → Bool
 is_proper_side None = true
 is_proper_side (Some x) = is_proper x

@@ -9,7 +9,8 @@ use Rattle.ap_fst.specs.declared.compiled.Kind2.{Kind2}
 use Rattle.ap_fst.specs.declared.label.Edge.{Edge}
 use Rattle.ap_live.specs.Lexicon.{Lexicon}
 
--- its symbols are proper, its letters are characters and so are those of its tags' names; every word of the program is so
+-- its symbols are proper, its letters are characters and so are those of its tags' names; every
+-- word of the program is so
 abbrev pub IsReadable : List Symbol → Type 0
 IsReadable word = AreProper word × AreCoded word
 

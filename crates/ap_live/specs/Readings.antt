@@ -12,8 +12,11 @@ carried sensitive seen word = if sensitive then word else carry_lem (case_of_lem
 
 -- the right words of any kind whose left word fits these symbols
 abbrev pub any_words : Lexicon → List Symbol → List (List Symbol)
-any_words lexicon symbols = lexicon.readings Standard symbols ++ (lexicon.readings Inconditional symbols ++ (lexicon.readings Postblank symbols ++ lexicon.readings Preblank symbols))
+any_words lexicon symbols = lexicon.readings Standard symbols
+    ++ (lexicon.readings Inconditional symbols
+    ++ (lexicon.readings Postblank symbols ++ lexicon.readings Preblank symbols))
 
 -- these right words with the case of what was seen, in order, each once
 abbrev pub carried_words : Lexicon → Bool → List Symbol → List Symbol → List (List Symbol)
-carried_words lexicon sensitive seen symbols = in_order (map (carried sensitive seen) (any_words lexicon symbols))
+carried_words lexicon sensitive seen symbols =
+    in_order (map (carried sensitive seen) (any_words lexicon symbols))

@@ -12,8 +12,11 @@ use Rattle.ap_live.specs.declared.rows.Row.{Row}
 -- these inputs lead from the start to a state
 pub data Reach (edges : List Edge) : List Input → ℕ → Type 0 where
   begin : {seen : List Input} {s : ℕ} → seen ≡ [] → s ≡ 0 → Reach edges seen s
-  silent : {seen : List Input} {s : ℕ} (f j : ℕ) → Picked edges None f s j → Reach edges seen f → Reach edges seen s
-  taken : {seen : List Input} {s : ℕ} (before : List Input) (input : Input) (f j : ℕ) → Picked edges (Some input) f s j → seen ≡ before ++ input ∷ [] → Reach edges before f → Reach edges seen s
+  silent : {seen : List Input} {s : ℕ} (f j : ℕ) → Picked edges None f s j → Reach edges seen f →
+      Reach edges seen s
+  taken : {seen : List Input} {s : ℕ} (before : List Input) (input : Input) (f j : ℕ) →
+      Picked edges (Some input) f s j → seen ≡ before ++ input ∷ [] → Reach edges before f →
+      Reach edges seen s
 
 -- An edge with an empty left side leads to a state after these inputs.
 pub record EntersSilently (edges : List Edge) (seen : List Input) (s j : ℕ) : Type 0 where
@@ -37,7 +40,8 @@ pub record IsRow (edges : List Edge) (seen : List Input) (row : Row) : Type 0 wh
   pub taken_sound : (a : Arrival) → IsIn a row.taken.items → EntersTaking edges seen a.to a.edge
   pub taken_complete : (s j : ℕ) → EntersTaking edges seen s j → IsIn (arrival s j) row.taken.items
   pub silent_sound : (a : Arrival) → IsIn a row.silent.items → EntersSilently edges seen a.to a.edge
-  pub silent_complete : (s j : ℕ) → EntersSilently edges seen s j → IsIn (arrival s j) row.silent.items
+  pub silent_complete : (s j : ℕ) → EntersSilently edges seen s j →
+      IsIn (arrival s j) row.silent.items
 
 -- a row with no state and no edge
 pub record IsVoid (row : Row) : Type 0 where
@@ -66,7 +70,8 @@ pub record IsFirst (edges : List Edge) (row : Row) : Type 0 where
   pub closed : Closed edges (0 ∷ []) [] row.states.items row.silent.items
 
 -- a row from the states of the last one
-pub record IsNext (edges : List Edge) (pick : Option Input) (last : List ℕ) (row : Row) : Type 0 where
+pub record IsNext (edges : List Edge) (pick : Option Input) (last : List ℕ)
+    (row : Row) : Type 0 where
   pub base : List ℕ
   pub taken : Spread edges pick last [] [] base row.taken.items
   pub closed : Closed edges base [] row.states.items row.silent.items
@@ -77,7 +82,8 @@ pub record Leads (edges : List Edge) (known : List Row) (link : Link) : Type 0 w
   pub row : Row
   pub last_at : slice_get known link.from ≡ Some last
   pub row_at : slice_get known link.to ≡ Some row
-  pub next : IsNext edges (Some (let input : Input = record { symbol = link.symbol; sensitive = link.sensitive } in input)) last.states.items row
+  pub next : IsNext edges (Some (let input : Input =
+      record { symbol = link.symbol; sensitive = link.sensitive } in input)) last.states.items row
 
 -- a known row is the one after so many inputs
 pub record Stands (rows known : List Row) (at number : ℕ) : Type 0 where
@@ -89,8 +95,10 @@ pub record Stands (rows known : List Row) (at number : ℕ) : Type 0 where
 abbrev pub Tells : List ℕ → Row → Type 0
 Tells finals row = IsTrue row.ends ↔ ((s : ℕ) × (IsIn s row.states.items × IsIn s finals))
 
--- Links between known rows lead as they say, the path has the numbers of the first rows, and rows say whether they end.
-pub record IsKnown (edges : List Edge) (finals : List ℕ) (rows known : List Row) (links : List Link) (path : List ℕ) : Type 0 where
+-- Links between known rows lead as they say, the path has the numbers of the first rows, and rows
+-- say whether they end.
+pub record IsKnown (edges : List Edge) (finals : List ℕ) (rows known : List Row) (links : List Link)
+    (path : List ℕ) : Type 0 where
   pub leads : (link : Link) → IsIn link links → Leads edges known link
   pub stands : (at number : ℕ) → slice_get path at ≡ Some number → Stands rows known at number
   pub told : (at : ℕ) (row : Row) → slice_get rows at ≡ Some row → Tells finals row
@@ -106,7 +114,8 @@ pub record IsLinked (links : List Link) (from : ℕ) (input : Input) (to : ℕ) 
   pub sensitive_is : link.sensitive ≡ input.sensitive
 
 -- The known row with this number comes after the last row by this input. All rows so far are known.
-pub record Follows (edges : List Edge) (rows known : List Row) (path : List ℕ) (input : Input) (to : ℕ) : Type 0 where
+pub record Follows (edges : List Edge) (rows known : List Row) (path : List ℕ) (input : Input)
+    (to : ℕ) : Type 0 where
   pub last : Row
   pub row : Row
   pub count : length path ≡ length rows
@@ -114,8 +123,8 @@ pub record Follows (edges : List Edge) (rows known : List Row) (path : List ℕ)
   pub row_at : slice_get known to ≡ Some row
   pub next : IsNext edges (Some input) last.states.items row
 
--- what is seen of a live set: its rows, the known rows with their links and the numbers of the first rows among them, and
--- whether the transducer has no final state
+-- what is seen of a live set: its rows, the known rows with their links and the numbers of the
+-- first rows among them, and whether the transducer has no final state
 pub record Lives : Type 0 where
   pub rows : List Row
   pub known : List Row

@@ -4,7 +4,8 @@ use Rattle.ap_fst.specs.declared.label.Edge.{Edge}
 -- The edges of this sort stand from this place on, and none of another sort between them.
 pub record IsRun (edges : List Edge) (sort : Edge → Type 0) (place : ℕ) : Type 0 where
   pub after : (j : ℕ) (e : Edge) → slice_get edges j ≡ Some e → sort e → place ≤ j
-  pub together : (j k : ℕ) (d e : Edge) → slice_get edges j ≡ Some d → slice_get edges k ≡ Some e → sort e → place ≤ j → j ≤ k → sort d
+  pub together : (j k : ℕ) (d e : Edge) → slice_get edges j ≡ Some d → slice_get edges k ≡ Some e →
+      sort e → place ≤ j → j ≤ k → sort d
 
 abbrev pub Leaves : ℕ → Edge → Type 0
 Leaves from e = e.from ≡ from

@@ -9,7 +9,8 @@ use Rattle.ap_live.specs.Rows.{Lives, IsLive}
 use Rattle.ap_live.specs.declared.live_sections.LiveSections.{LiveSections}
 use Rattle.ap_live.specs.declared.section_live.SectionLive.{SectionLive}
 
--- what is held of a section after these inputs: nothing, where it has no final state, or its live set
+-- what is held of a section after these inputs: nothing, where it has no final state, or its live
+-- set
 abbrev pub IsLiveIfAny : Machine → List Input → Option Lives → Type 0
 IsLiveIfAny m seen None = m.finals ≡ []
 IsLiveIfAny m seen (Some live) = IsLive m seen live
@@ -18,7 +19,8 @@ abbrev pub IsSectionLive : Machine → List Input → SectionLive → Type 0
 IsSectionLive m seen section = IsLiveIfAny m seen section.live
 
 -- what is held of the four sections after these symbols
-pub record AreLive (p : Parts) (sensitive : Bool) (symbols : List Symbol) (l : LiveSections) : Type 0 where
+pub record AreLive (p : Parts) (sensitive : Bool) (symbols : List Symbol)
+    (l : LiveSections) : Type 0 where
   pub standard_is : IsSectionLive p.standard (inputs_of sensitive symbols) l.standard
   pub inconditional_is : IsSectionLive p.inconditional (inputs_of sensitive symbols) l.inconditional
   pub postblank_is : IsSectionLive p.postblank (inputs_of sensitive symbols) l.postblank

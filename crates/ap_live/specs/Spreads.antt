@@ -57,31 +57,40 @@ HasLeftBelow edges left bound j = HasLeft edges left j × (j < bound)
 -- beside the input itself, the one symbol that fits it, or none
 pub record IsOther (input : Input) (other : Option Symbol) : Type 0 where
   pub fits : (x : Symbol) → other ≡ Some x → fits_lem input.sensitive x input.symbol ≡ true
-  pub only : (x : Symbol) → fits_lem input.sensitive x input.symbol ≡ true → (x ≡ input.symbol) ⊎ (other ≡ Some x)
+  pub only : (x : Symbol) → fits_lem input.sensitive x input.symbol ≡ true →
+      (x ≡ input.symbol) ⊎ (other ≡ Some x)
 
 -- what is added is reached by picked edges from one state, at the places that are seen
-pub record SpreadOne (edges : List Edge) (pick : Option Input) (from : ℕ) (seen : ℕ → Type 0) (states : List ℕ) (links : List Arrival) (states' : List ℕ) (links' : List Arrival) : Type 0 where
+pub record SpreadOne (edges : List Edge) (pick : Option Input) (from : ℕ) (seen : ℕ → Type 0)
+    (states : List ℕ) (links : List Arrival) (states' : List ℕ)
+    (links' : List Arrival) : Type 0 where
   pub more : List ℕ
   pub grown : states' ≡ states ++ more
   pub sound : (s : ℕ) → IsIn s more → (j : ℕ) × Picked edges pick from s j
-  pub complete : (s j : ℕ) → Picked edges pick from s j → seen j → IsIn s states' × IsIn (arrival s j) links'
-  pub links_sound : (a : Arrival) → IsIn a links' → IsIn a links ⊎ Picked edges pick from a.to a.edge
+  pub complete : (s j : ℕ) → Picked edges pick from s j → seen j →
+      IsIn s states' × IsIn (arrival s j) links'
+  pub links_sound : (a : Arrival) → IsIn a links' →
+      IsIn a links ⊎ Picked edges pick from a.to a.edge
   pub links_kept : (a : Arrival) → IsIn a links → IsIn a links'
   pub distinct : pick ≡ None → IsDistinct nat_eq states → IsDistinct nat_eq states'
 
 -- An edge that is picked leads from one of these states to a state.
-pub record PickedFrom (edges : List Edge) (pick : Option Input) (froms : List ℕ) (to j : ℕ) : Type 0 where
+pub record PickedFrom (edges : List Edge) (pick : Option Input) (froms : List ℕ)
+    (to j : ℕ) : Type 0 where
   pub from : ℕ
   pub listed : IsIn from froms
   pub picked : Picked edges pick from to j
 
 -- what is added is reached by picked edges from these states
-pub record Spread (edges : List Edge) (pick : Option Input) (froms states : List ℕ) (links : List Arrival) (states' : List ℕ) (links' : List Arrival) : Type 0 where
+pub record Spread (edges : List Edge) (pick : Option Input) (froms states : List ℕ)
+    (links : List Arrival) (states' : List ℕ) (links' : List Arrival) : Type 0 where
   pub more : List ℕ
   pub grown : states' ≡ states ++ more
   pub sound : (s : ℕ) → IsIn s more → (j : ℕ) × PickedFrom edges pick froms s j
-  pub complete : (s j : ℕ) → PickedFrom edges pick froms s j → IsIn s states' × IsIn (arrival s j) links'
-  pub links_sound : (a : Arrival) → IsIn a links' → IsIn a links ⊎ PickedFrom edges pick froms a.to a.edge
+  pub complete : (s j : ℕ) → PickedFrom edges pick froms s j →
+      IsIn s states' × IsIn (arrival s j) links'
+  pub links_sound : (a : Arrival) → IsIn a links' →
+      IsIn a links ⊎ PickedFrom edges pick froms a.to a.edge
   pub links_kept : (a : Arrival) → IsIn a links → IsIn a links'
   pub distinct : pick ≡ None → IsDistinct nat_eq states → IsDistinct nat_eq states'
 
@@ -91,6 +100,7 @@ pub data From (edges : List Edge) (base : List ℕ) : ℕ → Type 0 where
   onward : {s : ℕ} (f j : ℕ) → Picked edges None f s j → From edges base f → From edges base s
 
 -- all that is reached from these states so, with the edges
-pub record Closed (edges : List Edge) (base : List ℕ) (links : List Arrival) (states' : List ℕ) (links' : List Arrival) : Type 0 where
+pub record Closed (edges : List Edge) (base : List ℕ) (links : List Arrival) (states' : List ℕ)
+    (links' : List Arrival) : Type 0 where
   pub spread : Spread edges None states' base links states' links'
   pub sound : (s : ℕ) → IsIn s states' → From edges base s

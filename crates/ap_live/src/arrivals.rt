@@ -25,7 +25,8 @@ pub(crate) fn sort_arrivals(arrivals: &mut Vec<Arrival>)
 /// Where the arrivals at earlier states end, by halving.
 fn low_of(arrivals: &[Arrival], state: usize) -> usize
     requires { IsNonDecreasingBy arrival_to arrivals.now }
-    ensures point { IsPartitionPoint (λ a. nat_lt (arrival_to a) state ≡ true) (λ a. nat_lt (arrival_to a) state ≡ false) arrivals.now result }
+    ensures point { IsPartitionPoint (λ a. nat_lt (arrival_to a) state ≡ true)
+        (λ a. nat_lt (arrival_to a) state ≡ false) arrivals.now result }
     ensures bound { result ≤ length arrivals.now }
 {
     arrivals.partition_point(|a| a.to < state)
@@ -35,9 +36,11 @@ fn low_of(arrivals: &[Arrival], state: usize) -> usize
 /// than halving once more.
 fn high_of(arrivals: &[Arrival], state: usize, low: usize) -> usize
     requires order { IsNonDecreasingBy arrival_to arrivals.now }
-    requires point { IsPartitionPoint (λ a. nat_lt (arrival_to a) state ≡ true) (λ a. nat_lt (arrival_to a) state ≡ false) arrivals.now low }
+    requires point { IsPartitionPoint (λ a. nat_lt (arrival_to a) state ≡ true)
+        (λ a. nat_lt (arrival_to a) state ≡ false) arrivals.now low }
     requires bound { low ≤ length arrivals.now }
-    ensures point { IsPartitionPoint (λ a. nat_le (arrival_to a) state ≡ true) (λ a. nat_le (arrival_to a) state ≡ false) arrivals.now result }
+    ensures point { IsPartitionPoint (λ a. nat_le (arrival_to a) state ≡ true)
+        (λ a. nat_le (arrival_to a) state ≡ false) arrivals.now result }
     ensures bound { result ≤ length arrivals.now }
 {
     let mut high = low;

@@ -67,7 +67,8 @@ fn output_before(alloc: Global, edge: &Edge, back: Symbols, room: usize) -> Resu
 
 /// The item before an edge, where this is the output behind it.
 fn item_before(alloc: Global, edge: &Edge, back: Symbols, room: usize) -> Result<Item, Memory>
-    ensures { IfOk result (λ made. made ≡ record { state = edge.now.from; back = back ++ option_to_list edge.now.label.right }) }
+    ensures { IfOk result (λ made. made
+        ≡ record { state = edge.now.from; back = back ++ option_to_list edge.now.label.right }) }
 {
     let back = output_before(alloc, edge, back, room)?;
     Ok(Item {
@@ -93,7 +94,8 @@ fn edge_at(edges: &[Edge], at: usize) -> Option<&Edge>
 
 /// Whether an edge of this sort leads to the item's state, and is the one by which it was reached.
 fn leads(edge: &Edge, link: Arrival, item: &Item, silent: bool) -> bool
-    ensures { IsTrue result ↔ ((item.now.state ≡ edge.now.to) × (link.to ≡ edge.now.to) × (is_empty_side edge.now.label.left ≡ silent)) }
+    ensures { IsTrue result ↔ ((item.now.state ≡ edge.now.to) × (link.to ≡ edge.now.to)
+        × (is_empty_side edge.now.label.left ≡ silent)) }
 {
     edge.to == item.state && edge.to == link.to && is_silent(edge) == silent
 }
@@ -107,7 +109,8 @@ fn add_link(
     room: usize,
     found: &mut Items,
 ) -> Result<(), Memory>
-    ensures { OnOk result (AddsBack fst.now.edges false (link ∷ []) (item.now ∷ []) found.old found.new) }
+    ensures { OnOk result (AddsBack fst.now.edges false (link ∷ []) (item.now ∷ [])
+        found.old found.new) }
 {
     let Some(edge) = edge_at(fst.edges(), link.edge) else {
         return Ok(());
@@ -130,7 +133,8 @@ fn move_link(
     room: usize,
     found: &mut Items,
 ) -> Result<(), Memory>
-    ensures { OnOk result (AddsBack fst.now.edges false (link ∷ []) (item ∷ []) found.old found.new) }
+    ensures { OnOk result (AddsBack fst.now.edges false (link ∷ []) (item ∷ [])
+        found.old found.new) }
 {
     let Some(edge) = edge_at(fst.edges(), link.edge) else {
         return Ok(());
@@ -151,7 +155,8 @@ fn add_links(
     room: usize,
     found: &mut Items,
 ) -> Result<(), Memory>
-    ensures { OnOk result (AddsBack fst.now.edges false links.now (item.now ∷ []) found.old found.new) }
+    ensures { OnOk result (AddsBack fst.now.edges false links.now (item.now ∷ [])
+        found.old found.new) }
 {
     for link in links {
         add_link(alloc, fst, *link, item, room, found)?;
@@ -211,7 +216,8 @@ fn add_silent_link(
     items: &mut Items,
     at: usize,
 ) -> Result<(), Memory>
-    ensures { OnOk result ((item : Item) → slice_get items.old at ≡ Some item → AddsBack fst.now.edges true (link ∷ []) (item ∷ []) items.old items.new) }
+    ensures { OnOk result ((item : Item) → slice_get items.old at ≡ Some item →
+        AddsBack fst.now.edges true (link ∷ []) (item ∷ []) items.old items.new) }
 {
     let Some(edge) = edge_at(fst.edges(), link.edge) else {
         return Ok(());
@@ -236,7 +242,8 @@ fn add_silent_links(
     items: &mut Items,
     at: usize,
 ) -> Result<(), Memory>
-    ensures { OnOk result ((item : Item) → slice_get items.old at ≡ Some item → AddsBack fst.now.edges true links.now (item ∷ []) items.old items.new) }
+    ensures { OnOk result ((item : Item) → slice_get items.old at ≡ Some item →
+        AddsBack fst.now.edges true links.now (item ∷ []) items.old items.new) }
 {
     for link in links {
         add_silent_link(alloc, fst, *link, room, items, at)?;
@@ -254,7 +261,8 @@ fn add_before(
     at: usize,
 ) -> Result<(), Memory>
     requires { IsNonDecreasingBy arrival_to links.now }
-    ensures { OnOk result ((item : Item) → slice_get items.old at ≡ Some item → AddsBack fst.now.edges true links.now (item ∷ []) items.old items.new) }
+    ensures { OnOk result ((item : Item) → slice_get items.old at ≡ Some item →
+        AddsBack fst.now.edges true links.now (item ∷ []) items.old items.new) }
 {
     let Some(item) = items.get(at) else {
         return Ok(());
@@ -274,7 +282,8 @@ fn add_round(
 ) -> Result<(), Memory>
     requires order { IsNonDecreasingBy arrival_to links.now }
     requires there { from ≤ length items.old }
-    ensures { OnOk result (AddsBack fst.now.edges true links.now (drop from items.old) items.old items.new) }
+    ensures { OnOk result (AddsBack fst.now.edges true links.now (drop from items.old)
+        items.old items.new) }
 {
     let end = items.len();
     for at in from..end {
@@ -345,7 +354,8 @@ fn final_items(alloc: Global, fst: &Fst, states: &[usize]) -> Result<Items, Memo
 }
 
 fn add_start(backs: &mut Vec<Symbols>, item: Item) -> Result<(), Memory>
-    ensures { OnOk result ((back : List Symbol) → IsIn back backs.new.items ↔ (IsIn back backs.old.items ⊎ (record { state = 0; back = back } ≡ item))) }
+    ensures { OnOk result ((back : List Symbol) → IsIn back backs.new.items
+        ↔ (IsIn back backs.old.items ⊎ (record { state = 0; back = back } ≡ item))) }
 {
     let Item { state, back } = item;
     if state != 0 {
@@ -357,7 +367,8 @@ fn add_start(backs: &mut Vec<Symbols>, item: Item) -> Result<(), Memory>
 
 /// The outputs of the items at the start.
 fn at_start(alloc: Global, items: Vec<Item>) -> Result<Vec<Symbols>, Memory>
-    ensures { IfOk result (λ backs. (back : List Symbol) → IsIn back backs.items ↔ IsIn (record { state = 0; back = back }) items.items) }
+    ensures { IfOk result (λ backs. (back : List Symbol) →
+        IsIn back backs.items ↔ IsIn (record { state = 0; back = back }) items.items) }
 {
     let mut backs = Vec::with_capacity(alloc, items.len())?;
     for item in items {
@@ -371,8 +382,10 @@ fn outputs_back(alloc: Global, fst: &Fst, rows: &[HeldRow]) -> Result<Vec<Symbol
     requires no_cycle { HasNoEmptyCycle fst.now }
     requires writes { WritesWords fst.now }
     requires some { 0 < length rows.now }
-    ensures outputs { IfOk result (λ backs. (seen : List Input) → AreRows fst.now.edges seen rows.now → AreBacks fst.now seen backs.items) }
-    ensures words { IfOk result (λ backs. (back : List Symbol) → IsIn back backs.items → IsTrue (list_all is_word_symbol back)) }
+    ensures outputs { IfOk result (λ backs. (seen : List Input) →
+        AreRows fst.now.edges seen rows.now → AreBacks fst.now seen backs.items) }
+    ensures words { IfOk result (λ backs. (back : List Symbol) → IsIn back backs.items →
+        IsTrue (list_all is_word_symbol back)) }
 {
     let _ = fst.states();
     let mut at = rows.len() - 1;
@@ -395,8 +408,10 @@ fn outputs_back(alloc: Global, fst: &Fst, rows: &[HeldRow]) -> Result<Vec<Symbol
 pub(crate) fn backs_of(alloc: Global, fst: &Fst, rows: &[HeldRow]) -> Result<Vec<Symbols>, Memory>
     requires no_cycle { HasNoEmptyCycle fst.now }
     requires writes { WritesWords fst.now }
-    ensures outputs { IfOk result (λ backs. (seen : List Input) → AreRows fst.now.edges seen rows.now → AreBacks fst.now seen backs.items) }
-    ensures words { IfOk result (λ backs. (back : List Symbol) → IsIn back backs.items → IsTrue (list_all is_word_symbol back)) }
+    ensures outputs { IfOk result (λ backs. (seen : List Input) →
+        AreRows fst.now.edges seen rows.now → AreBacks fst.now seen backs.items) }
+    ensures words { IfOk result (λ backs. (back : List Symbol) → IsIn back backs.items →
+        IsTrue (list_all is_word_symbol back)) }
 {
     if rows.is_empty() {
         return Ok(Vec::new(alloc));

@@ -199,7 +199,8 @@ impl HeldRow {
 
 /// Whether the last row has no state.
 pub(crate) fn reaches_none(rows: &[HeldRow]) -> bool
-    ensures { (edges : List Edge) (seen : List Input) → AreRows edges seen rows.now → (IsTrue result ↔ ((s : ℕ) → Reach edges seen s → ⊥)) }
+    ensures { (edges : List Edge) (seen : List Input) → AreRows edges seen rows.now →
+        (IsTrue result ↔ ((s : ℕ) → Reach edges seen s → ⊥)) }
 {
     match rows.last() {
         None => true,
@@ -209,7 +210,9 @@ pub(crate) fn reaches_none(rows: &[HeldRow]) -> bool
 
 /// Whether the last row has a final state.
 pub(crate) fn ends_finally(rows: &[HeldRow]) -> bool
-    ensures { (m : Machine) (seen : List Input) → AreRows m.edges seen rows.now → ((at : ℕ) (row : Row) → slice_get rows.now at ≡ Some row → Tells m.finals row) → (IsTrue result ↔ ((s : ℕ) × (Reach m.edges seen s × IsIn s m.finals))) }
+    ensures { (m : Machine) (seen : List Input) → AreRows m.edges seen rows.now →
+        ((at : ℕ) (row : Row) → slice_get rows.now at ≡ Some row → Tells m.finals row) →
+        (IsTrue result ↔ ((s : ℕ) × (Reach m.edges seen s × IsIn s m.finals))) }
 {
     match rows.last() {
         None => false,

@@ -8,8 +8,8 @@ use ap_fst::{Edge, Fst};
 use ap_symbol::Memory;
 use std::alloc::Global;
 
-/// A state that at most so many edges leave has few: they stand side by side, so that to go over them
-/// is faster than to halve over all edges.
+/// A state that at most so many edges leave has few: they stand side by side, so that to go over
+/// them is faster than to halve over all edges.
 const FEW: usize = 8;
 
 /// Lengthens hints to so many, by this place.
@@ -39,7 +39,8 @@ pub(crate) fn hints_of(alloc: Global, fst: &Fst) -> Result<Vec<usize>, Memory> {
 /// Whether the edges before this place leave smaller states.
 fn is_behind_smaller(edges: &[Edge], place: usize, from: usize) -> bool
     requires { IsNonDecreasingBy edge_from edges.now }
-    ensures { IsTrue result → (j : ℕ) (e : Edge) → slice_get edges.now j ≡ Some e → j < place → e.from < from }
+    ensures { IsTrue result → (j : ℕ) (e : Edge) → slice_get edges.now j ≡ Some e → j < place →
+        e.from < from }
 {
     if place == 0 {
         return true;
@@ -53,7 +54,8 @@ fn is_behind_smaller(edges: &[Edge], place: usize, from: usize) -> bool
 /// Whether the edges from this place on leave no smaller states.
 fn is_before_others(edges: &[Edge], place: usize, from: usize) -> bool
     requires { IsNonDecreasingBy edge_from edges.now }
-    ensures { IsTrue result → (j : ℕ) (e : Edge) → slice_get edges.now j ≡ Some e → place ≤ j → from ≤ e.from }
+    ensures { IsTrue result → (j : ℕ) (e : Edge) → slice_get edges.now j ≡ Some e → place ≤ j →
+        from ≤ e.from }
 {
     if edges.len() <= place {
         return true;
@@ -85,8 +87,8 @@ pub(crate) fn first_edge(fst: &Fst, hints: &[usize], from: usize) -> usize
     first
 }
 
-/// Whether more than a few edges seem to leave a state, by the hint for the next one. Where there is
-/// none it is taken that they do.
+/// Whether more than a few edges seem to leave a state, by the hint for the next one. Where there
+/// is none it is taken that they do.
 pub(crate) fn has_many(hints: &[usize], from: usize, first: usize) -> bool {
     match hints.get(from.saturating_add(1)) {
         None => true,

@@ -27,8 +27,8 @@ pub struct Item {
 /// Items, of which an equal one isn't added again. Contracts see the list.
 ///
 /// Where there are more than a few, each has its slot: the first that was free from its code on. A
-/// slot has one more than the item's place, or 0. It is checked when it is used, so that a wrong one
-/// costs time alone.
+/// slot has one more than the item's place, or 0. It is checked when it is used, so that a wrong
+/// one costs time alone.
 #[derive(Debug, Drop)]
 pub(crate) struct Items {
     list: Vec<Item>,

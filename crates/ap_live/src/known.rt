@@ -16,8 +16,9 @@ use std::alloc::Global;
 /// dictionary take 32 MiB at most. Where a row would go beyond, it and later ones aren't kept.
 const MOST_BYTES: usize = 8 * 1_024 * 1_024;
 
-/// So many bytes a known row takes beside the room of its lists: it is 96 bytes itself, and its place
-/// among the rows, its head and its link are 80, in lists that may have room for as many again.
+/// So many bytes a known row takes beside the room of its lists: it is 96 bytes itself, and its
+/// place among the rows, its head and its link are 80, in lists that may have room for as many
+/// again.
 const ROW_BYTES: usize = 256;
 
 /// A row that has fewer states and edges than this, together with the row that it is computed from,
@@ -40,9 +41,9 @@ pub struct Link {
 /// Rows that were computed, and which leads to which: so much of the transducer as a deterministic
 /// one as inputs have asked for.
 ///
-/// `path` has the numbers of the rows so far, as long as these are known. `heads` has for each known
-/// row one more than the place of its last link, or 0. `bytes` counts what all of it takes: the room of
-/// each known row's lists, and `ROW_BYTES` for each known row.
+/// `path` has the numbers of the rows so far, as long as these are known. `heads` has for each
+/// known row one more than the place of its last link, or 0. `bytes` counts what all of it takes:
+/// the room of each known row's lists, and `ROW_BYTES` for each known row.
 #[derive(Debug, Drop)]
 pub struct Known {
     pub rows: Vec<SharedRow>,
@@ -67,7 +68,8 @@ pub(crate) fn nothing_known(alloc: Global) -> Known
 }
 
 fn is_link(link: &Link, from: usize, input: &Symbol, sensitive: bool) -> bool
-    ensures { IsTrue result → (link.now.from ≡ from) × (link.now.sensitive ≡ sensitive) × (link.now.symbol ≡ input.now) }
+    ensures { IsTrue result → (link.now.from ≡ from) × (link.now.sensitive ≡ sensitive)
+        × (link.now.symbol ≡ input.now) }
 {
     link.from == from && link.sensitive == sensitive && is_symbol(&link.symbol, input)
 }
@@ -80,7 +82,8 @@ fn chained(
     input: &Symbol,
     sensitive: bool,
 ) -> Option<usize>
-    ensures { (to : ℕ) → result ≡ Some to → IsLinked links.now from (record { symbol = input.now; sensitive = sensitive }) to }
+    ensures { (to : ℕ) → result ≡ Some to →
+        IsLinked links.now from (record { symbol = input.now; sensitive = sensitive }) to }
 {
     let mut at = head;
     'chain: while 0 < at && at <= links.len() {
@@ -105,7 +108,9 @@ fn head_of(heads: &[usize], from: usize) -> usize {
 
 /// Where this input leads from this row, by the links of the row.
 fn linked(known: &Known, from: usize, input: &Symbol, sensitive: bool) -> Option<usize>
-    ensures { (to : ℕ) → result ≡ Some to → IsLinked known.now.links.items from (record { symbol = input.now; sensitive = sensitive }) to }
+    ensures { (to : ℕ) → result ≡ Some to →
+        IsLinked known.now.links.items from
+        (record { symbol = input.now; sensitive = sensitive }) to }
 {
     let head = head_of(known.heads.as_slice(), from);
     chained(known.links.as_slice(), head, from, input, sensitive)
@@ -113,8 +118,11 @@ fn linked(known: &Known, from: usize, input: &Symbol, sensitive: bool) -> Option
 
 /// The number of the known row that this input leads to from the last of so many rows.
 fn find(known: &Known, count: usize, input: &Symbol, sensitive: bool) -> Option<usize>
-    ensures { (edges : List Edge) (finals : List ℕ) (rows : List Row) (to : ℕ) → result ≡ Some to → count ≡ length rows → IsKnown edges finals rows known.now.rows.items known.now.links.items known.now.path.items
-        → Follows edges rows known.now.rows.items known.now.path.items (record { symbol = input.now; sensitive = sensitive }) to }
+    ensures { (edges : List Edge) (finals : List ℕ) (rows : List Row) (to : ℕ) → result ≡ Some to →
+        count ≡ length rows → IsKnown edges finals rows known.now.rows.items known.now.links.items
+        known.now.path.items
+        → Follows edges rows known.now.rows.items known.now.path.items
+        (record { symbol = input.now; sensitive = sensitive }) to }
 {
     if known.path.as_slice().len() != count {
         return None;
@@ -133,10 +141,19 @@ fn row_at(rows: &[SharedRow], at: usize) -> Option<&SharedRow>
 
 /// Adds a known row. After a refusal nothing is changed.
 fn add_known(rows: &mut Rows, known: &mut Known, to: usize) -> Result<(), Memory>
-    ensures ok { OnOk result ((edges : List Edge) (finals : List ℕ) (seen : List Input) (input : Input) → AreRows edges seen rows.old → IsKnown edges finals rows.old known.old.rows.items known.old.links.items known.old.path.items
+    ensures ok { OnOk result
+        ((edges : List Edge) (finals : List ℕ) (seen : List Input) (input : Input) →
+        AreRows edges seen rows.old →
+        IsKnown edges finals rows.old known.old.rows.items known.old.links.items
+        known.old.path.items
         → Follows edges rows.old known.old.rows.items known.old.path.items input to
-        → AreRows edges (seen ++ input ∷ []) rows.new × IsKnown edges finals rows.new known.new.rows.items known.new.links.items known.new.path.items) }
-    ensures err { OnErr result ((rows.new ≡ rows.old) × (known.new.rows.items ≡ known.old.rows.items) × (known.new.links.items ≡ known.old.links.items) × (known.new.path.items ≡ known.old.path.items)) }
+        → AreRows edges (seen ++ input ∷ []) rows.new
+        × IsKnown edges finals rows.new known.new.rows.items known.new.links.items
+        known.new.path.items) }
+    ensures err { OnErr result
+        ((rows.new ≡ rows.old) × (known.new.rows.items ≡ known.old.rows.items)
+        × (known.new.links.items ≡ known.old.links.items)
+        × (known.new.path.items ≡ known.old.path.items)) }
 {
     let Some(row) = row_at(known.rows.as_slice(), to) else {
         return Ok(());
@@ -167,7 +184,8 @@ fn is_cheap(rows: &[HeldRow]) -> bool {
 
 /// The row at a place, if it is there and shared.
 fn shared_at(rows: &[HeldRow], at: usize) -> Result<Option<SharedRow>, Memory>
-    ensures { IfOk result (λ made. (row : Row) → made ≡ Some row → slice_get rows.now at ≡ Some row) }
+    ensures { IfOk result (λ made. (row : Row) → made ≡ Some row →
+        slice_get rows.now at ≡ Some row) }
 {
     match rows.get(at) {
         None => Ok(None),
@@ -177,7 +195,10 @@ fn shared_at(rows: &[HeldRow], at: usize) -> Result<Option<SharedRow>, Memory>
 
 /// Begins with the first row, where nothing is known.
 fn plant(known: &mut Known, rows: &[HeldRow]) -> Result<(), Memory>
-    ensures { (edges : List Edge) (finals : List ℕ) → IsKnown edges finals rows.now known.old.rows.items known.old.links.items known.old.path.items → IsKnown edges finals rows.now known.new.rows.items known.new.links.items known.new.path.items }
+    ensures { (edges : List Edge) (finals : List ℕ) →
+        IsKnown edges finals rows.now known.old.rows.items known.old.links.items
+        known.old.path.items → IsKnown edges finals rows.now known.new.rows.items
+        known.new.links.items known.new.path.items }
 {
     if !known.rows.as_slice().is_empty() || !known.path.as_slice().is_empty() {
         return Ok(());
@@ -207,9 +228,14 @@ fn keep(
     input: &Symbol,
     sensitive: bool,
 ) -> Result<(), Memory>
-    ensures { (edges : List Edge) (finals : List ℕ) (rows : List Row) (last : Row) → slice_get known.old.rows.items from ≡ Some last → slice_get rows (length known.old.path.items) ≡ Some row
-        → IsNext edges (Some (record { symbol = input.now; sensitive = sensitive })) last.states.items row
-        → IsKnown edges finals rows known.old.rows.items known.old.links.items known.old.path.items → IsKnown edges finals rows known.new.rows.items known.new.links.items known.new.path.items }
+    ensures { (edges : List Edge) (finals : List ℕ) (rows : List Row) (last : Row) →
+        slice_get known.old.rows.items from ≡ Some last →
+        slice_get rows (length known.old.path.items) ≡ Some row
+        → IsNext edges (Some (record { symbol = input.now; sensitive = sensitive }))
+        last.states.items row
+        → IsKnown edges finals rows known.old.rows.items known.old.links.items known.old.path.items
+        → IsKnown edges finals rows known.new.rows.items known.new.links.items
+        known.new.path.items }
 {
     let to = known.rows.as_slice().len();
     known.bytes = known
@@ -245,9 +271,13 @@ fn remember(
     sensitive: bool,
 ) -> Result<(), Memory>
     ensures same { rows.new ≡ rows.old }
-    ensures known { (edges : List Edge) (finals : List ℕ) (before : List Row) (last row : Row) → rows.old ≡ before ++ row ∷ [] → slice_get before (length before - 1) ≡ Some last
-        → IsNext edges (Some (record { symbol = input.now; sensitive = sensitive })) last.states.items row
-        → IsKnown edges finals rows.old known.old.rows.items known.old.links.items known.old.path.items → IsKnown edges finals rows.old known.new.rows.items known.new.links.items known.new.path.items }
+    ensures known { (edges : List Edge) (finals : List ℕ) (before : List Row) (last row : Row) →
+        rows.old ≡ before ++ row ∷ [] → slice_get before (length before - 1) ≡ Some last
+        → IsNext edges (Some (record { symbol = input.now; sensitive = sensitive }))
+        last.states.items row
+        → IsKnown edges finals rows.old known.old.rows.items known.old.links.items
+        known.old.path.items → IsKnown edges finals rows.old known.new.rows.items
+        known.new.links.items known.new.path.items }
 {
     let end = rows.len().saturating_sub(1);
     if known.path.as_slice().len() != end {
@@ -276,9 +306,16 @@ fn add_new(
     input: &Symbol,
     sensitive: bool,
 ) -> Result<(), Memory>
-    ensures ok { OnOk result ((seen : List Input) → AreRows fst.now.edges seen rows.old → IsKnown fst.now.edges fst.now.finals rows.old known.old.rows.items known.old.links.items known.old.path.items
-        → AreRows fst.now.edges (seen ++ record { symbol = input.now; sensitive = sensitive } ∷ []) rows.new × IsKnown fst.now.edges fst.now.finals rows.new known.new.rows.items known.new.links.items known.new.path.items) }
-    ensures err { OnErr result ((rows.new ≡ rows.old) × (known.new.rows.items ≡ known.old.rows.items) × (known.new.links.items ≡ known.old.links.items) × (known.new.path.items ≡ known.old.path.items)) }
+    ensures ok { OnOk result ((seen : List Input) → AreRows fst.now.edges seen rows.old →
+        IsKnown fst.now.edges fst.now.finals rows.old known.old.rows.items known.old.links.items
+        known.old.path.items
+        → AreRows fst.now.edges (seen ++ record { symbol = input.now; sensitive = sensitive } ∷ [])
+        rows.new × IsKnown fst.now.edges fst.now.finals rows.new known.new.rows.items
+        known.new.links.items known.new.path.items) }
+    ensures err { OnErr result
+        ((rows.new ≡ rows.old) × (known.new.rows.items ≡ known.old.rows.items)
+        × (known.new.links.items ≡ known.old.links.items)
+        × (known.new.path.items ≡ known.old.path.items)) }
 {
     let pick = Pick::Fitting(input, sensitive);
     rows.push_next(fst, hints, pick)?;
@@ -297,9 +334,16 @@ pub(crate) fn add_row(
     input: &Symbol,
     sensitive: bool,
 ) -> Result<(), Memory>
-    ensures ok { OnOk result ((seen : List Input) → AreRows fst.now.edges seen rows.old → IsKnown fst.now.edges fst.now.finals rows.old known.old.rows.items known.old.links.items known.old.path.items
-        → AreRows fst.now.edges (seen ++ record { symbol = input.now; sensitive = sensitive } ∷ []) rows.new × IsKnown fst.now.edges fst.now.finals rows.new known.new.rows.items known.new.links.items known.new.path.items) }
-    ensures err { OnErr result ((rows.new ≡ rows.old) × (known.new.rows.items ≡ known.old.rows.items) × (known.new.links.items ≡ known.old.links.items) × (known.new.path.items ≡ known.old.path.items)) }
+    ensures ok { OnOk result ((seen : List Input) → AreRows fst.now.edges seen rows.old →
+        IsKnown fst.now.edges fst.now.finals rows.old known.old.rows.items known.old.links.items
+        known.old.path.items
+        → AreRows fst.now.edges (seen ++ record { symbol = input.now; sensitive = sensitive } ∷ [])
+        rows.new × IsKnown fst.now.edges fst.now.finals rows.new known.new.rows.items
+        known.new.links.items known.new.path.items) }
+    ensures err { OnErr result
+        ((rows.new ≡ rows.old) × (known.new.rows.items ≡ known.old.rows.items)
+        × (known.new.links.items ≡ known.old.links.items)
+        × (known.new.path.items ≡ known.old.path.items)) }
 {
     match find(known, rows.len(), input, sensitive) {
         None => add_new(rows, known, fst, hints, input, sensitive),
@@ -320,11 +364,16 @@ fn forget(known: &mut Known)
     known.bytes = 0;
 }
 
-/// Goes back to the rows of the first so many inputs. At none of them known rows are forgotten where
-/// these are too many.
+/// Goes back to the rows of the first so many inputs. At none of them known rows are forgotten
+/// where these are too many.
 pub(crate) fn cut_rows(rows: &mut Rows, known: &mut Known, len: usize)
-    ensures { (edges : List Edge) (finals : List ℕ) (seen : List Input) → AreRows edges seen rows.old → IsKnown edges finals rows.old known.old.rows.items known.old.links.items known.old.path.items
-        → AreRows edges (take len seen) rows.new × IsKnown edges finals rows.new known.new.rows.items known.new.links.items known.new.path.items }
+    ensures { (edges : List Edge) (finals : List ℕ) (seen : List Input) →
+        AreRows edges seen rows.old →
+        IsKnown edges finals rows.old known.old.rows.items known.old.links.items
+        known.old.path.items
+        → AreRows edges (take len seen) rows.new
+        × IsKnown edges finals rows.new known.new.rows.items known.new.links.items
+        known.new.path.items }
 {
     if rows.len() <= len {
         return;

@@ -17,10 +17,14 @@ use ap_symbol::one_rendering;
 /// edges with an empty left side each such word is there where right sides are proper; and in any
 /// case there is an output where there is such a word.
 pub fn outputs_law()
-    ensures order { (m : Machine) (seen : List Input) → IsStrictlySortedBy word_cmp (outputs m seen) }
-    ensures sound { (m : Machine) (seen : List Input) (w : List Symbol) → IsIn w (outputs m seen) → IsOutput m seen w }
-    ensures exact { (m : Machine) (seen : List Input) (w : List Symbol) → IsMachine m → HasNoEmptyCycle m → WritesProper m → (IsIn w (outputs m seen) ↔ IsOutput m seen w) }
-    ensures some { (m : Machine) (seen : List Input) → IsMachine m → HasNoEmptyCycle m → (IsTrue (has_output m seen) ↔ ((w : List Symbol) × IsOutput m seen w)) }
+    ensures order { (m : Machine) (seen : List Input) →
+        IsStrictlySortedBy word_cmp (outputs m seen) }
+    ensures sound { (m : Machine) (seen : List Input) (w : List Symbol) → IsIn w (outputs m seen) →
+        IsOutput m seen w }
+    ensures exact { (m : Machine) (seen : List Input) (w : List Symbol) → IsMachine m →
+        HasNoEmptyCycle m → WritesProper m → (IsIn w (outputs m seen) ↔ IsOutput m seen w) }
+    ensures some { (m : Machine) (seen : List Input) → IsMachine m → HasNoEmptyCycle m →
+        (IsTrue (has_output m seen) ↔ ((w : List Symbol) × IsOutput m seen w)) }
 {
     one_rendering();
 }
@@ -28,5 +32,6 @@ pub fn outputs_law()
 /// The law of beginnings. In a trimmed transducer without a cycle of edges with an empty left side
 /// inputs are viable exactly where they fit a beginning of the left word of an accepted label list.
 pub fn viable_law()
-    ensures { (m : Machine) (seen : List Input) → IsMachine m → HasNoEmptyCycle m → IsTrimmed m → (IsTrue (is_viable m seen) ↔ FitBeginning m seen) }
+    ensures { (m : Machine) (seen : List Input) → IsMachine m → HasNoEmptyCycle m → IsTrimmed m →
+        (IsTrue (is_viable m seen) ↔ FitBeginning m seen) }
 {}

@@ -1,6 +1,6 @@
 //! Live sets: the states of a transducer that the inputs so far lead to, and the outputs of the
-//! paths that lead on to a final state; those of the four sections of a compiled dictionary, and the
-//! lexicon that they are of.
+//! paths that lead on to a final state; those of the four sections of a compiled dictionary, and
+//! the lexicon that they are of.
 #![tactic(auto)]
 
 mod arrivals;

@@ -43,7 +43,14 @@ impl Model for Live {
 
     ghost Value = { Lives };
 
-    ghost view = { λ l. record { rows = l.rows; known = l.known.rows.items; links = l.known.links.items; path = l.known.path.items; is_void = l.is_void } };
+    ghost view = { λ l. record {
+      rows = l.rows;
+      known = l.known.rows.items;
+      links =
+          l.known.links.items;
+      path = l.known.path.items;
+      is_void = l.is_void;
+    } };
 }
 
 fn has_no_final(fst: &Fst) -> bool
@@ -58,7 +65,8 @@ impl Live {
     ghost use Rattle.ap_live.specs.Outputs.{IsOutput, FitBeginning, WritesWords};
     ghost use Rattle.ap_live.specs.Found.{outputs, has_output, is_viable};
 
-    /// What no input reaches: the start, and all that edges with an empty left side lead to from it.
+    /// What no input reaches: the start, and all that edges with an empty left side lead to from
+    /// it.
     pub fn start(alloc: Global, fst: &Fst) -> Result<Live, Memory>
         ensures { IfOk result (λ live. IsLive fst.now [] live) }
     {
@@ -77,7 +85,9 @@ impl Live {
     /// then over those with an empty left side. `sensitive` says whether case counts at this step.
     /// After a refusal, which means want of memory, it is unchanged.
     pub fn step(&mut self, fst: &Fst, input: &Symbol, sensitive: bool) -> Result<(), Memory>
-        ensures ok { OnOk result ((seen : List Input) → IsLive fst.now seen self.old → IsLive fst.now (seen ++ record { symbol = input.now; sensitive = sensitive } ∷ []) self.new) }
+        ensures ok { OnOk result ((seen : List Input) → IsLive fst.now seen self.old →
+            IsLive fst.now (seen ++ record { symbol = input.now; sensitive = sensitive }
+            ∷ []) self.new) }
         ensures err { OnErr result (self.new ≡ self.old) }
     {
         let hints = self.hints.as_slice();
@@ -93,13 +103,15 @@ impl Live {
 
     /// The outputs of the inputs so far, for the same transducer, which has no cycle of edges with
     /// an empty left side and no white-space letter on a right side: the right words of exactly the
-    /// accepted label lists whose left word fits the inputs, ascending by their rendered bytes, each
-    /// once.
+    /// accepted label lists whose left word fits the inputs, ascending by their rendered bytes,
+    /// each once.
     pub fn finals(&self, alloc: Global, fst: &Fst) -> Result<Words, Memory>
         requires no_cycle { HasNoEmptyCycle fst.now }
         requires writes { WritesWords fst.now }
-        ensures found { IfOk result (λ words. (seen : List Input) → IsLive fst.now seen self.now → words ≡ outputs fst.now seen) }
-        ensures outputs { IfOk result (λ words. (seen : List Input) → IsLive fst.now seen self.now → (output : List Symbol) → IsIn output words ↔ IsOutput fst.now seen output) }
+        ensures found { IfOk result (λ words. (seen : List Input) → IsLive fst.now seen self.now →
+            words ≡ outputs fst.now seen) }
+        ensures outputs { IfOk result (λ words. (seen : List Input) → IsLive fst.now seen self.now →
+            (output : List Symbol) → IsIn output words ↔ IsOutput fst.now seen output) }
         ensures order { IfOk result (λ words. IsStrictlySortedBy word_cmp words) }
     {
         let _ = fst.states();
@@ -111,8 +123,10 @@ impl Live {
     /// Whether `finals` would give a word: whether an accepted label list has a left word that fits
     /// the inputs so far. It makes no word and takes no memory.
     pub fn accepts(&self, fst: &Fst) -> bool
-        ensures some { (seen : List Input) → IsLive fst.now seen self.now → (IsTrue result ↔ ((output : List Symbol) × IsOutput fst.now seen output)) }
-        ensures found { (seen : List Input) → HasNoEmptyCycle fst.now → IsLive fst.now seen self.now → result ≡ has_output fst.now seen }
+        ensures some { (seen : List Input) → IsLive fst.now seen self.now →
+            (IsTrue result ↔ ((output : List Symbol) × IsOutput fst.now seen output)) }
+        ensures found { (seen : List Input) → HasNoEmptyCycle fst.now → IsLive fst.now seen self.now
+            → result ≡ has_output fst.now seen }
     {
         let _ = fst.states();
         ends_finally(self.rows.as_slice())
@@ -120,7 +134,8 @@ impl Live {
 
     /// The number of inputs so far.
     pub fn len(&self) -> usize
-        ensures { (m : Machine) (seen : List Input) → IsLive m seen self.now → result ≡ length seen }
+        ensures { (m : Machine) (seen : List Input) → IsLive m seen self.now →
+            result ≡ length seen }
     {
         self.rows.len().saturating_sub(1)
     }
@@ -128,16 +143,19 @@ impl Live {
     /// Goes back to the first so many inputs; where there are no more, nothing changes. 0 makes it
     /// what `start` gave. It takes no memory.
     pub fn cut(&mut self, len: usize)
-        ensures { (m : Machine) (seen : List Input) → IsLive m seen self.old → IsLive m (take len seen) self.new }
+        ensures { (m : Machine) (seen : List Input) → IsLive m seen self.old →
+            IsLive m (take len seen) self.new }
     {
         cut_rows(&mut self.rows, &mut self.known, len);
     }
 
-    /// Whether the inputs fit no beginning of the left word of an accepted label list. This is exact
-    /// for a trimmed transducer, which is the same throughout. It takes no memory.
+    /// Whether the inputs fit no beginning of the left word of an accepted label list. This is
+    /// exact for a trimmed transducer, which is the same throughout. It takes no memory.
     pub fn is_dead(&self) -> bool
-        ensures none { (m : Machine) (seen : List Input) → IsMachine m → IsTrimmed m → IsLive m seen self.now → (IsTrue result ↔ (FitBeginning m seen → ⊥)) }
-        ensures found { (m : Machine) (seen : List Input) → IsMachine m → HasNoEmptyCycle m → IsTrimmed m → IsLive m seen self.now → result ≡ not (is_viable m seen) }
+        ensures none { (m : Machine) (seen : List Input) → IsMachine m → IsTrimmed m →
+            IsLive m seen self.now → (IsTrue result ↔ (FitBeginning m seen → ⊥)) }
+        ensures found { (m : Machine) (seen : List Input) → IsMachine m → HasNoEmptyCycle m →
+            IsTrimmed m → IsLive m seen self.now → result ≡ not (is_viable m seen) }
     {
         self.is_void || reaches_none(self.rows.as_slice())
     }

@@ -7,8 +7,8 @@ use ap_fst::{Compiled, Kind2};
 use ap_symbol::{Memory, Symbol, Words};
 use std::alloc::Global;
 
-/// What the symbols so far reach in each of the four sections of a compiled dictionary, which is the same throughout. Only
-/// sections that accept something are stepped.
+/// What the symbols so far reach in each of the four sections of a compiled dictionary, which is
+/// the same throughout. Only sections that accept something are stepped.
 #[derive(Drop)]
 pub struct LiveSections {
     standard: SectionLive,
@@ -32,7 +32,8 @@ impl LiveSections {
 
     /// What no symbol reaches. The error means want of memory.
     pub fn start(alloc: Global, compiled: &Compiled) -> Result<LiveSections, Memory>
-        ensures { IfOk result (λ lives. (sensitive : Bool) → AreLive compiled.now sensitive [] lives) }
+        ensures { IfOk result (λ lives. (sensitive : Bool) →
+            AreLive compiled.now sensitive [] lives) }
     {
         Ok(LiveSections {
             standard: SectionLive::start(alloc, compiled.section(Kind2::Standard))?,
@@ -42,15 +43,20 @@ impl LiveSections {
         })
     }
 
-    /// Goes on by a symbol. After a refusal, which means want of memory, the symbols so far are the same.
+    /// Goes on by a symbol. After a refusal, which means want of memory, the symbols so far are the
+    /// same.
     pub fn step(
         &mut self,
         compiled: &Compiled,
         input: &Symbol,
         sensitive: bool,
     ) -> Result<(), Memory>
-        ensures ok { OnOk result ((symbols : List Symbol) → AreLive compiled.now sensitive symbols self.old → AreLive compiled.now sensitive (symbols ++ input.now ∷ []) self.new) }
-        ensures err { OnErr result ((symbols : List Symbol) → AreLive compiled.now sensitive symbols self.old → AreLive compiled.now sensitive symbols self.new) }
+        ensures ok { OnOk result ((symbols : List Symbol) →
+            AreLive compiled.now sensitive symbols self.old →
+            AreLive compiled.now sensitive (symbols ++ input.now ∷ []) self.new) }
+        ensures err { OnErr result ((symbols : List Symbol) →
+            AreLive compiled.now sensitive symbols self.old →
+            AreLive compiled.now sensitive symbols self.new) }
     {
         let standard = self
             .standard
@@ -76,7 +82,9 @@ impl LiveSections {
 
     /// Whether the symbols so far fit no beginning of a left word of any section.
     pub fn is_dead(&self, compiled: &Compiled) -> bool
-        ensures { (sensitive : Bool) (symbols : List Symbol) → AreLive compiled.now sensitive symbols self.now → result ≡ not (viable_in compiled.now sensitive symbols) }
+        ensures { (sensitive : Bool) (symbols : List Symbol) →
+            AreLive compiled.now sensitive symbols self.now →
+            result ≡ not (viable_in compiled.now sensitive symbols) }
     {
         let _ = compiled.alphabet();
         let standard = self.standard.is_dead();
@@ -88,7 +96,9 @@ impl LiveSections {
 
     /// What is reached in a section.
     fn section(&self, kind: Kind2) -> &SectionLive
-        ensures { (p : Parts) (sensitive : Bool) (symbols : List Symbol) → AreLive p sensitive symbols self.now → IsSectionLive (section_of p kind) (inputs_of sensitive symbols) result.now }
+        ensures { (p : Parts) (sensitive : Bool) (symbols : List Symbol) →
+            AreLive p sensitive symbols self.now →
+            IsSectionLive (section_of p kind) (inputs_of sensitive symbols) result.now }
     {
         match kind {
             Kind2::Standard => &self.standard,
@@ -100,14 +110,18 @@ impl LiveSections {
 
     /// Whether some entry of that kind reads the symbols so far. It makes no word.
     pub fn reads(&self, compiled: &Compiled, kind: Kind2) -> bool
-        ensures { (sensitive : Bool) (symbols : List Symbol) → AreLive compiled.now sensitive symbols self.now → result ≡ has_words ((lexicon_of compiled.now sensitive).readings kind symbols) }
+        ensures { (sensitive : Bool) (symbols : List Symbol) →
+            AreLive compiled.now sensitive symbols self.now →
+            result ≡ has_words ((lexicon_of compiled.now sensitive).readings kind symbols) }
     {
         self.section(kind).reads(compiled.section(kind))
     }
 
     /// Whether some entry of any kind reads the symbols so far. It makes no word.
     pub fn reads_any(&self, compiled: &Compiled) -> bool
-        ensures { (sensitive : Bool) (symbols : List Symbol) → AreLive compiled.now sensitive symbols self.now → result ≡ has_words (any_words (lexicon_of compiled.now sensitive) symbols) }
+        ensures { (sensitive : Bool) (symbols : List Symbol) →
+            AreLive compiled.now sensitive symbols self.now →
+            result ≡ has_words (any_words (lexicon_of compiled.now sensitive) symbols) }
     {
         self.reads(compiled, Kind2::Standard)
             || self.reads(compiled, Kind2::Inconditional)
@@ -115,17 +129,21 @@ impl LiveSections {
             || self.reads(compiled, Kind2::Preblank)
     }
 
-    /// What the entries of that kind read in the symbols so far, in the order of words, each once. The error means want of
-    /// memory.
+    /// What the entries of that kind read in the symbols so far, in the order of words, each once.
+    /// The error means want of memory.
     pub fn readings(&self, alloc: Global, compiled: &Compiled, kind: Kind2) -> Result<Words, Memory>
-        ensures { IfOk result (λ words. (sensitive : Bool) (symbols : List Symbol) → AreLive compiled.now sensitive symbols self.now → words ≡ (lexicon_of compiled.now sensitive).readings kind symbols) }
+        ensures { IfOk result (λ words. (sensitive : Bool) (symbols : List Symbol) →
+            AreLive compiled.now sensitive symbols self.now →
+            words ≡ (lexicon_of compiled.now sensitive).readings kind symbols) }
     {
         self.section(kind).readings(alloc, compiled.section(kind))
     }
 
-    /// Goes back to the first so many symbols; where there are no more, nothing changes. It takes no memory.
+    /// Goes back to the first so many symbols; where there are no more, nothing changes. It takes
+    /// no memory.
     pub fn cut(&mut self, len: usize)
-        ensures { (p : Parts) (sensitive : Bool) (symbols : List Symbol) → AreLive p sensitive symbols self.old → AreLive p sensitive (take len symbols) self.new }
+        ensures { (p : Parts) (sensitive : Bool) (symbols : List Symbol) →
+            AreLive p sensitive symbols self.old → AreLive p sensitive (take len symbols) self.new }
     {
         self.standard.cut(len);
         self.inconditional.cut(len);

@@ -66,7 +66,8 @@ fn is_other(symbol: &Symbol, other: Option<&Symbol>) -> bool
 
 /// Whether the side has a symbol, and it is the input or the other that fits it.
 fn is_fitting(side: &Option<Symbol>, input: &Symbol, other: Option<&Symbol>) -> bool
-    ensures { (i : Input) → i.symbol ≡ input.now → IsOther i (option_copied other.entry) → result ≡ fits_side i side.now }
+    ensures { (i : Input) → i.symbol ≡ input.now → IsOther i (option_copied other.entry) →
+        result ≡ fits_side i side.now }
 {
     match side {
         None => false,

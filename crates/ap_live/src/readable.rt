@@ -31,8 +31,8 @@ fn section_is_coded(section: &Fst)
     sides_are_coded(section.edges());
 }
 
-/// Says that the right words of a compiled dictionary can be written in a unit and are read again as
-/// they are written: they are proper, and their letters and the names of their tags are of
+/// Says that the right words of a compiled dictionary can be written in a unit and are read again
+/// as they are written: they are proper, and their letters and the names of their tags are of
 /// characters. It looks at each label once, and changes nothing.
 pub fn words_are_readable(compiled: &Compiled)
     ensures { (sensitive : Bool) → GivesReadable (lexicon_of compiled.now sensitive) }

@@ -70,8 +70,8 @@ fn push_carried(
     append_carried(alloc, case, words, into)
 }
 
-/// Appends what the entries of a kind read in the symbols so far, with this case carried to each. The
-/// error means want of memory.
+/// Appends what the entries of a kind read in the symbols so far, with this case carried to each.
+/// The error means want of memory.
 pub fn push_kind(
     alloc: Global,
     compiled: &Compiled,
@@ -80,20 +80,26 @@ pub fn push_kind(
     case: Case,
     into: &mut Vec<Word>,
 ) -> Result<(), Memory>
-    ensures { OnOk result ((sensitive : Bool) (symbols : List Symbol) → AreLive compiled.now sensitive symbols lives.now → into.new.items ≡ into.old.items ++ map (carry_lem case) ((lexicon_of compiled.now sensitive).readings kind symbols)) }
+    ensures { OnOk result ((sensitive : Bool) (symbols : List Symbol) →
+        AreLive compiled.now sensitive symbols lives.now → into.new.items ≡ into.old.items
+        ++ map (carry_lem case) ((lexicon_of compiled.now sensitive).readings kind symbols)) }
 {
     let words = lives.readings(alloc, compiled, kind)?;
     push_carried(alloc, case, words.into_vec(), into)
 }
 
-/// The right words of any kind that entries read in the symbols so far, with this case carried to each.
+/// The right words of any kind that entries read in the symbols so far, with this case carried to
+/// each.
 fn gathered(
     alloc: Global,
     compiled: &Compiled,
     lives: &LiveSections,
     case: Case,
 ) -> Result<Vec<Word>, Memory>
-    ensures { IfOk result (λ words. (sensitive : Bool) (symbols : List Symbol) → AreLive compiled.now sensitive symbols lives.now → words.items ≡ map (carry_lem case) (any_words (lexicon_of compiled.now sensitive) symbols)) }
+    ensures { IfOk result (λ words. (sensitive : Bool) (symbols : List Symbol) →
+        AreLive compiled.now sensitive symbols lives.now →
+        words.items ≡ map (carry_lem case)
+        (any_words (lexicon_of compiled.now sensitive) symbols)) }
 {
     let mut words = Vec::new(alloc);
     push_kind(alloc, compiled, lives, Kind2::Standard, case, &mut words)?;
@@ -120,7 +126,9 @@ pub fn any_readings(
     seen: &[Symbol],
 ) -> Result<Words, Memory>
     requires { (symbols : List Symbol) × AreLive compiled.now sensitive symbols lives.now }
-    ensures { IfOk result (λ words. (symbols : List Symbol) → AreLive compiled.now sensitive symbols lives.now → words ≡ carried_words (lexicon_of compiled.now sensitive) sensitive seen.now symbols) }
+    ensures { IfOk result (λ words. (symbols : List Symbol) →
+        AreLive compiled.now sensitive symbols lives.now →
+        words ≡ carried_words (lexicon_of compiled.now sensitive) sensitive seen.now symbols) }
 {
     let case = case_carried(sensitive, seen);
     let mut words = gathered(alloc, compiled, lives, case)?;

@@ -63,8 +63,10 @@ fn add_edge(
     states: &mut Vec<usize>,
     links: &mut Vec<Arrival>,
 ) -> Result<(), Memory>
-    ensures { OnOk result ((edges : List Edge) → slice_get edges place ≡ Some edge.now → picks (pick_of pick.entry) edge.now ≡ true
-        → SpreadOne edges (pick_of pick.entry) edge.now.from (IsPlace place) states.old.items links.old.items states.new.items links.new.items) }
+    ensures { OnOk result ((edges : List Edge) → slice_get edges place ≡ Some edge.now →
+        picks (pick_of pick.entry) edge.now ≡ true
+        → SpreadOne edges (pick_of pick.entry) edge.now.from (IsPlace place) states.old.items
+        links.old.items states.new.items links.new.items) }
 {
     links.push(Arrival {
         to: edge.to,
@@ -85,7 +87,8 @@ fn try_edge(
 ) -> Result<(), Memory>
     requires { (i : Input) → pick_of pick ≡ Some i → IsOther i (option_copied other) }
     ensures { OnOk result ((edges : List Edge) → slice_get edges place ≡ Some edge.now
-        → SpreadOne edges (pick_of pick.entry) edge.now.from (IsPlace place) states.old.items links.old.items states.new.items links.new.items) }
+        → SpreadOne edges (pick_of pick.entry) edge.now.from (IsPlace place) states.old.items
+        links.old.items states.new.items links.new.items) }
 {
     if !is_picked(edge, pick, other) {
         return Ok(());
@@ -105,7 +108,9 @@ fn spread_left(
     links: &mut Vec<Arrival>,
 ) -> Result<(), Memory>
     requires { (e : Edge) → e.label.left ≡ Some left.now → picks (pick_of pick) e ≡ true }
-    ensures { OnOk result (SpreadOne fst.now.edges (pick_of pick.entry) from (HasLeft fst.now.edges (Some left.now)) states.old.items links.old.items states.new.items links.new.items) }
+    ensures { OnOk result (SpreadOne fst.now.edges (pick_of pick.entry) from
+        (HasLeft fst.now.edges (Some left.now)) states.old.items links.old.items states.new.items
+        links.new.items) }
 {
     let edges = fst.edges();
     let (low, high) = fst.span_by(from, Some(left));
@@ -115,7 +120,8 @@ fn spread_left(
     Ok(())
 }
 
-/// Adds what one state reaches by the edges whose left symbol is the input, or the other that fits it.
+/// Adds what one state reaches by the edges whose left symbol is the input, or the other that fits
+/// it.
 fn spread_fitting(
     fst: &Fst,
     from: usize,
@@ -125,8 +131,10 @@ fn spread_fitting(
     states: &mut Vec<usize>,
     links: &mut Vec<Arrival>,
 ) -> Result<(), Memory>
-    requires { (i : Input) × (pick_of pick ≡ Some i) × (i.symbol ≡ input.now) × IsOther i (option_copied other) }
-    ensures { OnOk result (SpreadOne fst.now.edges (pick_of pick.entry) from AnyPlace states.old.items links.old.items states.new.items links.new.items) }
+    requires { (i : Input) × (pick_of pick ≡ Some i) × (i.symbol ≡ input.now)
+        × IsOther i (option_copied other) }
+    ensures { OnOk result (SpreadOne fst.now.edges (pick_of pick.entry) from AnyPlace
+        states.old.items links.old.items states.new.items links.new.items) }
 {
     spread_left(fst, from, input, pick, states, links)?;
     match other {
@@ -145,8 +153,8 @@ fn leaves_silently(edge: &Edge, from: usize) -> bool
     edge.from == from && edge.label.left.is_none()
 }
 
-/// Adds what one state reaches by its edges with an empty left side. They come before its others, so
-/// that one look tells where there is none.
+/// Adds what one state reaches by its edges with an empty left side. They come before its others,
+/// so that one look tells where there is none.
 fn spread_silent(
     fst: &Fst,
     from: usize,
@@ -155,7 +163,8 @@ fn spread_silent(
     links: &mut Vec<Arrival>,
 ) -> Result<(), Memory>
     requires { IsRun fst.now.edges (Leaves from) first }
-    ensures { OnOk result (SpreadOne fst.now.edges None from AnyPlace states.old.items links.old.items states.new.items links.new.items) }
+    ensures { OnOk result (SpreadOne fst.now.edges None from AnyPlace states.old.items
+        links.old.items states.new.items links.new.items) }
 {
     let edges = fst.edges();
     for j in first..edges.len() {
@@ -180,7 +189,8 @@ fn spread_few(
 ) -> Result<(), Memory>
     requires run { IsRun fst.now.edges (Leaves from) first }
     requires other { (i : Input) → pick_of pick ≡ Some i → IsOther i (option_copied other) }
-    ensures { OnOk result (SpreadOne fst.now.edges (pick_of pick.entry) from AnyPlace states.old.items links.old.items states.new.items links.new.items) }
+    ensures { OnOk result (SpreadOne fst.now.edges (pick_of pick.entry) from AnyPlace
+        states.old.items links.old.items states.new.items links.new.items) }
 {
     let edges = fst.edges();
     for place in first..edges.len() {
@@ -205,7 +215,8 @@ fn spread_from(
     links: &mut Vec<Arrival>,
 ) -> Result<(), Memory>
     requires { (i : Input) → pick_of pick ≡ Some i → IsOther i (option_copied other) }
-    ensures { OnOk result (SpreadOne fst.now.edges (pick_of pick.entry) from AnyPlace states.old.items links.old.items states.new.items links.new.items) }
+    ensures { OnOk result (SpreadOne fst.now.edges (pick_of pick.entry) from AnyPlace
+        states.old.items links.old.items states.new.items links.new.items) }
 {
     let first = first_edge(fst, hints, from);
     match pick {
@@ -235,7 +246,8 @@ fn spread(
     links: &mut Vec<Arrival>,
 ) -> Result<(), Memory>
     requires { (i : Input) → pick_of pick ≡ Some i → IsOther i (option_copied other) }
-    ensures { OnOk result (Spread fst.now.edges (pick_of pick.entry) froms.now states.old.items links.old.items states.new.items links.new.items) }
+    ensures { OnOk result (Spread fst.now.edges (pick_of pick.entry) froms.now states.old.items
+        links.old.items states.new.items links.new.items) }
 {
     for from in froms {
         spread_from(fst, hints, *from, pick, other, states, links)?;
@@ -252,7 +264,8 @@ fn close(
 ) -> Result<(), Memory>
     requires distinct { IsDistinct nat_eq states.old.items }
     requires below { (s : ℕ) → IsIn s states.old.items → s < fst.now.states }
-    ensures { OnOk result (Closed fst.now.edges states.old.items links.old.items states.new.items links.new.items) }
+    ensures { OnOk result (Closed fst.now.edges states.old.items links.old.items states.new.items
+        links.new.items) }
 {
     let _ = fst.states();
     let mut at = 0;
@@ -306,7 +319,8 @@ fn close_row(fst: &Fst, hints: &[usize], row: &mut Row) -> Result<(), Memory>
     requires below { (s : ℕ) → IsIn s row.old.states.items → s < fst.now.states }
     requires order { IsNonDecreasingBy arrival_to row.old.taken.items }
     ensures taken { OnOk result (row.new.taken.items ≡ row.old.taken.items) }
-    ensures closed { OnOk result (Closed fst.now.edges row.old.states.items [] row.new.states.items row.new.silent.items) }
+    ensures closed { OnOk result
+        (Closed fst.now.edges row.old.states.items [] row.new.states.items row.new.silent.items) }
     ensures order { OnOk result (IsOrdered row.new) }
     ensures told { OnOk result (Tells fst.now.finals row.new) }
 {

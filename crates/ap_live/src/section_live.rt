@@ -12,8 +12,9 @@ use ap_fst::Fst;
 use ap_symbol::{Memory, Symbol, Words};
 use std::alloc::Global;
 
-/// What the symbols so far reach in one section of a compiled dictionary. A section without a final state accepts nothing:
-/// no live set is held for it, so that a kind of sections without entries costs no step anything.
+/// What the symbols so far reach in one section of a compiled dictionary. A section without a final
+/// state accepts nothing: no live set is held for it, so that a kind of sections without entries
+/// costs no step anything.
 #[derive(Drop)]
 pub struct SectionLive {
     live: Option<Live>,
@@ -33,9 +34,12 @@ impl SectionLive {
         Ok(SectionLive { live: Some(live) })
     }
 
-    /// Goes on by a symbol, and answers whether there was memory for it. If not, nothing was changed.
+    /// Goes on by a symbol, and answers whether there was memory for it. If not, nothing was
+    /// changed.
     pub fn step(&mut self, fst: &Fst, input: &Symbol, sensitive: bool) -> bool
-        ensures stepped { result ≡ true → (seen : List Input) → IsSectionLive fst.now seen self.old → IsSectionLive fst.now (seen ++ record { symbol = input.now; sensitive = sensitive } ∷ []) self.new }
+        ensures stepped { result ≡ true → (seen : List Input) → IsSectionLive fst.now seen self.old
+            → IsSectionLive fst.now (seen ++ record { symbol = input.now; sensitive = sensitive }
+            ∷ []) self.new }
         ensures stayed { result ≡ false → self.new ≡ self.old }
     {
         match &mut self.live {
@@ -49,7 +53,8 @@ impl SectionLive {
 
     /// Takes the last symbol back, if it was stepped by. It takes no memory.
     pub fn take_back(&mut self, stepped: bool)
-        ensures back { stepped ≡ true → (m : Machine) (seen : List Input) (last : Input) → IsSectionLive m (seen ++ last ∷ []) self.old → IsSectionLive m seen self.new }
+        ensures back { stepped ≡ true → (m : Machine) (seen : List Input) (last : Input) →
+            IsSectionLive m (seen ++ last ∷ []) self.old → IsSectionLive m seen self.new }
         ensures stayed { stepped ≡ false → self.new ≡ self.old }
     {
         if !stepped {
@@ -66,7 +71,8 @@ impl SectionLive {
 
     /// Goes back to the first so many symbols. It takes no memory.
     pub fn cut(&mut self, len: usize)
-        ensures { (m : Machine) (seen : List Input) → IsSectionLive m seen self.old → IsSectionLive m (take len seen) self.new }
+        ensures { (m : Machine) (seen : List Input) → IsSectionLive m seen self.old →
+            IsSectionLive m (take len seen) self.new }
     {
         match &mut self.live {
             None => {}
@@ -76,7 +82,8 @@ impl SectionLive {
 
     /// Whether the symbols so far fit no beginning of a left word of the section.
     pub fn is_dead(&self) -> bool
-        ensures { (m : Machine) (seen : List Input) → IsSection m → IsSectionLive m seen self.now → result ≡ not (is_viable m seen) }
+        ensures { (m : Machine) (seen : List Input) → IsSection m → IsSectionLive m seen self.now →
+            result ≡ not (is_viable m seen) }
     {
         match &self.live {
             None => true,
@@ -86,7 +93,8 @@ impl SectionLive {
 
     /// Whether some entry of the section reads the symbols so far. It makes no word.
     pub fn reads(&self, fst: &Fst) -> bool
-        ensures { (seen : List Input) → HasNoEmptyCycle fst.now → IsSectionLive fst.now seen self.now → result ≡ has_output fst.now seen }
+        ensures { (seen : List Input) → HasNoEmptyCycle fst.now →
+            IsSectionLive fst.now seen self.now → result ≡ has_output fst.now seen }
     {
         match &self.live {
             None => false,
@@ -94,11 +102,13 @@ impl SectionLive {
         }
     }
 
-    /// What the entries of the section read in the symbols so far. Where none reads them, it takes no memory.
+    /// What the entries of the section read in the symbols so far. Where none reads them, it takes
+    /// no memory.
     pub fn readings(&self, alloc: Global, fst: &Fst) -> Result<Words, Memory>
         requires no_cycle { HasNoEmptyCycle fst.now }
         requires writes { WritesWords fst.now }
-        ensures { IfOk result (λ words. (seen : List Input) → IsSectionLive fst.now seen self.now → words ≡ outputs fst.now seen) }
+        ensures { IfOk result (λ words. (seen : List Input) → IsSectionLive fst.now seen self.now →
+            words ≡ outputs fst.now seen) }
     {
         match &self.live {
             None => Ok(Words::new(alloc)),

@@ -73,7 +73,11 @@ impl Rows {
         hints: &[usize],
         pick: Pick<'_>,
     ) -> Result<(), Memory>
-        ensures ok { OnOk result ((last : Row) → slice_get self.old (length self.old - 1) ≡ Some last → (row : Row) × ((self.new ≡ self.old ++ row ∷ []) × IsNext fst.now.edges (pick_of pick.entry) last.states.items row × Tells fst.now.finals row)) }
+        ensures ok { OnOk result ((last : Row) → slice_get self.old (length self.old - 1)
+            ≡ Some last → (row : Row)
+            × ((self.new ≡ self.old ++ row ∷ [])
+            × IsNext fst.now.edges (pick_of pick.entry) last.states.items row
+            × Tells fst.now.finals row)) }
         ensures err { OnErr result (self.new ≡ self.old) }
     {
         let Some(last) = self.held[..self.count].last() else {
@@ -136,7 +140,8 @@ impl Rows {
 /// The rows before any input.
 pub(crate) fn first_rows(alloc: Global, fst: &Fst, hints: &[usize]) -> Result<Rows, Memory>
     ensures rows { IfOk result (λ rows. AreRows fst.now.edges [] rows) }
-    ensures told { IfOk result (λ rows. (at : ℕ) (row : Row) → slice_get rows at ≡ Some row → Tells fst.now.finals row) }
+    ensures told { IfOk result (λ rows. (at : ℕ) (row : Row) → slice_get rows at ≡ Some row →
+        Tells fst.now.finals row) }
 {
     let row = first_row(alloc, fst, hints)?;
     let mut first = HeldRow::own(row);

@@ -13,8 +13,8 @@ use ap_fst::{Edge, Fst};
 use ap_symbol::{Memory, Symbol, Word, compare, one_rendering};
 use std::alloc::Global;
 
-/// About as many bytes does a symbol render to: a letter to one and up to four, a tag of two letters
-/// to four.
+/// About as many bytes does a symbol render to: a letter to one and up to four, a tag of two
+/// letters to four.
 const SYMBOL_BYTES: usize = 4;
 
 /// The word whose symbols are these, the last first.
@@ -34,7 +34,8 @@ fn word_of(alloc: Global, back: Symbols) -> Result<Word, Memory>
 }
 
 fn words_of(alloc: Global, backs: Vec<Symbols>) -> Result<Vec<Word>, Memory>
-    requires { (back : List Symbol) → IsIn back backs.items → IsTrue (list_all is_word_symbol back) }
+    requires { (back : List Symbol) → IsIn back backs.items →
+        IsTrue (list_all is_word_symbol back) }
     ensures is { IfOk result (λ words. words.items ≡ map reverse backs.items) }
     ensures proper { IfOk result (λ words. (w : List Symbol) → IsIn w words.items → AreProper w) }
 {
@@ -63,8 +64,10 @@ pub fn sort_words(words: &mut Vec<Word>)
 /// The words of these symbols, each given with its last symbol first, in the order of their
 /// rendered bytes, each once.
 pub(crate) fn ordered_words(alloc: Global, backs: Vec<Symbols>) -> Result<Vec<Word>, Memory>
-    requires { (back : List Symbol) → IsIn back backs.items → IsTrue (list_all is_word_symbol back) }
-    ensures members { IfOk result (λ words. (w : List Symbol) → IsIn w words.items ↔ IsIn w (map reverse backs.items)) }
+    requires { (back : List Symbol) → IsIn back backs.items →
+        IsTrue (list_all is_word_symbol back) }
+    ensures members { IfOk result (λ words. (w : List Symbol) →
+        IsIn w words.items ↔ IsIn w (map reverse backs.items)) }
     ensures order { IfOk result (λ words. IsStrictlySortedBy word_cmp words.items) }
 {
     let mut words = words_of(alloc, backs)?;
@@ -98,8 +101,10 @@ fn writes_word(edge: &Edge) -> bool
 }
 
 fn all_write(edges: &[Edge]) -> bool
-    ensures words { IsTrue result ↔ ((e : Edge) → IsIn e edges.now → IsTrue (is_word_side e.label.right)) }
-    ensures proper { IsTrue result → (e : Edge) → IsIn e edges.now → IsTrue (is_proper_side e.label.right) }
+    ensures words { IsTrue result
+        ↔ ((e : Edge) → IsIn e edges.now → IsTrue (is_word_side e.label.right)) }
+    ensures proper { IsTrue result → (e : Edge) → IsIn e edges.now →
+        IsTrue (is_proper_side e.label.right) }
 {
     for edge in edges {
         if !writes_word(edge) {

@@ -8,33 +8,45 @@ use Rattle.ap_symbol.specs.declared.symbol.Symbol.{Symbol}
 use Rattle.ap_lookup.specs.Kept.{IsTold, IsKept, AreKept}
 use Rattle.ap_lookup.specs.declared.kept.Entry.{Entry}
 
-all_at : {X : Type 0} (P : X → Type 0) (xs : List X) (i : ℕ) (x : X) → i < length xs → x ≡ get_or xs i x → AllByRecursion P xs → P x
+all_at : {X : Type 0} (P : X → Type 0) (xs : List X) (i : ℕ) (x : X) → i < length xs →
+    x ≡ get_or xs i x → AllByRecursion P xs → P x
 all_at P [] i x lt is all = absurd (omega arith)
 all_at P (y ∷ xs) zero x lt is all = subst P (sym is) all.0
 all_at P (y ∷ xs) (suc i) x lt is all = all_at P xs i x (omega arith) is all.1
 
-all_on : {X : Type 0} (P : X → Type 0) (xs : List X) (x : X) → AllByRecursion P xs → P x → AllByRecursion P (xs ++ x ∷ [])
+all_on : {X : Type 0} (P : X → Type 0) (xs : List X) (x : X) → AllByRecursion P xs → P x →
+    AllByRecursion P (xs ++ x ∷ [])
 all_on P [] x all is = (is, tt)
 all_on P (y ∷ xs) x all is = (all.0, all_on P xs x all.1 is)
 
 -- one entry more, if there was memory for it
-pub kept_pushed : {T E : Type 0} (r : Result T E) (given : List Symbol → List ℕ) (xs new : List Entry) (entry : Entry) → new ≡ (if is_ok r then xs ++ entry ∷ [] else xs) → IsKept given entry → AreKept given xs → AreKept given new
-kept_pushed (Ok x) given xs new entry e is all = subst (λ (z : List Entry). AreKept given z) (sym e) (all_on (IsKept given) xs entry all is)
-kept_pushed (Err x) given xs new entry e is all = subst (λ (z : List Entry). AreKept given z) (sym e) all
+pub kept_pushed : {T E : Type 0} (r : Result T E) (given : List Symbol → List ℕ)
+    (xs new : List Entry) (entry : Entry) → new ≡ (if is_ok r then xs ++ entry ∷ [] else xs) →
+    IsKept given entry → AreKept given xs → AreKept given new
+kept_pushed (Ok x) given xs new entry e is all =
+    subst (λ (z : List Entry). AreKept given z) (sym e) (all_on (IsKept given) xs entry all is)
+kept_pushed (Err x) given xs new entry e is all =
+    subst (λ (z : List Entry). AreKept given z) (sym e) all
 
 -- the entry of these bytes is found
-pub told_there : (given : List Symbol → List ℕ) (entries : List Entry) (at : ℕ) (entry : Entry) (key text : List ℕ) → at < length entries → entry ≡ get_or entries at entry → entry.key ≡ key → text ≡ entry.text → AreKept given entries → IsTold given key text
+pub told_there : (given : List Symbol → List ℕ) (entries : List Entry) (at : ℕ) (entry : Entry)
+    (key text : List ℕ) → at < length entries → entry ≡ get_or entries at entry → entry.key ≡ key →
+    text ≡ entry.text → AreKept given entries → IsTold given key text
 told_there given entries at entry key text lt is k t all word proper e =
     let kept : IsKept given entry = all_at (IsKept given) entries at entry lt is all in
     t ∙ kept word proper (e ∙ sym k)
 
 -- a new entry
-pub told_copy : (given : List Symbol → List ℕ) (entry : Entry) (key text : List ℕ) → entry.key ≡ key → entry.text ≡ text → IsTold given key text → IsKept given entry
+pub told_copy : (given : List Symbol → List ℕ) (entry : Entry) (key text : List ℕ) →
+    entry.key ≡ key → entry.text ≡ text → IsTold given key text → IsKept given entry
 told_copy given entry key text k t told word proper e = t ∙ told word proper (e ∙ k)
 
 abbrev OneRendering : Type 0
 OneRendering = (a b : List Symbol) → AreProper a → AreProper b → rendering a ≡ rendering b → a ≡ b
 
 -- what was written for a word is told by its bytes
-pub told_word : OneRendering → (given : List Symbol → List ℕ) (word : List Symbol) (key text : List ℕ) → AreProper word → key ≡ rendering word → text ≡ given word → IsTold given key text
-told_word law given word key text proper k t other well e = t ∙ ap given (law word other proper well (sym k ∙ sym e))
+pub told_word : OneRendering →
+    (given : List Symbol → List ℕ) (word : List Symbol) (key text : List ℕ) → AreProper word →
+    key ≡ rendering word → text ≡ given word → IsTold given key text
+told_word law given word key text proper k t other well e =
+    t ∙ ap given (law word other proper well (sym k ∙ sym e))

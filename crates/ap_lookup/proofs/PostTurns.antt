@@ -29,8 +29,10 @@ use Rattle.ap_lookup.proofs.PostSearches.{search_more}
 use Rattle.ap_lookup.proofs.PostSizes.{step_used}
 use Rattle.ap_lookup.proofs.PostSteps.{settles, span_alarm}
 
-pub coherent_seen : (inside : Parts) (now : Posting) → inside ≡ now.compiled → IsCompiled inside → IsCoherent (lexicon_of now.compiled now.sensitive)
-coherent_seen inside now e compiled = coherent now.compiled now.sensitive (subst (λ (p : Parts). IsCompiled p) e compiled)
+pub coherent_seen : (inside : Parts) (now : Posting) → inside ≡ now.compiled → IsCompiled inside →
+    IsCoherent (lexicon_of now.compiled now.sensitive)
+coherent_seen inside now e compiled =
+    coherent now.compiled now.sensitive (subst (λ (p : Parts). IsCompiled p) e compiled)
 
 abbrev pub lexicon_at : Posting → Lexicon
 lexicon_at h = lexicon_of h.compiled h.sensitive
@@ -43,11 +45,14 @@ IsSettled h = (span (lexicon_at h) h.items < length h.items) ⊎ (h.finished ≡
 abbrev pub IsFirstStep : Posting → Written → Type 0
 IsFirstStep h made = (meant made ≡ post_step (lexicon_at h) h.sensitive h.items) × IsSettled h
 
-pub step_is : (h : Posting) (step : Option Written) (made is : Written) → step ≡ Some made → made ≡ is → IfSome step (IsFirstStep h) → IsFirstStep h is
+pub step_is : (h : Posting) (step : Option Written) (made is : Written) → step ≡ Some made →
+    made ≡ is → IfSome step (IsFirstStep h) → IsFirstStep h is
 step_is h None made is some e first = absurd (cc)
-step_is h (Some other) made is some e first = let same : other ≡ is = cc in subst (λ (m : Written). IsFirstStep h m) same first
+step_is h (Some other) made is some e first = let same : other ≡ is = cc in
+    subst (λ (m : Written). IsFirstStep h m) same first
 
-pub over_silent : (lexicon : Lexicon) (sensitive : Bool) (items : List Read) → length items ≡ 0 → post_generated lexicon sensitive (items ++ []) ≡ silent
+pub over_silent : (lexicon : Lexicon) (sensitive : Bool) (items : List Read) → length items ≡ 0 →
+    post_generated lexicon sensitive (items ++ []) ≡ silent
 over_silent lexicon sensitive [] e = steps_none (post_step lexicon sensitive)
 over_silent lexicon sensitive (read ∷ reads) e = absurd (omega arith)
 
@@ -55,42 +60,75 @@ module _ (h : Posting) (whole : IsCoherent (lexicon_at h)) (some : 0 < length h.
   settling : Settles (post_step (lexicon_at h) h.sensitive) (span (lexicon_at h))
   settling = settles (lexicon_at h) h.sensitive whole
 
-  pub turned_limit : (kind : LimitKind) (place : ℕ) → IsFirstPlace h.items place → IsFirstStep h (code.Stops kind) → (xs : List Read) → (h.finished ≡ true → xs ≡ []) → post_work h xs ≡ ends_in [] (Limit kind place)
+  pub turned_limit : (kind : LimitKind) (place : ℕ) → IsFirstPlace h.items place →
+      IsFirstStep h (code.Stops kind) → (xs : List Read) → (h.finished ≡ true → xs ≡ []) →
+      post_work h xs ≡ ends_in [] (Limit kind place)
   turned_limit kind place f first xs last =
-      turn_limit (post_step (lexicon_at h) h.sensitive) (span (lexicon_at h)) settling h.items xs kind f.first f.first h.finished some f.is (sym first.0) first.1 last ∙ ap (λ (n : ℕ). ends_in [] (Limit kind n)) (sym f.place_is)
+      turn_limit (post_step (lexicon_at h) h.sensitive) (span (lexicon_at h)) settling h.items xs
+      kind f.first f.first h.finished some f.is (sym first.0) first.1 last
+      ∙ ap (λ (n : ℕ). ends_in [] (Limit kind n)) (sym f.place_is)
 
-  pub turned_overlong : (place : ℕ) → IsFirstPlace h.items place → span (lexicon_at h) h.items ≡ length h.items → span_max < bytes_of h.items → (xs : List Read) → post_work h xs ≡ ends_in [] (Limit SpanTooLong place)
+  pub turned_overlong : (place : ℕ) → IsFirstPlace h.items place → span (lexicon_at h) h.items
+      ≡ length h.items → span_max < bytes_of h.items → (xs : List Read) →
+      post_work h xs ≡ ends_in [] (Limit SpanTooLong place)
   turned_overlong place f all long xs =
-      turn_overlong (post_step (lexicon_at h) h.sensitive) (span (lexicon_at h)) settling h.items xs f.first f.first some f.is all long ∙ ap (λ (n : ℕ). ends_in [] (Limit SpanTooLong n)) (sym f.place_is)
+      turn_overlong (post_step (lexicon_at h) h.sensitive) (span (lexicon_at h)) settling h.items xs
+      f.first f.first some f.is all long
+      ∙ ap (λ (n : ℕ). ends_in [] (Limit SpanTooLong n)) (sym f.place_is)
 
-  module _ (count : ℕ) (text : List ℕ) (all : AllByRecursion (IsRead Generated) h.items) (first : IsFirstStep h (code.Gives count text)) where
+  module _ (count : ℕ) (text : List ℕ) (all : AllByRecursion (IsRead Generated) h.items)
+      (first : IsFirstStep h (code.Gives count text)) where
     pub turned_within : count ≤ length h.items
-    turned_within = (step_used (lexicon_at h) h.sensitive h.items count text whole some all (sym first.0)).within
+    turned_within = (step_used (lexicon_at h) h.sensitive h.items count text whole some all
+        (sym first.0)).within
 
-    pub turned_wrote : (after : Posting) (into new : List ℕ) → after.items ≡ drop count h.items → after.compiled ≡ h.compiled → after.sensitive ≡ h.sensitive → after.finished ≡ h.finished → new ≡ into ++ text
-        → (given : List ℕ) × (new ≡ into ++ given) × (length given ≤ stage_max) × (length after.items < length h.items) × (bytes_of after.items < bytes_of h.items) × (Generated ≡ Generated) × (after.finished ≡ h.finished)
-        × ((xs : List Read) → (h.finished ≡ true → xs ≡ []) → behind given (post_work after xs) ≡ post_work h xs)
+    pub turned_wrote : (after : Posting) (into new : List ℕ) → after.items ≡ drop count h.items →
+        after.compiled ≡ h.compiled → after.sensitive ≡ h.sensitive → after.finished ≡ h.finished →
+        new ≡ into ++ text
+        → (given : List ℕ) × (new ≡ into ++ given) × (length given ≤ stage_max)
+        × (length after.items < length h.items) × (bytes_of after.items < bytes_of h.items)
+        × (Generated ≡ Generated) × (after.finished ≡ h.finished)
+        × ((xs : List Read) → (h.finished ≡ true → xs ≡ []) → behind given (post_work after xs)
+        ≡ post_work h xs)
     turned_wrote after into new i k s f e =
-        let used = step_used (lexicon_at h) h.sensitive h.items count text whole some all (sym first.0) in
+        let used = step_used (lexicon_at h) h.sensitive h.items count text whole some all
+        (sym first.0) in
         let fewer = fewer_left h.items count used.some used.within in
-        let bytes = fewer_bytes Generated h.items count all used.some used.within in
-        (text, e, used.short, rw i fewer, rw i bytes, refl, f, λ xs last. rw (i, k, s) (turn_wrote (post_step (lexicon_at h) h.sensitive) (span (lexicon_at h)) settling h.items xs count text h.finished some used.some used.within (sym first.0) first.1 last))
+        let bytes = fewer_bytes Generated h.items count all used.some used.within in (
+          text,
+          e,
+          used.short,
+          rw i fewer,
+          rw i bytes,
+          refl,
+          f,
+          λ xs last. rw (i, k, s) (turn_wrote (post_step (lexicon_at h) h.sensitive)
+              (span (lexicon_at h)) settling h.items xs count text h.finished some used.some
+              used.within (sym first.0) first.1 last),
+        )
 
 -- A step as the code takes it: the items are seen as a slice.
 
-pub copied_is : (items slice : List Read) (d : Read) (old text : List ℕ) → slice ≡ items → 0 < length items → old ≡ [] → text ≡ old ++ spelled (get_or slice 0 d).item → Gives 1 text ≡ copied items
+pub copied_is : (items slice : List Read) (d : Read) (old text : List ℕ) → slice ≡ items →
+    0 < length items → old ≡ [] → text ≡ old ++ spelled (get_or slice 0 d).item →
+    Gives 1 text ≡ copied items
 copied_is [] slice d old text e some none is = absurd (omega arith)
 copied_is (read ∷ reads) slice d old text e some none is =
-    let first : (get_or slice 0 d).item ≡ read.item = ap (λ (z : List Read). (get_or z 0 d).item) e in
-    ap (Gives 1) (is ∙ ap (λ (z : List ℕ). z ++ spelled (get_or slice 0 d).item) none ∙ ap spelled first ∙ sym (append-nil (spelled read.item)))
+    let first : (get_or slice 0 d).item ≡ read.item =
+    ap (λ (z : List Read). (get_or z 0 d).item) e in
+    ap (Gives 1) (is ∙ ap (λ (z : List ℕ). z ++ spelled (get_or slice 0 d).item) none
+    ∙ ap spelled first ∙ sym (append-nil (spelled read.item)))
 
-module _ (lexicon : Lexicon) (items slice : List Read) (same : slice ≡ items) (alarm : begins_alarm items ≡ true) where
+module _ (lexicon : Lexicon) (items slice : List Read) (same : slice ≡ items)
+    (alarm : begins_alarm items ≡ true) where
   pub span_all : fitting lexicon (symbols slice) ≡ length slice → span lexicon items ≡ length items
-  span_all e = span_alarm lexicon items alarm ∙ ap (λ (z : List Read). fitting lexicon (symbols z)) (sym same) ∙ e ∙ ap length same
+  span_all e = span_alarm lexicon items alarm
+      ∙ ap (λ (z : List Read). fitting lexicon (symbols z)) (sym same) ∙ e ∙ ap length same
 
   module _ (finished : Bool) (found : Found) (is : IsFound lexicon slice finished found) where
     pub span_found : found.span ≡ span lexicon items
-    span_found = is.span_is ∙ ap (λ (z : List Read). fitting lexicon (symbols z)) same ∙ sym (span_alarm lexicon items alarm)
+    span_found = is.span_is ∙ ap (λ (z : List Read). fitting lexicon (symbols z)) same
+        ∙ sym (span_alarm lexicon items alarm)
 
     pub settled_found : (span lexicon items < length items) ⊎ (finished ≡ true)
     settled_found = elim is.settled [
@@ -98,21 +136,34 @@ module _ (lexicon : Lexicon) (items slice : List Read) (same : slice ≡ items) 
       | inr last ↦ inr last
     ]
 
-pub found_in : (lexicon : Lexicon) (slice : List Read) (finished : Bool) (look : Option Found) (found : Found) → look ≡ Some found → IfSome look (IsFound lexicon slice finished) → IsFound lexicon slice finished found
+pub found_in : (lexicon : Lexicon) (slice : List Read) (finished : Bool) (look : Option Found)
+    (found : Found) → look ≡ Some found → IfSome look (IsFound lexicon slice finished) →
+    IsFound lexicon slice finished found
 found_in lexicon slice finished None found e is = absurd (cc)
-found_in lexicon slice finished (Some other) found e is = let same : other ≡ found = cc in subst (λ (f : Found). IsFound lexicon slice finished f) same is
+found_in lexicon slice finished (Some other) found e is = let same : other ≡ found = cc in
+    subst (λ (f : Found). IsFound lexicon slice finished f) same is
 
 -- An item more, or none for want of memory.
 
 abbrev pub IsWork : Parts → Bool → Search → List Read → Type 0
-IsWork p sensitive search items = AllByRecursion (IsRead Generated) items × IsSearch p sensitive items search
+IsWork p sensitive search items = AllByRecursion (IsRead Generated) items
+    × IsSearch p sensitive items search
 
-pub work_pushed : {T E : Type 0} (r : Result T E) (p : Parts) (sensitive : Bool) (search : Search) (items new : List Read) (read : Read) → IsRead Generated read → OnOk r (new ≡ items ++ read ∷ []) → OnErr r (new ≡ items) → IsWork p sensitive search items → IsWork p sensitive search new
+pub work_pushed : {T E : Type 0} (r : Result T E) (p : Parts) (sensitive : Bool) (search : Search)
+    (items new : List Read) (read : Read) → IsRead Generated read →
+    OnOk r (new ≡ items ++ read ∷ []) → OnErr r (new ≡ items) → IsWork p sensitive search items →
+    IsWork p sensitive search new
 work_pushed (Ok x) p sensitive search items new read is ok err work =
-    subst (λ (z : List Read). IsWork p sensitive search z) (sym ok) (all_pushed (IsRead Generated) items read work.0 is, search_more p sensitive items (read ∷ []) search work.1)
-work_pushed (Err x) p sensitive search items new read is ok err work = subst (λ (z : List Read). IsWork p sensitive search z) (sym err) work
+    subst (λ (z : List Read). IsWork p sensitive search z) (sym ok) (
+      all_pushed (IsRead Generated) items read work.0 is,
+      search_more p sensitive items (read ∷ []) search work.1,
+    )
+work_pushed (Err x) p sensitive search items new read is ok err work =
+    subst (λ (z : List Read). IsWork p sensitive search z) (sym err) work
 
-pub bytes_on : {T E : Type 0} (r : Result T E) (items now new : List Read) (read : Read) → items ≡ now → OnOk r (new ≡ items ++ read ∷ []) → OnOk r (bytes_of new ≡ bytes_of now + read.size)
+pub bytes_on : {T E : Type 0} (r : Result T E) (items now new : List Read) (read : Read) →
+    items ≡ now → OnOk r (new ≡ items ++ read ∷ []) →
+    OnOk r (bytes_of new ≡ bytes_of now + read.size)
 bytes_on (Ok x) items now new read e ok =
     let a = bytes_append items (read ∷ []) in
     let b : bytes_of (items ++ read ∷ []) ≡ bytes_of items + read.size = omega (arith, a) in

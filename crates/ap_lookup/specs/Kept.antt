@@ -8,7 +8,8 @@ use Rattle.ap_lookup.specs.declared.kept.Entry.{Entry}
 
 -- each word with these bytes gives this text; words with equal bytes are equal
 abbrev pub IsTold : (List Symbol → List ℕ) → List ℕ → List ℕ → Type 0
-IsTold given key text = (word : List Symbol) → AreProper word → rendering word ≡ key → text ≡ given word
+IsTold given key text = (word : List Symbol) → AreProper word → rendering word ≡ key →
+    text ≡ given word
 
 abbrev pub IsKept : (List Symbol → List ℕ) → Entry → Type 0
 IsKept given entry = IsTold given entry.key entry.text

@@ -39,12 +39,15 @@ BilingualKeeps = (lexicon : Lexicon) (sensitive : Bool) (text : List ℕ) → Gi
 
 -- so has the text that is generated of it
 abbrev pub GenerationKeeps : Type 0
-GenerationKeeps = (lexicon : Lexicon) (marks : Marks) (sensitive : Bool) (text : List ℕ) → GivesReadable lexicon
+GenerationKeeps = (lexicon : Lexicon) (marks : Marks) (sensitive : Bool) (text : List ℕ) →
+    GivesReadable lexicon
     → (generated_text lexicon marks sensitive text Clean).fault ≡ None
-    → HaveSameSuperblanks Lexical Generated text (generated_text lexicon marks sensitive text Clean).text
+    → HaveSameSuperblanks Lexical Generated text
+    (generated_text lexicon marks sensitive text Clean).text
 
 -- and so has the text that post-generation makes of a generated one
 abbrev pub PostGenerationKeeps : Type 0
 PostGenerationKeeps = (lexicon : Lexicon) (sensitive : Bool) (text : List ℕ) → GivesReadable lexicon
     → (post_generated_text lexicon sensitive text Clean).fault ≡ None
-    → HaveSameSuperblanks Generated Generated text (post_generated_text lexicon sensitive text Clean).text
+    → HaveSameSuperblanks Generated Generated text
+    (post_generated_text lexicon sensitive text Clean).text

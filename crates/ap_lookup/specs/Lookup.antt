@@ -16,7 +16,9 @@ translations_by word (head ∷ heads) left = map (λ h. h ++ left) (head ∷ hea
 
 -- a word that begins with * or @ is its own translation
 abbrev pub translations : Lexicon → Bool → List Symbol → List (List Symbol)
-translations lexicon sensitive word = if is_marked word then word ∷ [] else translations_by word (translation lexicon sensitive word).heads (translation lexicon sensitive word).left
+translations lexicon sensitive word = if is_marked word then word ∷ []
+    else translations_by word (translation lexicon sensitive word).heads
+    (translation lexicon sensitive word).left
 
 -- `^source/translation$`, several translations joined by `/`
 abbrev pub bilingual : Lexicon → Bool → List Symbol → List ℕ
@@ -47,7 +49,8 @@ abbrev pub formed : Marks → List Symbol → List (List Symbol) → List ℕ
 formed m word [] = formless m word
 formed m word (form ∷ forms) = joined (form ∷ forms)
 
--- A word that begins with * or @ isn't looked up. The forms of any other are the right words whose left word fits it whole.
+-- A word that begins with * or @ isn't looked up. The forms of any other are the right words whose
+-- left word fits it whole.
 abbrev pub generated : Lexicon → Marks → Bool → List Symbol → List ℕ
 generated lexicon m sensitive word =
     if is_marked word then (if is_star word then starred m word else unmatched m word)

@@ -1,4 +1,5 @@
--- How far symbols go on in a lexicon, and the longest front of them that fits a left word of any kind.
+-- How far symbols go on in a lexicon, and the longest front of them that fits a left word of any
+-- kind.
 use Rattle.std.specs.Prelude.{ℕ, Bool, nat_le, ◌&&◌, List, length, take}
 use Rattle.ap_symbol.specs.declared.symbol.Symbol.{Symbol}
 use Rattle.ap_live.specs.Found.{has_words}

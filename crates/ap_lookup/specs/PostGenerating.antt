@@ -23,10 +23,12 @@ abbrev pub is_alarm : Character → Bool
 is_alarm c = not c.escaped && (c.letter == 126)
 
 abbrev pub character_symbol : Character → Option Symbol
-character_symbol c = if is_alarm c then Some symbol.Alarm else (if is_white c.letter then None else Some (symbol.Letter c.letter))
+character_symbol c = if is_alarm c then Some symbol.Alarm
+    else (if is_white c.letter then None else Some (symbol.Letter c.letter))
 
--- An item as an input symbol: the alarm, a whole blank as Blank, and any other character, escaped or not, as its letter.
--- An escaped white-space character fits nothing, and neither does a unit or a chunk.
+-- An item as an input symbol: the alarm, a whole blank as Blank, and any other character, escaped
+-- or not, as its letter. An escaped white-space character fits nothing, and neither does a unit or
+-- a chunk.
 abbrev pub symbol_of : Item → Option Symbol
 symbol_of (Plain c) = character_symbol c
 symbol_of (Blank bytes) = Some symbol.Blank
@@ -87,31 +89,37 @@ abbrev pub filling : List (List ℕ) → List ℕ
 filling [] = 32 ∷ []
 filling (blank ∷ blanks) = blank
 
--- what is written of a symbol of a word whose Blanks are slots, and the blanks that are left for the next ones
+-- what is written of a symbol of a word whose Blanks are slots, and the blanks that are left for
+-- the next ones
 abbrev pub part : Symbol → List (List ℕ) → List ℕ
 part x blanks = if is_slot x then filling blanks else symbol_bytes x
 
 abbrev pub unused : Symbol → List (List ℕ) → List (List ℕ)
 unused x blanks = if is_slot x then drop 1 blanks else blanks
 
--- such a word: its slots are filled in order with the blanks, whole, and the superblanks of those left over follow
+-- such a word: its slots are filled in order with the blanks, whole, and the superblanks of those
+-- left over follow
 abbrev pub filled : List Symbol → List (List ℕ) → List ℕ
 filled [] blanks = left_over blanks
 filled (x ∷ word) blanks = part x blanks ++ filled word (unused x blanks)
 
 -- so many items give this word with these blanks, unless it has too many bytes
 abbrev pub word_step : ℕ → List Symbol → List (List ℕ) → Step
-word_step n word blanks = if nat_lt unit_max (length (rendering word)) then Stops UnitTooLong else Gives n (filled word blanks)
+word_step n word blanks = if nat_lt unit_max (length (rendering word)) then Stops UnitTooLong
+    else Gives n (filled word blanks)
 
 abbrev pub matched_step : Lexicon → Bool → List Read → ℕ → Step
-matched_step lexicon sensitive reads n = word_step n (chosen lexicon sensitive (take n (symbols reads))) (blanks (take n reads))
+matched_step lexicon sensitive reads n =
+    word_step n (chosen lexicon sensitive (take n (symbols reads))) (blanks (take n reads))
 
 -- the longest match is taken, and without one the alarm is dropped
 abbrev pub match_step : Lexicon → Bool → List Read → ℕ → Step
-match_step lexicon sensitive reads n = if nat_lt 0 n then matched_step lexicon sensitive reads n else Gives 1 []
+match_step lexicon sensitive reads n = if nat_lt 0 n then matched_step lexicon sensitive reads n
+    else Gives 1 []
 
 abbrev pub alarm_step : Lexicon → Bool → List Read → Step
-alarm_step lexicon sensitive reads = if nat_lt span_max (bytes_of (take (span lexicon reads) reads)) then Stops SpanTooLong else match_step lexicon sensitive reads (matched lexicon reads)
+alarm_step lexicon sensitive reads = if nat_lt span_max (bytes_of (take (span lexicon reads) reads))
+    then Stops SpanTooLong else match_step lexicon sensitive reads (matched lexicon reads)
 
 -- one item as it is spelled
 abbrev pub copied : List Read → Step
@@ -119,4 +127,5 @@ copied reads = Gives 1 (flat_map (λ read. spelled read.item) (take 1 reads))
 
 -- the first step: a match is begun at an alarm, and every other item is copied
 unfoldable pub post_step : Lexicon → Bool → List Read → Step
-post_step lexicon sensitive reads = if begins_alarm reads then alarm_step lexicon sensitive reads else copied reads
+post_step lexicon sensitive reads = if begins_alarm reads then alarm_step lexicon sensitive reads
+    else copied reads

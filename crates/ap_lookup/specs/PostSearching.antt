@@ -15,7 +15,8 @@ abbrev pub IsBegun : Lexicon → List Symbol → Type 0
 IsBegun lexicon seen = (length seen ≡ 0) ⊎ (lexicon.viable seen ≡ true)
 
 -- the symbols seen so far are the first of the items', and fit a beginning of a left word
-pub record IsSearch (p : Parts) (sensitive : Bool) (reads : List Read) (search : Search) : Type 0 where
+pub record IsSearch (p : Parts) (sensitive : Bool) (reads : List Read)
+    (search : Search) : Type 0 where
   pub seen_are : search.seen.items ≡ take (length search.seen.items) (symbols reads)
   pub lives_are : AreLive p sensitive search.seen.items search.lives
   pub begun : IsBegun (lexicon_of p sensitive) search.seen.items
@@ -27,7 +28,8 @@ pub record IsEnd (lexicon : Lexicon) (reads : List Read) (n : ℕ) : Type 0 wher
   pub past : (n ≡ length (symbols reads)) ⊎ (lexicon.viable (take (suc n) (symbols reads)) ≡ false)
 
 -- what the search found is what the definition says, and further items change nothing
-pub record IsFound (lexicon : Lexicon) (reads : List Read) (finished : Bool) (found : Found) : Type 0 where
+pub record IsFound (lexicon : Lexicon) (reads : List Read) (finished : Bool)
+    (found : Found) : Type 0 where
   pub matched_is : found.matched ≡ matched lexicon reads
   pub span_is : found.span ≡ fitting lexicon (symbols reads)
   pub settled : (found.span < length reads) ⊎ (finished ≡ true)

@@ -17,12 +17,19 @@ post_generated lexicon sensitive items = steps (post_step lexicon sensitive) 0 i
 
 -- a limit that it meets is the fault; otherwise what stops reading is
 abbrev pub post_generated_by : Lexicon → Bool → Reads → Ending → Told
-post_generated_by lexicon sensitive read ending = record { text = (post_generated lexicon sensitive read.items).text; fault = or_else (post_generated lexicon sensitive read.items).fault (stop_at ending read.stop) }
+post_generated_by lexicon sensitive read ending =
+    record {
+      text = (post_generated lexicon sensitive read.items).text;
+      fault =
+          or_else (post_generated lexicon sensitive read.items).fault (stop_at ending read.stop);
+    }
 
 abbrev pub post_generated_text : Lexicon → Bool → List ℕ → Ending → Told
-post_generated_text lexicon sensitive text ending = post_generated_by lexicon sensitive (reads Generated 0 text) ending
+post_generated_text lexicon sensitive text ending =
+    post_generated_by lexicon sensitive (reads Generated 0 text) ending
 
--- what is seen of the work: its dictionary, whether case counts, the items that it holds, and whether they are the last
+-- what is seen of the work: its dictionary, whether case counts, the items that it holds, and
+-- whether they are the last
 pub record Posting : Type 0 where
   pub compiled : Parts
   pub sensitive : Bool

@@ -29,7 +29,8 @@ abbrev pub is_marked : List Symbol → Bool
 is_marked [] = false
 is_marked (x ∷ word) = is_mark x
 
--- the right words of any kind whose left word fits these symbols, with the lemma's case, in order, each once
+-- the right words of any kind whose left word fits these symbols, with the lemma's case, in order,
+-- each once
 abbrev pub forms_of : Lexicon → Bool → List Symbol → List Symbol → List (List Symbol)
 forms_of lexicon sensitive word symbols = carried_words lexicon sensitive (lemma word) symbols
 
@@ -48,15 +49,18 @@ pub record Translated : Type 0 where
 
 -- the first n symbols are taken: their right words, and what follows them
 abbrev pub taken : Lexicon → Bool → List Symbol → ℕ → Translated
-taken lexicon sensitive word n = record { heads = forms_of lexicon sensitive word (take n word); left = drop n word }
+taken lexicon sensitive word n =
+    record { heads = forms_of lexicon sensitive word (take n word); left = drop n word }
 
 -- no prefix is taken: there is no head, and the whole word is left
 abbrev pub untaken : List Symbol → Translated
 untaken word = record { heads = []; left = word }
 
 abbrev pub translated_at : Lexicon → Bool → List Symbol → ℕ → Translated
-translated_at lexicon sensitive word n = if nat_lt 0 n then taken lexicon sensitive word n else untaken word
+translated_at lexicon sensitive word n = if nat_lt 0 n then taken lexicon sensitive word n
+    else untaken word
 
 -- the longest prefix is taken, if there is one; of a word that begins with * or @ none is
 unfoldable pub translation : Lexicon → Bool → List Symbol → Translated
-translation lexicon sensitive word = if is_marked word then untaken word else translated_at lexicon sensitive word (prefix lexicon word)
+translation lexicon sensitive word = if is_marked word then untaken word
+    else translated_at lexicon sensitive word (prefix lexicon word)

@@ -1,4 +1,5 @@
--- Bilingual lookup (`lt-proc -b`) and generation (`lt-proc -g`, `-n`, `-d`) of the items of a text, and of a whole text.
+-- Bilingual lookup (`lt-proc -b`) and generation (`lt-proc -g`, `-n`, `-d`) of the items of a text,
+-- and of a whole text.
 use Rattle.std.specs.Prelude.{ℕ, Bool, List, ◌++◌}
 use Rattle.ap_symbol.specs.declared.symbol.Symbol.{Symbol}
 use Rattle.ap_stream.specs.Each.{Single, each, held_items}
@@ -19,19 +20,31 @@ bilingual_unit lexicon sensitive words = bilingual lexicon sensitive (first_word
 abbrev pub generated_unit : Lexicon → Marks → Bool → List (List Symbol) → List ℕ
 generated_unit lexicon marks sensitive words = generated lexicon marks sensitive (first_word words)
 
--- Each item by itself, and then what stops reading. Where the text was cut, it is no fault that an item is unfinished.
+-- Each item by itself, and then what stops reading. Where the text was cut, it is no fault that an
+-- item is unfinished.
 abbrev pub looked_up : (List (List Symbol) → List ℕ) → Reads → Ending → Told
-looked_up given read ending = record { text = (each given read.items).text; fault = or_else (each given read.items).fault (stop_at ending read.stop) }
+looked_up given read ending =
+    record {
+      text = (each given read.items).text;
+      fault =
+          or_else (each given read.items).fault (stop_at ending read.stop);
+    }
 
 abbrev pub bilingual_text : Lexicon → Bool → List ℕ → Ending → Told
-bilingual_text lexicon sensitive text ending = looked_up (bilingual_unit lexicon sensitive) (reads Lexical 0 text) ending
+bilingual_text lexicon sensitive text ending =
+    looked_up (bilingual_unit lexicon sensitive) (reads Lexical 0 text) ending
 
 abbrev pub generated_text : Lexicon → Marks → Bool → List ℕ → Ending → Told
-generated_text lexicon marks sensitive text ending = looked_up (generated_unit lexicon marks sensitive) (reads Lexical 0 text) ending
+generated_text lexicon marks sensitive text ending =
+    looked_up (generated_unit lexicon marks sensitive) (reads Lexical 0 text) ending
 
 -- what is still to come of work where these items still come
 abbrev pub bilingual_work : Single Looking → List Read → Told
-bilingual_work h xs = each (bilingual_unit (lexicon_of h.writer.compiled h.writer.sensitive) h.writer.sensitive) (held_items h.item ++ xs)
+bilingual_work h xs = each
+    (bilingual_unit (lexicon_of h.writer.compiled h.writer.sensitive) h.writer.sensitive)
+    (held_items h.item ++ xs)
 
 abbrev pub generation_work : Single Generating → List Read → Told
-generation_work h xs = each (generated_unit (lexicon_of h.writer.compiled h.writer.sensitive) h.writer.marks h.writer.sensitive) (held_items h.item ++ xs)
+generation_work h xs = each
+    (generated_unit (lexicon_of h.writer.compiled h.writer.sensitive) h.writer.marks
+    h.writer.sensitive) (held_items h.item ++ xs)

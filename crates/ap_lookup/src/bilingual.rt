@@ -14,12 +14,14 @@ use std::marker::Model;
 
 /// Bilingual lookup of a Lexical text (`lt-proc -b`): a `Stage` over bytes.
 ///
-/// Each unit becomes `^source/translation$`, several translations joined by `/`: the heads of its word
-/// by the dictionary, each followed by the symbols left over (`translate`). Without a head the only
-/// translation is `@` and the word; a word that begins with `*` or `@` is its own translation. Every
-/// other item is copied. Where case counts, a symbol fits itself alone and heads keep their case.
+/// Each unit becomes `^source/translation$`, several translations joined by `/`: the heads of its
+/// word by the dictionary, each followed by the symbols left over (`translate`). Without a head the
+/// only translation is `@` and the word; a word that begins with `*` or `@` is its own translation.
+/// Every other item is copied. Where case counts, a symbol fits itself alone and heads keep their
+/// case.
 ///
-/// What is written for one unit with more than `UNIT_MAX` bytes is answered by its limit at the unit.
+/// What is written for one unit with more than `UNIT_MAX` bytes is answered by its limit at the
+/// unit.
 #[derive(Drop)]
 pub struct Bilingual {
     stage: Staged<BilingualWork>,
@@ -38,7 +40,9 @@ impl Model for Bilingual {
 impl Bilingual {
     /// A new stage by this dictionary.
     pub fn new(alloc: Global, compiled: Compiled, sensitive: bool) -> Result<Bilingual, Memory>
-        ensures rest { IfOk result (λ made. (x : List ℕ) (e : Ending) → rest_of bilingual_work made x e ≡ bilingual_text (lexicon_of compiled sensitive) sensitive x e) }
+        ensures rest { IfOk result (λ made. (x : List ℕ) (e : Ending) →
+            rest_of bilingual_work made x e
+            ≡ bilingual_text (lexicon_of compiled sensitive) sensitive x e) }
         ensures pending { IfOk result (λ made. made.pending ≡ []) }
         ensures ended { IfOk result (λ made. made.ended ≡ false) }
         ensures fault { IfOk result (λ made. made.fault ≡ None) }

@@ -11,9 +11,9 @@ use ap_symbol::{Bytes, Memory};
 use std::alloc::Global;
 use std::marker::Model;
 
-/// Bilingual lookup of items (`lt-proc -b`): a `Handler` over the items of a Lexical text. Each unit is
-/// written as `BilingualWriter` writes its word, and kept as `Keeping` keeps it; every other item is
-/// copied as it is spelled.
+/// Bilingual lookup of items (`lt-proc -b`): a `Handler` over the items of a Lexical text. Each
+/// unit is written as `BilingualWriter` writes its word, and kept as `Keeping` keeps it; every
+/// other item is copied as it is spelled.
 #[derive(Drop)]
 pub struct BilingualWork {
     each: Each<Keeping<BilingualWriter>>,

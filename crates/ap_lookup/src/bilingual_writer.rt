@@ -14,8 +14,9 @@ use std::alloc::Global;
 use std::marker::Model;
 
 /// Writes a word with its translations (`lt-proc -b`): `^source/translation$`, several translations
-/// joined by `/`. They are the heads, each followed by the symbols left over. Without a head the only
-/// translation is `@` and the word, and a word that begins with `*` or `@` is its own translation.
+/// joined by `/`. They are the heads, each followed by the symbols left over. Without a head the
+/// only translation is `@` and the word, and a word that begins with `*` or `@` is its own
+/// translation.
 #[derive(Drop)]
 pub struct BilingualWriter {
     translator: Translator,
@@ -31,7 +32,8 @@ impl Model for BilingualWriter {
 
 /// Appends the heads, each behind a `/` and followed by the symbols left over.
 fn push_heads(heads: &[Word], rest: &Word, text: &mut Bytes) -> Result<(), Memory>
-    ensures { OnOk result (text.new ≡ text.old ++ flat_map slashed (map (λ h. h ++ rest.now) heads.now)) }
+    ensures { OnOk result (text.new ≡ text.old
+        ++ flat_map slashed (map (λ h. h ++ rest.now) heads.now)) }
 {
     for head in heads {
         text.extend(b"/")?;
@@ -43,7 +45,8 @@ fn push_heads(heads: &[Word], rest: &Word, text: &mut Bytes) -> Result<(), Memor
 
 /// Appends the translations of a word, each behind a `/`.
 fn push_translations(word: &Word, made: &Translation, text: &mut Bytes) -> Result<(), Memory>
-    ensures { OnOk result (text.new ≡ text.old ++ flat_map slashed (translations_by word.now made.now.heads made.now.rest)) }
+    ensures { OnOk result (text.new ≡ text.old
+        ++ flat_map slashed (translations_by word.now made.now.heads made.now.rest)) }
 {
     if made.heads.is_empty() {
         text.extend(b"/@")?;
@@ -54,7 +57,10 @@ fn push_translations(word: &Word, made: &Translation, text: &mut Bytes) -> Resul
 
 /// Looks a word up, and appends its translations, each behind a `/`.
 fn push_translated(translator: &mut Translator, word: &Word, text: &mut Bytes) -> Result<(), Memory>
-    ensures text { OnOk result (text.new ≡ text.old ++ flat_map slashed (translations (lexicon_of translator.old.compiled translator.old.sensitive) translator.old.sensitive word.now)) }
+    ensures text { OnOk result
+        (text.new ≡ text.old ++ flat_map slashed
+        (translations (lexicon_of translator.old.compiled translator.old.sensitive)
+        translator.old.sensitive word.now)) }
     ensures same { translator.new ≡ translator.old }
 {
     if is_marked(word.symbols()) {

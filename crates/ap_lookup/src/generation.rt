@@ -16,11 +16,12 @@ use std::marker::Model;
 /// Generation of a Lexical text (`lt-proc -g`, `-n`, `-d`), by a dictionary that was compiled from
 /// right to left: a `Stage` over bytes.
 ///
-/// Each unit becomes its forms: the right words of any kind whose left word fits the whole unit, with
-/// the lemma's case, in order, each once, joined by `/`. A unit without a form, and one that begins
-/// with `*` or `@`, becomes what the marks say. Every other item is copied.
+/// Each unit becomes its forms: the right words of any kind whose left word fits the whole unit,
+/// with the lemma's case, in order, each once, joined by `/`. A unit without a form, and one that
+/// begins with `*` or `@`, becomes what the marks say. Every other item is copied.
 ///
-/// What is written for one unit with more than `UNIT_MAX` bytes is answered by its limit at the unit.
+/// What is written for one unit with more than `UNIT_MAX` bytes is answered by its limit at the
+/// unit.
 #[derive(Drop)]
 pub struct Generation {
     stage: Staged<GenerationWork>,
@@ -44,7 +45,9 @@ impl Generation {
         marks: Marks,
         sensitive: bool,
     ) -> Result<Generation, Memory>
-        ensures rest { IfOk result (λ made. (x : List ℕ) (e : Ending) → rest_of generation_work made x e ≡ generated_text (lexicon_of compiled sensitive) marks sensitive x e) }
+        ensures rest { IfOk result (λ made. (x : List ℕ) (e : Ending) →
+            rest_of generation_work made x e
+            ≡ generated_text (lexicon_of compiled sensitive) marks sensitive x e) }
         ensures pending { IfOk result (λ made. made.pending ≡ []) }
         ensures ended { IfOk result (λ made. made.ended ≡ false) }
         ensures fault { IfOk result (λ made. made.fault ≡ None) }

@@ -11,9 +11,9 @@ use ap_symbol::{Bytes, Memory};
 use std::alloc::Global;
 use std::marker::Model;
 
-/// Generation of items (`lt-proc -g`, `-n`, `-d`): a `Handler` over the items of a Lexical text. Each
-/// unit is written as `GenerationWriter` writes its word, and kept as `Keeping` keeps it; every other
-/// item is copied as it is spelled.
+/// Generation of items (`lt-proc -g`, `-n`, `-d`): a `Handler` over the items of a Lexical text.
+/// Each unit is written as `GenerationWriter` writes its word, and kept as `Keeping` keeps it;
+/// every other item is copied as it is spelled.
 #[derive(Drop)]
 pub struct GenerationWork {
     each: Each<Keeping<GenerationWriter>>,

@@ -25,9 +25,9 @@ pub enum Marks {
     Tagged,
 }
 
-/// Writes the forms of a word (`lt-proc -g`, `-n`, `-d`): the right words of any kind whose left word
-/// fits the whole word, with the lemma's case, in order, each once, joined by `/`. A word without a
-/// form, and one that begins with `*` or `@`, is written as its marks say.
+/// Writes the forms of a word (`lt-proc -g`, `-n`, `-d`): the right words of any kind whose left
+/// word fits the whole word, with the lemma's case, in order, each once, joined by `/`. A word
+/// without a form, and one that begins with `*` or `@`, is written as its marks say.
 #[derive(Drop)]
 pub struct GenerationWriter {
     alloc: Global,
@@ -45,7 +45,12 @@ impl Model for GenerationWriter {
 
     ghost Value = { Generating };
 
-    ghost view = { λ w. record { compiled = w.compiled; marks = w.marks; sensitive = w.sensitive } };
+    ghost view = { λ w. record {
+      compiled = w.compiled;
+      marks = w.marks;
+      sensitive =
+          w.sensitive;
+    } };
 
     ghost invariant = { λ w. IfSome w.lives (AreLive w.compiled w.sensitive []) };
 }
@@ -134,8 +139,8 @@ fn step_whole(
     Ok(())
 }
 
-/// The right words of any kind that fit the whole word, with the lemma's case, in order, each once. The live sets are left
-/// as they were, unless it finds no memory.
+/// The right words of any kind that fit the whole word, with the lemma's case, in order, each once.
+/// The live sets are left as they were, unless it finds no memory.
 fn forms_kept(
     alloc: Global,
     compiled: &Compiled,
@@ -144,7 +149,9 @@ fn forms_kept(
     kept: &mut Option<LiveSections>,
 ) -> Result<Words, Memory>
     requires { IfSome kept.old (AreLive compiled.now sensitive []) }
-    ensures value { IfOk result (λ words. words ≡ forms_of (lexicon_of compiled.now sensitive) sensitive word.now word.now) }
+    ensures value { IfOk result
+        (λ words. words ≡ forms_of (lexicon_of compiled.now sensitive) sensitive
+        word.now word.now) }
     ensures kept { IfSome kept.new (AreLive compiled.now sensitive []) }
 {
     let mut lives = take_lives(alloc, compiled, kept)?;
@@ -197,7 +204,9 @@ fn push_generated(
     text: &mut Bytes,
 ) -> Result<(), Memory>
     requires { IfSome kept.old (AreLive compiled.now sensitive []) }
-    ensures text { OnOk result (text.new ≡ text.old ++ generated (lexicon_of compiled.now sensitive) marks sensitive word.now) }
+    ensures text { OnOk result
+        (text.new ≡ text.old ++ generated (lexicon_of compiled.now sensitive) marks
+        sensitive word.now) }
     ensures kept { IfSome kept.new (AreLive compiled.now sensitive []) }
 {
     if is_marked(word.symbols()) {
@@ -228,7 +237,8 @@ impl GenerationWriter {
 }
 
 impl WordWriter for GenerationWriter {
-    ghost given = { λ w word. generated (lexicon_of w.compiled w.sensitive) w.marks w.sensitive word };
+    ghost given = { λ w word. generated (lexicon_of w.compiled w.sensitive) w.marks
+        w.sensitive word };
 
     fn write(&mut self, word: &Word, into: &mut Bytes) -> Result<(), Memory> {
         push_generated(

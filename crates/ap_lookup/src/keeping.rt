@@ -12,9 +12,10 @@ use std::alloc::Global;
 use std::marker::Model;
 use std::mem;
 
-/// Writes what a writer writes for a word, and keeps it for the next time that the word comes: a text
-/// in which words come again and again costs a look-up of each word's bytes, which makes no word. At
-/// most 65,536 words with 16,777,216 bytes are kept; when they are full, all are forgotten.
+/// Writes what a writer writes for a word, and keeps it for the next time that the word comes: a
+/// text in which words come again and again costs a look-up of each word's bytes, which makes no
+/// word. At most 65,536 words with 16,777,216 bytes are kept; when they are full, all are
+/// forgotten.
 #[derive(Drop)]
 pub struct Keeping<W: WordWriter + Drop> {
     alloc: Global,
@@ -54,7 +55,8 @@ impl<W: WordWriter + Drop> Keeping<W> {
 
     /// Appends the text of the word with these bytes if it is kept, and answers whether it is.
     fn recall(&mut self, key: &[u8], into: &mut Bytes) -> Result<bool, Memory>
-        ensures text { (word : List Symbol) → AreProper word → key.now ≡ rendering word → result ≡ Ok true → into.new ≡ into.old ++ W.given self.old word }
+        ensures text { (word : List Symbol) → AreProper word → key.now ≡ rendering word →
+            result ≡ Ok true → into.new ≡ into.old ++ W.given self.old word }
         ensures none { result ≡ Ok false → into.new ≡ into.old }
         ensures same { self.new ≡ self.old }
     {
@@ -82,8 +84,8 @@ impl<W: WordWriter + Drop> Keeping<W> {
         into.extend(self.text.as_slice())
     }
 
-    /// Appends the text of a word. The error means want of memory; then a front of the text may stand
-    /// there, and it can be used again.
+    /// Appends the text of a word. The error means want of memory; then a front of the text may
+    /// stand there, and it can be used again.
     pub fn write_word(&mut self, word: &Word, into: &mut Bytes) -> Result<(), Memory>
         ensures text { OnOk result (into.new ≡ into.old ++ W.given self.old word.now) }
         ensures same { W.given self.new ≡ W.given self.old }

@@ -32,7 +32,8 @@ pub(crate) struct Entry {
     pub(crate) text: Bytes,
 }
 
-/// Where the entry of a word with this hash may be found. It is a hint: the entry's bytes are compared with the word's.
+/// Where the entry of a word with this hash may be found. It is a hint: the entry's bytes are
+/// compared with the word's.
 #[derive(Clone, Copy)]
 struct Place {
     hash: u32,
@@ -78,7 +79,8 @@ fn find_place(places: &[Place], hash: u32) -> Option<usize> {
     None
 }
 
-/// Writes a place for this hash: over that of the same hash, over a free one, or over the first that is tried.
+/// Writes a place for this hash: over that of the same hash, over a free one, or over the first
+/// that is tried.
 fn set_place(places: &mut [Place], place: Place) {
     let mut at = place_at(place.hash, 0);
     for turn in 0..TRIES {
@@ -125,7 +127,8 @@ fn is_same(a: &[u8], b: &[u8]) -> bool
 
 /// What the word with these bytes gave, if this entry is the word's.
 fn told_at<'a>(entries: &'a [Entry], at: usize, key: &[u8]) -> Option<&'a [u8]>
-    ensures { (given : List Symbol → List ℕ) → AreKept given entries.now → IfSome result (λ text. IsTold given key.now text.now) }
+    ensures { (given : List Symbol → List ℕ) → AreKept given entries.now →
+        IfSome result (λ text. IsTold given key.now text.now) }
 {
     if at >= entries.len() {
         return None;
@@ -153,7 +156,8 @@ impl Kept {
 
     /// What the word with these bytes gave, if it is known.
     pub(crate) fn find(&self, key: &[u8]) -> Option<&[u8]>
-        ensures { (given : List Symbol → List ℕ) → AreKept given self.now.entries.items → IfSome result (λ text. IsTold given key.now text.now) }
+        ensures { (given : List Symbol → List ℕ) → AreKept given self.now.entries.items →
+            IfSome result (λ text. IsTold given key.now text.now) }
     {
         match find_place(self.places.as_slice(), hash_of(key)) {
             None => None,
@@ -168,7 +172,8 @@ impl Kept {
         self.recalled = self.recalled.saturating_add(1);
     }
 
-    /// Whether a word that was looked up is worth keeping: each, unless few of the last words were recalled.
+    /// Whether a word that was looked up is worth keeping: each, unless few of the last words were
+    /// recalled.
     fn is_worth(&mut self) -> bool
         ensures { self.new.entries ≡ self.old.entries }
     {
@@ -183,7 +188,8 @@ impl Kept {
 
     /// Forgets all, where there is no room for so many bytes more.
     fn make_room(&mut self, size: usize) -> Result<(), Memory>
-        ensures { (given : List Symbol → List ℕ) → AreKept given self.old.entries.items → AreKept given self.new.entries.items }
+        ensures { (given : List Symbol → List ℕ) → AreKept given self.old.entries.items →
+            AreKept given self.new.entries.items }
     {
         if self.entries.len() >= ENTRIES_MAX || self.bytes.saturating_add(size) > BYTES_MAX {
             self.entries.clear();
@@ -198,7 +204,8 @@ impl Kept {
 
     /// Adds an entry.
     fn add(&mut self, entry: Entry) -> Result<(), Memory>
-        ensures { (given : List Symbol → List ℕ) → IsKept given entry → AreKept given self.old.entries.items → AreKept given self.new.entries.items }
+        ensures { (given : List Symbol → List ℕ) → IsKept given entry →
+            AreKept given self.old.entries.items → AreKept given self.new.entries.items }
     {
         let size = entry
             .key
@@ -225,7 +232,8 @@ impl Kept {
     }
 
     fn keep_copy(&mut self, alloc: Global, key: &[u8], text: &[u8]) -> Result<(), Memory>
-        ensures { (given : List Symbol → List ℕ) → IsTold given key.now text.now → AreKept given self.old.entries.items → AreKept given self.new.entries.items }
+        ensures { (given : List Symbol → List ℕ) → IsTold given key.now text.now →
+            AreKept given self.old.entries.items → AreKept given self.new.entries.items }
     {
         let key = copy_of(alloc, key)?;
         let text = copy_of(alloc, text)?;
@@ -234,7 +242,8 @@ impl Kept {
 
     /// Keeps what the word with these bytes gave, if it is worth it and there is memory.
     pub(crate) fn keep(&mut self, alloc: Global, key: &[u8], text: &[u8])
-        ensures { (given : List Symbol → List ℕ) → IsTold given key.now text.now → AreKept given self.old.entries.items → AreKept given self.new.entries.items }
+        ensures { (given : List Symbol → List ℕ) → IsTold given key.now text.now →
+            AreKept given self.old.entries.items → AreKept given self.new.entries.items }
     {
         if self.is_worth() {
             let _ = self.keep_copy(alloc, key, text);

@@ -6,15 +6,20 @@ ghost use Rattle.ap_live.specs.Lexicon.{Lexicon};
 ghost use Rattle.ap_lookup.specs.Laws.{IsLongest, HasNone, BilingualKeeps, GenerationKeeps, PostGenerationKeeps};
 ghost use Rattle.ap_lookup.specs.Translation.{is_marked, taken, untaken, translation};
 
-/// The law of translation, whatever the lexicon: of the prefixes that hold the whole lemma and fit a
-/// left word the longest is taken. Where there is none, and for a word that begins with `*` or `@`,
-/// there is no head and the whole word is left, and only then is there no head. Heads stand in the
-/// order of words, each once.
+/// The law of translation, whatever the lexicon: of the prefixes that hold the whole lemma and fit
+/// a left word the longest is taken. Where there is none, and for a word that begins with `*` or
+/// `@`, there is no head and the whole word is left, and only then is there no head. Heads stand in
+/// the order of words, each once.
 pub fn longest_prefix_is_taken()
-    ensures longest { (lexicon : Lexicon) (sensitive : Bool) (word : List Symbol) (n : ℕ) → is_marked word ≡ false → IsLongest lexicon word n → translation lexicon sensitive word ≡ taken lexicon sensitive word n }
-    ensures none { (lexicon : Lexicon) (sensitive : Bool) (word : List Symbol) → HasNone lexicon word → translation lexicon sensitive word ≡ untaken word }
-    ensures no_head { (lexicon : Lexicon) (sensitive : Bool) (word : List Symbol) → (((translation lexicon sensitive word).heads ≡ []) ↔ HasNone lexicon word) }
-    ensures order { (lexicon : Lexicon) (sensitive : Bool) (word : List Symbol) → IsStrictlySortedBy word_cmp (translation lexicon sensitive word).heads }
+    ensures longest { (lexicon : Lexicon) (sensitive : Bool) (word : List Symbol) (n : ℕ) →
+        is_marked word ≡ false → IsLongest lexicon word n → translation lexicon sensitive word
+        ≡ taken lexicon sensitive word n }
+    ensures none { (lexicon : Lexicon) (sensitive : Bool) (word : List Symbol) →
+        HasNone lexicon word → translation lexicon sensitive word ≡ untaken word }
+    ensures no_head { (lexicon : Lexicon) (sensitive : Bool) (word : List Symbol) →
+        (((translation lexicon sensitive word).heads ≡ []) ↔ HasNone lexicon word) }
+    ensures order { (lexicon : Lexicon) (sensitive : Bool) (word : List Symbol) →
+        IsStrictlySortedBy word_cmp (translation lexicon sensitive word).heads }
 {}
 
 /// The law that bilingual lookup keeps superblanks, by a lexicon whose right words can be written:

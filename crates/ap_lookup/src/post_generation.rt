@@ -12,20 +12,21 @@ use ap_symbol::Memory;
 use std::alloc::Global;
 use std::marker::Model;
 
-/// Post-generation of a Generated text (`lt-proc -p`), by a dictionary that was compiled from left to
-/// right: a `Stage` over bytes.
+/// Post-generation of a Generated text (`lt-proc -p`), by a dictionary that was compiled from left
+/// to right: a `Stage` over bytes.
 ///
-/// A match begins at an alarm, a bare `~`, alone: the greatest number of items that fits a left word, of
-/// any kind and without a test of what follows. The case of the matched letters is carried to its right
-/// words, and the least of the words so made is written. Its blanks are slots: they are filled in order
-/// with the blanks that were matched, whole, and with a space where there is none; the superblanks of
-/// the blanks left over follow. Without a match the alarm is dropped. Every other item is copied.
+/// A match begins at an alarm, a bare `~`, alone: the greatest number of items that fits a left
+/// word, of any kind and without a test of what follows. The case of the matched letters is carried
+/// to its right words, and the least of the words so made is written. Its blanks are slots: they
+/// are filled in order with the blanks that were matched, whole, and with a space where there is
+/// none; the superblanks of the blanks left over follow. Without a match the alarm is dropped.
+/// Every other item is copied.
 ///
-/// Where case counts, a symbol fits itself alone and words keep their case; otherwise a small letter of
-/// the dictionary fits its capital too.
+/// Where case counts, a symbol fits itself alone and words keep their case; otherwise a small
+/// letter of the dictionary fits its capital too.
 ///
-/// A match that must see more than `SPAN_MAX` bytes, and a word of more than `UNIT_MAX`, is answered by
-/// its limit at the alarm.
+/// A match that must see more than `SPAN_MAX` bytes, and a word of more than `UNIT_MAX`, is
+/// answered by its limit at the alarm.
 #[derive(Drop)]
 pub struct PostGeneration {
     stage: Staged<PostGenerationWork>,
@@ -43,7 +44,8 @@ impl Model for PostGeneration {
 impl PostGeneration {
     /// A new stage by this dictionary. The error means want of memory.
     pub fn new(alloc: Global, compiled: Compiled, sensitive: bool) -> Result<PostGeneration, Memory>
-        ensures rest { IfOk result (λ made. (x : List ℕ) (e : Ending) → rest_of post_work made x e ≡ post_generated_text (lexicon_of compiled sensitive) sensitive x e) }
+        ensures rest { IfOk result (λ made. (x : List ℕ) (e : Ending) → rest_of post_work made x e
+            ≡ post_generated_text (lexicon_of compiled sensitive) sensitive x e) }
         ensures pending { IfOk result (λ made. made.pending ≡ []) }
         ensures ended { IfOk result (λ made. made.ended ≡ false) }
         ensures fault { IfOk result (λ made. made.fault ≡ None) }

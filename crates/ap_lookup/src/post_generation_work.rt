@@ -15,10 +15,10 @@ use std::alloc::Global;
 use std::marker::Model;
 use std::mem;
 
-/// Post-generation of items (`lt-proc -p`): a `Handler` over the items of a Generated text. At an alarm,
-/// a bare `~`, it holds the items that one match must see together, and looks at each of them once while
-/// further ones come; every other item is copied. The text has room for what a step writes, which is
-/// kept from step to step.
+/// Post-generation of items (`lt-proc -p`): a `Handler` over the items of a Generated text. At an
+/// alarm, a bare `~`, it holds the items that one match must see together, and looks at each of
+/// them once while further ones come; every other item is copied. The text has room for what a step
+/// writes, which is kept from step to step.
 #[derive(Drop)]
 pub struct PostGenerationWork {
     alloc: Global,
@@ -48,9 +48,16 @@ impl Model for PostGenerationWork {
 
     ghost Value = { Posting };
 
-    ghost view = { λ w. record { compiled = w.compiled; sensitive = w.sensitive; items = w.items; finished = w.finished } };
+    ghost view = { λ w. record {
+      compiled = w.compiled;
+      sensitive = w.sensitive;
+      items =
+          w.items;
+      finished = w.finished;
+    } };
 
-    ghost invariant = { λ w. AllByRecursion (IsRead Generated) w.items × IsSearch w.compiled w.sensitive w.items w.search };
+    ghost invariant = { λ w. AllByRecursion (IsRead Generated) w.items
+        × IsSearch w.compiled w.sensitive w.items w.search };
 }
 
 impl PostGenerationWork {
@@ -60,8 +67,8 @@ impl PostGenerationWork {
     ghost use Rattle.ap_live.specs.Lexicon.{IsCoherent};
     ghost use Rattle.ap_lookup.specs.PostSearching.{IsFirstPlace};
 
-    /// The work by this dictionary, which holds nothing. Where case counts, a symbol fits itself alone, and
-    /// words are given as they stand. The error means want of memory.
+    /// The work by this dictionary, which holds nothing. Where case counts, a symbol fits itself
+    /// alone, and words are given as they stand. The error means want of memory.
     pub fn new(
         alloc: Global,
         compiled: Compiled,
@@ -137,7 +144,9 @@ impl PostGenerationWork {
         requires some { 0 < length self.old.items }
         requires bare { begins_test self.old.items ≡ false }
         ensures same { self.new ≡ self.old }
-        ensures step { IfOk result (λ made. meant made ≡ post_step (lexicon_of self.old.compiled self.old.sensitive) self.old.sensitive self.old.items) }
+        ensures step { IfOk result
+            (λ made. meant made ≡ post_step (lexicon_of self.old.compiled self.old.sensitive)
+            self.old.sensitive self.old.items) }
         ensures span { span (lexicon_of self.old.compiled self.old.sensitive) self.old.items ≡ 0 }
     {
         let mut text = take_room(self.alloc, &mut self.text);
@@ -149,9 +158,15 @@ impl PostGenerationWork {
     fn search(&mut self) -> Result<Option<Written>, Memory>
         requires { begins_test self.old.items ≡ true }
         ensures same { self.new ≡ self.old }
-        ensures step { IfOk result (λ step. IfSome step (λ made. (meant made ≡ post_step (lexicon_of self.old.compiled self.old.sensitive) self.old.sensitive self.old.items)
-            × ((span (lexicon_of self.old.compiled self.old.sensitive) self.old.items < length self.old.items) ⊎ (self.old.finished ≡ true)))) }
-        ensures waits { result ≡ Ok None → (self.old.finished ≡ false) × (span (lexicon_of self.old.compiled self.old.sensitive) self.old.items ≡ length self.old.items) }
+        ensures step { IfOk result
+            (λ step. IfSome step (λ made.
+            (meant made ≡ post_step (lexicon_of self.old.compiled self.old.sensitive)
+            self.old.sensitive self.old.items)
+            × ((span (lexicon_of self.old.compiled self.old.sensitive) self.old.items < length
+            self.old.items) ⊎ (self.old.finished ≡ true)))) }
+        ensures waits { result ≡ Ok None → (self.old.finished ≡ false)
+            × (span (lexicon_of self.old.compiled self.old.sensitive) self.old.items
+            ≡ length self.old.items) }
     {
         let reads = self.items.as_slice();
         match self
@@ -182,9 +197,15 @@ impl PostGenerationWork {
         ensures same { self.new ≡ self.old }
         ensures coherent { IsCoherent (lexicon_of self.old.compiled self.old.sensitive) }
         ensures items { AllByRecursion (IsRead Generated) self.old.items }
-        ensures step { IfOk result (λ step. IfSome step (λ made. (meant made ≡ post_step (lexicon_of self.old.compiled self.old.sensitive) self.old.sensitive self.old.items)
-            × ((span (lexicon_of self.old.compiled self.old.sensitive) self.old.items < length self.old.items) ⊎ (self.old.finished ≡ true)))) }
-        ensures waits { result ≡ Ok None → (self.old.finished ≡ false) × (span (lexicon_of self.old.compiled self.old.sensitive) self.old.items ≡ length self.old.items) }
+        ensures step { IfOk result
+            (λ step. IfSome step (λ made.
+            (meant made ≡ post_step (lexicon_of self.old.compiled self.old.sensitive)
+            self.old.sensitive self.old.items)
+            × ((span (lexicon_of self.old.compiled self.old.sensitive) self.old.items < length
+            self.old.items) ⊎ (self.old.finished ≡ true)))) }
+        ensures waits { result ≡ Ok None → (self.old.finished ≡ false)
+            × (span (lexicon_of self.old.compiled self.old.sensitive) self.old.items
+            ≡ length self.old.items) }
     {
         self.know();
         if begins_alarm(self.items.as_slice()) {

@@ -12,16 +12,16 @@ use ap_stream::{Character, Item, Read};
 use ap_symbol::{Memory, Symbol, is_white};
 use std::alloc::Global;
 
-/// What stands at an alarm: the greatest length that fits a left word, or 0, and how many items must be
-/// seen together.
+/// What stands at an alarm: the greatest length that fits a left word, or 0, and how many items
+/// must be seen together.
 #[derive(Clone, Copy)]
 pub(crate) struct Found {
     pub(crate) matched: usize,
     pub(crate) span: usize,
 }
 
-/// A search for a match at the front of the held items. It goes on from where it stands when further
-/// items come.
+/// A search for a match at the front of the held items. It goes on from where it stands when
+/// further items come.
 #[derive(Drop)]
 pub(crate) struct Search {
     pub(crate) lives: LiveSections,
@@ -81,7 +81,8 @@ impl Search {
     ghost use Rattle.ap_lookup.specs.PostSearching.{IsSearch, IsEnd, IsFound};
 
     pub(crate) fn start(alloc: Global, compiled: &Compiled) -> Result<Search, Memory>
-        ensures { IfOk result (λ search. (sensitive : Bool) → IsSearch compiled.now sensitive [] search) }
+        ensures { IfOk result (λ search. (sensitive : Bool) →
+            IsSearch compiled.now sensitive [] search) }
     {
         Ok(Search {
             lives: LiveSections::start(alloc, compiled)?,
@@ -91,7 +92,8 @@ impl Search {
 
     /// Begins anew at the front of other items.
     pub(crate) fn restart(&mut self)
-        ensures { (p : Parts) (sensitive : Bool) (old new : List Read) → IsSearch p sensitive old self.old → IsSearch p sensitive new self.new }
+        ensures { (p : Parts) (sensitive : Bool) (old new : List Read) →
+            IsSearch p sensitive old self.old → IsSearch p sensitive new self.new }
     {
         if self.seen.len() > 0 {
             self.lives.cut(0);
@@ -104,7 +106,9 @@ impl Search {
         ensures seen { OnOk result (self.new.seen.items ≡ self.old.seen.items ++ symbol ∷ []) }
         ensures lives { OnOk result (self.new.lives ≡ self.old.lives) }
         ensures same { OnErr result (self.new.seen.items ≡ self.old.seen.items) }
-        ensures back { OnErr result ((p : Parts) (sensitive : Bool) → AreLive p sensitive (self.old.seen.items ++ symbol ∷ []) self.old.lives → AreLive p sensitive self.old.seen.items self.new.lives) }
+        ensures back { OnErr result ((p : Parts) (sensitive : Bool) →
+            AreLive p sensitive (self.old.seen.items ++ symbol ∷ []) self.old.lives →
+            AreLive p sensitive self.old.seen.items self.new.lives) }
     {
         let at = self.seen.len();
         match self.seen.push(symbol) {
@@ -121,8 +125,10 @@ impl Search {
         requires search { IsSearch compiled.now sensitive reads.now self.old }
         requires more { length self.old.seen.items < length reads.now }
         ensures search { IsSearch compiled.now sensitive reads.now self.new }
-        ensures on { result ≡ Ok true → length self.new.seen.items ≡ length self.old.seen.items + 1 }
-        ensures ends { result ≡ Ok false → (self.new.seen ≡ self.old.seen) × IsEnd (lexicon_of compiled.now sensitive) reads.now (length self.old.seen.items) }
+        ensures on { result ≡ Ok true → length self.new.seen.items
+            ≡ length self.old.seen.items + 1 }
+        ensures ends { result ≡ Ok false → (self.new.seen ≡ self.old.seen)
+            × IsEnd (lexicon_of compiled.now sensitive) reads.now (length self.old.seen.items) }
     {
         let at = self.seen.len();
         match symbol_of_item(&reads[at].item) {
@@ -138,8 +144,8 @@ impl Search {
         }
     }
 
-    /// Looks at items while they may be read together, and answers whether it is known that one item
-    /// more may not.
+    /// Looks at items while they may be read together, and answers whether it is known that one
+    /// item more may not.
     fn step_on(
         &mut self,
         compiled: &Compiled,
@@ -148,7 +154,9 @@ impl Search {
     ) -> Result<bool, Memory>
         requires { IsSearch compiled.now sensitive reads.now self.old }
         ensures search { IsSearch compiled.now sensitive reads.now self.new }
-        ensures ends { IfOk result (λ _. IsEnd (lexicon_of compiled.now sensitive) reads.now (length self.new.seen.items)) }
+        ensures ends { IfOk result
+            (λ _. IsEnd (lexicon_of compiled.now sensitive) reads.now
+            (length self.new.seen.items)) }
         ensures more { result ≡ Ok true → length self.new.seen.items < length reads.now }
         ensures all { result ≡ Ok false → length self.new.seen.items ≡ length reads.now }
     {
@@ -164,7 +172,9 @@ impl Search {
     /// Goes back to the longest match, and answers its length, or 0.
     fn step_back(&mut self, compiled: &Compiled, sensitive: bool) -> usize
         requires { AreLive compiled.now sensitive self.old.seen.items self.old.lives }
-        ensures value { result ≡ greatest (is_match (lexicon_of compiled.now sensitive) 0 self.old.seen.items) (length self.old.seen.items) }
+        ensures value { result ≡ greatest
+            (is_match (lexicon_of compiled.now sensitive) 0 self.old.seen.items)
+            (length self.old.seen.items) }
         ensures within { result ≤ length self.old.seen.items }
         ensures lives { AreLive compiled.now sensitive self.new.seen.items self.new.lives }
         ensures seen { self.new.seen.items ≡ take result self.old.seen.items }
@@ -183,8 +193,8 @@ impl Search {
         matched
     }
 
-    /// What stands at the front of the items, which is an alarm, and then the search stands at the match;
-    /// none where an item more is wanted.
+    /// What stands at the front of the items, which is an alarm, and then the search stands at the
+    /// match; none where an item more is wanted.
     pub(crate) fn look(
         &mut self,
         compiled: &Compiled,
@@ -194,9 +204,14 @@ impl Search {
     ) -> Result<Option<Found>, Memory>
         requires { IsSearch compiled.now sensitive reads.now self.old }
         ensures search { IsSearch compiled.now sensitive reads.now self.new }
-        ensures found { IfOk result (λ look. IfSome look (IsFound (lexicon_of compiled.now sensitive) reads.now finished)) }
-        ensures at { IfOk result (λ look. IfSome look (λ found. self.new.seen.items ≡ take found.matched (symbols reads.now))) }
-        ensures waits { result ≡ Ok None → (finished ≡ false) × (fitting (lexicon_of compiled.now sensitive) (symbols reads.now) ≡ length reads.now) }
+        ensures found { IfOk result
+            (λ look. IfSome look (IsFound (lexicon_of compiled.now sensitive) reads.now finished)) }
+        ensures at { IfOk result
+            (λ look. IfSome look (λ found. self.new.seen.items
+            ≡ take found.matched (symbols reads.now))) }
+        ensures waits { result ≡ Ok None →
+            (finished ≡ false) × (fitting (lexicon_of compiled.now sensitive) (symbols reads.now)
+            ≡ length reads.now) }
     {
         let _ = compiled.alphabet();
         let ends = self.step_on(compiled, sensitive, reads)?;

@@ -41,12 +41,14 @@ fn push_symbol(
     text.extend(room.rendered())
 }
 
-/// Appends what fills a slot: the first blank from a place on, or a space. Answers the place behind it.
+/// Appends what fills a slot: the first blank from a place on, or a space. Answers the place behind
+/// it.
 fn push_slot(reads: &[Read], from: usize, text: &mut Bytes) -> Result<usize, Memory>
     requires { from ≤ length reads.now }
     ensures text { OnOk result (text.new ≡ text.old ++ filling (blanks (drop from reads.now))) }
     ensures within { IfOk result (λ n. n ≤ length reads.now) }
-    ensures rest { IfOk result (λ n. blanks (drop n reads.now) ≡ drop 1 (blanks (drop from reads.now))) }
+    ensures rest { IfOk result (λ n. blanks (drop n reads.now)
+        ≡ drop 1 (blanks (drop from reads.now))) }
 {
     let mut at = from;
     while at < reads.len() {
@@ -72,9 +74,11 @@ fn push_part(
 ) -> Result<usize, Memory>
     requires proper { IsTrue (is_proper symbol.now) }
     requires within { from ≤ length reads.now }
-    ensures text { OnOk result (text.new ≡ text.old ++ part symbol.now (blanks (drop from reads.now))) }
+    ensures text { OnOk result
+        (text.new ≡ text.old ++ part symbol.now (blanks (drop from reads.now))) }
     ensures within { IfOk result (λ n. n ≤ length reads.now) }
-    ensures rest { IfOk result (λ n. blanks (drop n reads.now) ≡ unused symbol.now (blanks (drop from reads.now))) }
+    ensures rest { IfOk result (λ n. blanks (drop n reads.now)
+        ≡ unused symbol.now (blanks (drop from reads.now))) }
 {
     if is_slot(symbol) {
         return push_slot(reads, from, text);
@@ -130,7 +134,8 @@ fn write_word(
     mut text: Bytes,
 ) -> Result<Written, Memory>
     requires { text ≡ [] }
-    ensures { IfOk result (λ made. meant made ≡ word_step (length reads.now) word.now (blanks reads.now)) }
+    ensures { IfOk result (λ made. meant made
+        ≡ word_step (length reads.now) word.now (blanks reads.now)) }
 {
     if word.rendered().len() > UNIT_MAX {
         return Ok(Written::Stops {
@@ -150,7 +155,8 @@ fn write_least(
     text: Bytes,
 ) -> Result<Written, Memory>
     requires { text ≡ [] }
-    ensures { IfOk result (λ made. meant made ≡ word_step (length reads.now) (least_word words.now) (blanks reads.now)) }
+    ensures { IfOk result (λ made. meant made
+        ≡ word_step (length reads.now) (least_word words.now) (blanks reads.now)) }
 {
     match words {
         [] => write_word(alloc, &Word::new(alloc), reads, text),
@@ -170,14 +176,16 @@ fn write_match(
 ) -> Result<Written, Memory>
     requires lives { AreLive compiled.now sensitive seen.now lives.now }
     requires empty { text ≡ [] }
-    ensures { IfOk result (λ made. meant made ≡ word_step (length reads.now) (chosen (lexicon_of compiled.now sensitive) sensitive seen.now) (blanks reads.now)) }
+    ensures { IfOk result (λ made. meant made
+        ≡ word_step (length reads.now)
+        (chosen (lexicon_of compiled.now sensitive) sensitive seen.now) (blanks reads.now)) }
 {
     let words = any_readings(alloc, compiled, sensitive, lives, seen)?;
     write_least(alloc, words.as_slice(), reads, text)
 }
 
-/// The step at an alarm, by what the search found, at whose match the live sets stand. It is written
-/// into the text, which is empty.
+/// The step at an alarm, by what the search found, at whose match the live sets stand. It is
+/// written into the text, which is empty.
 pub(crate) fn alarm_step(
     alloc: Global,
     compiled: &Compiled,
@@ -195,7 +203,8 @@ pub(crate) fn alarm_step(
     requires within { found.span ≤ length items.now }
     requires below { found.matched ≤ found.span }
     requires empty { text ≡ [] }
-    ensures { IfOk result (λ made. meant made ≡ alarm_lem (lexicon_of compiled.now sensitive) sensitive items.now) }
+    ensures { IfOk result (λ made. meant made
+        ≡ alarm_lem (lexicon_of compiled.now sensitive) sensitive items.now) }
 {
     if items.is_over(found.span) {
         return Ok(Written::Stops {

@@ -60,9 +60,17 @@ pub(crate) fn step_one(
     at: usize,
     lives: &mut LiveSections,
 ) -> Result<bool, Memory>
-    ensures on { result ≡ Ok true → (symbols : List Symbol) → AreLive compiled.now sensitive symbols lives.old → AreLive compiled.now sensitive (symbols ++ symbol.now ∷ []) lives.new × ((lexicon_of compiled.now sensitive).viable (symbols ++ symbol.now ∷ []) ≡ true) }
-    ensures off { result ≡ Ok false → (symbols : List Symbol) → length symbols ≡ at → AreLive compiled.now sensitive symbols lives.old → AreLive compiled.now sensitive symbols lives.new × ((lexicon_of compiled.now sensitive).viable (symbols ++ symbol.now ∷ []) ≡ false) }
-    ensures err { OnErr result ((symbols : List Symbol) → AreLive compiled.now sensitive symbols lives.old → AreLive compiled.now sensitive symbols lives.new) }
+    ensures on { result ≡ Ok true → (symbols : List Symbol) →
+        AreLive compiled.now sensitive symbols lives.old →
+        AreLive compiled.now sensitive (symbols ++ symbol.now ∷ []) lives.new
+        × ((lexicon_of compiled.now sensitive).viable (symbols ++ symbol.now ∷ []) ≡ true) }
+    ensures off { result ≡ Ok false → (symbols : List Symbol) → length symbols ≡ at →
+        AreLive compiled.now sensitive symbols lives.old →
+        AreLive compiled.now sensitive symbols lives.new
+        × ((lexicon_of compiled.now sensitive).viable (symbols ++ symbol.now ∷ []) ≡ false) }
+    ensures err { OnErr result ((symbols : List Symbol) →
+        AreLive compiled.now sensitive symbols lives.old →
+        AreLive compiled.now sensitive symbols lives.new) }
 {
     lives.step(compiled, symbol, sensitive)?;
     if lives.is_dead(compiled) {
@@ -80,9 +88,11 @@ fn step_all(
     lives: &mut LiveSections,
 ) -> Result<usize, Memory>
     requires { AreLive compiled.now sensitive [] lives.old }
-    ensures lives { IfOk result (λ n. AreLive compiled.now sensitive (take n symbols.now) lives.new) }
+    ensures lives { IfOk result
+        (λ n. AreLive compiled.now sensitive (take n symbols.now) lives.new) }
     ensures within { IfOk result (λ n. n ≤ length symbols.now) }
-    ensures ends { IfOk result (λ n. (m : ℕ) → n < m → m ≤ length symbols.now → (lexicon_of compiled.now sensitive).viable (take m symbols.now) ≡ false) }
+    ensures ends { IfOk result (λ n. (m : ℕ) → n < m → m ≤ length symbols.now →
+        (lexicon_of compiled.now sensitive).viable (take m symbols.now) ≡ false) }
 {
     let _ = compiled.alphabet();
     let mut at = 0;
@@ -107,10 +117,12 @@ pub(crate) fn step_down(
 ) -> usize
     requires lives { AreLive compiled.now sensitive (take from symbols.now) lives.old }
     requires within { from ≤ length symbols.now }
-    ensures value { result ≡ greatest (is_match (lexicon_of compiled.now sensitive) least symbols.now) from }
+    ensures value { result ≡ greatest
+        (is_match (lexicon_of compiled.now sensitive) least symbols.now) from }
     ensures within { result ≤ from }
     ensures kept { (seen : List Symbol) × AreLive compiled.now sensitive seen lives.new }
-    ensures lives { 0 < result → AreLive compiled.now sensitive (take result symbols.now) lives.new }
+    ensures lives { 0 < result →
+        AreLive compiled.now sensitive (take result symbols.now) lives.new }
 {
     let mut at = from;
     while at > 0 {
@@ -145,8 +157,10 @@ pub(crate) fn translate_from(
     lives: &mut LiveSections,
 ) -> Result<Translation, Memory>
     requires { AreLive compiled.now sensitive [] lives.old }
-    ensures value { IfOk result (λ made. translated made ≡ translation (lexicon_of compiled.now sensitive) sensitive word.now) }
-    ensures kept { OnOk result ((seen : List Symbol) × AreLive compiled.now sensitive seen lives.new) }
+    ensures value { IfOk result (λ made. translated made
+        ≡ translation (lexicon_of compiled.now sensitive) sensitive word.now) }
+    ensures kept { OnOk result
+        ((seen : List Symbol) × AreLive compiled.now sensitive seen lives.new) }
 {
     let _ = compiled.alphabet();
     let symbols = word.symbols();
@@ -169,9 +183,9 @@ pub(crate) fn translate_from(
 /// The translation of a word by a compiled bilingual dictionary. Of the prefixes of the word that
 /// hold its whole lemma (what stands before its first tag) and fit a left word of any kind, the
 /// longest is taken: `heads` are its right words with the lemma's case, in the order of words, each
-/// once, and `rest` is what follows it. Without such a prefix, and for a word that begins with `*` or
-/// `@`, there is no head, and the whole word is left. Where case counts, a symbol fits itself alone
-/// and heads keep their case. The error means want of memory.
+/// once, and `rest` is what follows it. Without such a prefix, and for a word that begins with `*`
+/// or `@`, there is no head, and the whole word is left. Where case counts, a symbol fits itself
+/// alone and heads keep their case. The error means want of memory.
 ///
 /// Where many words are translated, a `Translator` costs less.
 pub fn translate(
@@ -180,7 +194,8 @@ pub fn translate(
     word: &Word,
     sensitive: bool,
 ) -> Result<Translation, Memory>
-    ensures { IfOk result (λ made. translated made ≡ translation (lexicon_of compiled.now sensitive) sensitive word.now) }
+    ensures { IfOk result (λ made. translated made
+        ≡ translation (lexicon_of compiled.now sensitive) sensitive word.now) }
 {
     let mut lives = LiveSections::start(alloc, compiled)?;
     translate_from(alloc, compiled, word, sensitive, &mut lives)

@@ -40,7 +40,9 @@ pub(crate) fn take_lives(
     compiled: &Compiled,
     kept: &mut Option<LiveSections>,
 ) -> Result<LiveSections, Memory>
-    ensures lives { IfOk result (λ lives. (sensitive : Bool) → IfSome kept.old (AreLive compiled.now sensitive []) → AreLive compiled.now sensitive [] lives) }
+    ensures lives { IfOk result (λ lives. (sensitive : Bool) →
+        IfSome kept.old (AreLive compiled.now sensitive []) →
+        AreLive compiled.now sensitive [] lives) }
     ensures none { kept.new ≡ None }
 {
     match kept.take() {
@@ -61,7 +63,8 @@ fn translate_kept(
     kept: &mut Option<LiveSections>,
 ) -> Result<Translation, Memory>
     requires { IfSome kept.old (AreLive compiled.now sensitive []) }
-    ensures value { IfOk result (λ made. translated made ≡ translation (lexicon_of compiled.now sensitive) sensitive word.now) }
+    ensures value { IfOk result (λ made. translated made
+        ≡ translation (lexicon_of compiled.now sensitive) sensitive word.now) }
     ensures kept { IfSome kept.new (AreLive compiled.now sensitive []) }
 {
     let mut lives = take_lives(alloc, compiled, kept)?;
@@ -72,8 +75,8 @@ fn translate_kept(
 }
 
 impl Translator {
-    /// A translator by this dictionary. Where case counts, a symbol fits itself alone and heads keep
-    /// their case. It takes no memory.
+    /// A translator by this dictionary. Where case counts, a symbol fits itself alone and heads
+    /// keep their case. It takes no memory.
     pub fn new(alloc: Global, compiled: Compiled, sensitive: bool) -> Translator
         ensures compiled { result.compiled ≡ compiled }
         ensures sensitive { result.sensitive ≡ sensitive }
@@ -89,7 +92,9 @@ impl Translator {
     /// The translation of a word, as `translate` gives it. The error means want of memory; the
     /// translator can be used again after it.
     pub fn translate(&mut self, word: &Word) -> Result<Translation, Memory>
-        ensures value { IfOk result (λ made. translated made ≡ translation (lexicon_of self.old.compiled self.old.sensitive) self.old.sensitive word.now) }
+        ensures value { IfOk result (λ made. translated made
+            ≡ translation (lexicon_of self.old.compiled self.old.sensitive)
+            self.old.sensitive word.now) }
         ensures same { self.new ≡ self.old }
     {
         translate_kept(

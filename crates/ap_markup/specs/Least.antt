@@ -1,5 +1,5 @@
--- Which of some faults comes first: the one of the least place, and at one place the one of the least number. A fault is
--- ordered by its place and its number.
+-- Which of some faults comes first: the one of the least place, and at one place the one of the
+-- least number. A fault is ordered by its place and its number.
 use Rattle.std.specs.Prelude.{◌≡◌, ◌⊎◌, ◌<◌, ◌≤◌, ℕ, Option, Some, None}
 
 -- its place is less, or it is the same and its number is no greater

@@ -3,7 +3,8 @@ use Rattle.std.specs.Prelude.{ℕ, Bool, ◌&&◌, ◌||◌, ◌==◌, nat_lt, O
 
 -- by their places and then by their numbers
 abbrev pub is_before : {F : Type 0} → (F → ℕ × ℕ) → F → F → Bool
-is_before order f g = nat_lt (order f).0 (order g).0 || ((order f).0 == (order g).0 && nat_lt (order f).1 (order g).1)
+is_before order f g = nat_lt (order f).0 (order g).0
+    || ((order f).0 == (order g).0 && nat_lt (order f).1 (order g).1)
 
 -- the first of two
 abbrev pub sooner : {F : Type 0} → (F → ℕ × ℕ) → Option F → Option F → Option F

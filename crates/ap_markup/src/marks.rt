@@ -2,8 +2,8 @@ ghost use Rattle.std.specs.Prelude.{◌≡◌, ℕ};
 ghost use Rattle.ap_markup.specs.Marks.{mark_order};
 ghost use Rattle.ap_markup.specs.Sooner.{is_before, sooner};
 
-/// A kind of fault, which has a number: of the faults at one place the one of the least number comes
-/// first.
+/// A kind of fault, which has a number: of the faults at one place the one of the least number
+/// comes first.
 pub trait Numbered {
     ghost number_of: { Self → ℕ };
 

@@ -5,16 +5,25 @@ use Rattle.std.proofs.Common.{arith, ap, ◌∙◌, subst}
 use Rattle.std.proofs.lemmas.List.{take_all, length-take}
 
 -- the bytes that are left end before the limit
-short_of : (limit : ℕ) (all got : List ℕ) → length got < limit → got ≡ take limit all → length all ≤ limit
-short_of limit all got short is = let n = ap length is ∙ length-take limit all in omega (arith, n, short)
+short_of : (limit : ℕ) (all got : List ℕ) → length got < limit → got ≡ take limit all →
+    length all ≤ limit
+short_of limit all got short is = let n = ap length is ∙ length-take limit all in
+    omega (arith, n, short)
 
-pub all_read : (remaining : Option (List ℕ)) (limit : ℕ) (got : List ℕ) → length got < limit → IfSome (option_map (take limit) remaining) (λ xs. got ≡ xs) → IfSome remaining (λ all. got ≡ all)
+pub all_read : (remaining : Option (List ℕ)) (limit : ℕ) (got : List ℕ) → length got < limit →
+    IfSome (option_map (take limit) remaining) (λ xs. got ≡ xs) →
+    IfSome remaining (λ all. got ≡ all)
 all_read None limit got short is = is
 all_read (Some all) limit got short is = is ∙ take_all limit all (short_of limit all got short is)
 
-pub whole_read : {F : Type 0} (remaining : F → Option (List ℕ)) (file inner : F) (most limit : ℕ) (got before : List ℕ) → inner ≡ file → limit ≡ min (most + 1) (2 ^ 64 - 1) → length got ≤ most → length got < 2 ^ 63 → before ≡ []
-    → IfSome (option_map (take limit) (remaining inner)) (λ xs. got ≡ before ++ xs) → IfSome (remaining file) (λ all. got ≡ all)
+pub whole_read : {F : Type 0} (remaining : F → Option (List ℕ)) (file inner : F) (most limit : ℕ)
+    (got before : List ℕ) → inner ≡ file → limit ≡ min (most + 1) (2 ^ 64 - 1) → length got ≤ most →
+    length got < 2 ^ 63 → before ≡ []
+    → IfSome (option_map (take limit) (remaining inner)) (λ xs. got ≡ before ++ xs) →
+    IfSome (remaining file) (λ all. got ≡ all)
 whole_read remaining file inner most limit got before inner_is limit_is short fits none read =
-    let same = subst (λ f. IfSome (option_map (take limit) (remaining f)) (λ xs. got ≡ before ++ xs)) inner_is read in
-    let first = subst (λ b. IfSome (option_map (take limit) (remaining file)) (λ xs. got ≡ b ++ xs)) none same in
+    let same = subst (λ f. IfSome (option_map (take limit) (remaining f))
+    (λ xs. got ≡ before ++ xs)) inner_is read in
+    let first = subst (λ b. IfSome (option_map (take limit) (remaining file))
+    (λ xs. got ≡ b ++ xs)) none same in
     all_read (remaining file) limit got (omega (arith, limit_is, short, fits)) first

@@ -17,12 +17,14 @@ pub record HasCause {T E : Type 0} (before now : ℕ) (result : Result T E) : Ty
   pub stays : OnOk result (now ≡ before)
 
 -- the same of the counts by name, for a load of this name
-pub record HasLoadCause {T : Type 0} (before now : List ℕ → ℕ) (name : List ℕ) (result : Result T LoadRefusal) : Type 0 where
+pub record HasLoadCause {T : Type 0} (before now : List ℕ → ℕ) (name : List ℕ)
+    (result : Result T LoadRefusal) : Type 0 where
   pub later : (other : List ℕ) → before other ≤ now other
   pub failed : IsErrOf result Failed → Rose (before name) (now name)
   pub stays : (IsErrOf result Failed → ⊥) → now ≡ before
 
 -- of a load: the count of faults of stores never falls, and stays where the load did not fail
-pub record SparesStoreFaults {T : Type 0} (before now : ℕ) (result : Result T LoadRefusal) : Type 0 where
+pub record SparesStoreFaults {T : Type 0} (before now : ℕ)
+    (result : Result T LoadRefusal) : Type 0 where
   pub later : before ≤ now
   pub stays : (IsErrOf result Failed → ⊥) → now ≡ before

@@ -19,19 +19,25 @@ PutsFront old new piece = (count : ℕ) × Puts old new (take count piece)
 
 -- The file has these bytes, and they are not too many.
 abbrev pub Loads : Option (List ℕ → Option (List ℕ)) → List ℕ → ℕ → List ℕ → Type 0
-Loads contents name most bytes = IfSome contents (λ at. (at name ≡ Some bytes) × (length bytes ≤ most))
+Loads contents name most bytes =
+    IfSome contents (λ at. (at name ≡ Some bytes) × (length bytes ≤ most))
 
 abbrev pub IsTooLong : Option (List ℕ → Option (List ℕ)) → List ℕ → ℕ → Type 0
-IsTooLong contents name most = IfSome contents (λ at. IfSome (at name) (λ bytes. most < length bytes) × ((at name ≡ None) → ⊥))
+IsTooLong contents name most =
+    IfSome contents (λ at. IfSome (at name) (λ bytes. most < length bytes) × ((at name ≡ None) → ⊥))
 
 -- The contents with this under one name.
-abbrev pub with_held : (List ℕ → Option (List ℕ)) → List ℕ → Option (List ℕ) → List ℕ → Option (List ℕ)
+abbrev pub with_held : (List ℕ → Option (List ℕ)) → List ℕ → Option (List ℕ) → List ℕ →
+    Option (List ℕ)
 with_held at name held other = if bytes_eq name other then held else at other
 
 -- The file has these bytes now, and every other holds what it held.
-abbrev pub Stores : Option (List ℕ → Option (List ℕ)) → Option (List ℕ → Option (List ℕ)) → List ℕ → List ℕ → Type 0
+abbrev pub Stores : Option (List ℕ → Option (List ℕ)) → Option (List ℕ → Option (List ℕ)) → List ℕ →
+    List ℕ → Type 0
 Stores old new name bytes = new ≡ option_map (λ at. with_held at name (Some bytes)) old
 
 -- That file may hold anything, and every other holds what it held.
-abbrev pub StoresSome : Option (List ℕ → Option (List ℕ)) → Option (List ℕ → Option (List ℕ)) → List ℕ → Type 0
-StoresSome old new name = (held : Option (List ℕ)) × (new ≡ option_map (λ at. with_held at name held) old)
+abbrev pub StoresSome : Option (List ℕ → Option (List ℕ)) → Option (List ℕ → Option (List ℕ)) →
+    List ℕ → Type 0
+StoresSome old new name = (held : Option (List ℕ))
+    × (new ≡ option_map (λ at. with_held at name held) old)

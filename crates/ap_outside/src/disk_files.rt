@@ -26,7 +26,8 @@ impl<R: rt::Files + Drop> DiskFiles<R> {
 fn read_whole<F: Read + Drop>(alloc: Global, file: F, most: u64) -> Result<Vec<u8>, LoadRefusal>
     ensures most { IfOk result (λ bytes. length bytes.items ≤ most) }
     ensures whole { IfOk result (λ bytes. IfSome (F.remaining file) (λ all. bytes.items ≡ all)) }
-    ensures too_long { IsErrOf result LoadRefusal.TooLong → IfSome (F.remaining file) (λ all. most < length all) }
+    ensures too_long { IsErrOf result LoadRefusal.TooLong →
+        IfSome (F.remaining file) (λ all. most < length all) }
 {
     let mut bytes = Vec::new(alloc);
     match file.take(most.saturating_add(1)).read_to_end(&mut bytes) {

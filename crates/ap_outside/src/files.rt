@@ -45,19 +45,26 @@ pub trait Files {
     /// count of faults of that name rose.
     fn load(&mut self, alloc: Global, name: &str, most: u64) -> Result<Vec<u8>, LoadRefusal>
         ensures most { IfOk result (λ bytes. length bytes.items ≤ most) }
-        ensures loaded { IfOk result (λ bytes. Loads (contents self.old) name.now most bytes.items) }
-        ensures too_long { IsErrOf result LoadRefusal.TooLong → IsTooLong (contents self.old) name.now most }
+        ensures loaded { IfOk result
+            (λ bytes. Loads (contents self.old) name.now most bytes.items) }
+        ensures too_long { IsErrOf result LoadRefusal.TooLong →
+            IsTooLong (contents self.old) name.now most }
         ensures kept { contents self.new ≡ contents self.old }
         ensures cause { HasLoadCause (load_faults self.old) (load_faults self.new) name.now result }
-        ensures store_cause { SparesStoreFaults (store_faults self.old) (store_faults self.new) result };
+        ensures store_cause { SparesStoreFaults (store_faults self.old)
+            (store_faults self.new) result };
 
     /// Makes the file `name` have exactly these bytes, whether or not it was there. `Failed` comes
     /// only where the count of faults of stores rose, and then this one file may hold anything.
     /// After `Memory` it holds what it held. The other files stay in every case.
     fn store(&mut self, name: &str, bytes: &[u8]) -> Result<(), StoreRefusal>
-        ensures stored { OnOk result (Stores (contents self.old) (contents self.new) name.now bytes.now) }
-        ensures failed { IsErrOf result StoreRefusal.Failed → StoresSome (contents self.old) (contents self.new) name.now }
-        ensures memory { IsErrOf result StoreRefusal.Memory → contents self.new ≡ contents self.old }
+        ensures stored { OnOk result
+            (Stores (contents self.old) (contents self.new) name.now bytes.now) }
+        ensures failed { IsErrOf result StoreRefusal.Failed →
+            StoresSome (contents self.old) (contents self.new) name.now }
+        ensures memory { IsErrOf result StoreRefusal.Memory →
+            contents self.new ≡ contents self.old }
         ensures cause { HasStoreCause (store_faults self.old) (store_faults self.new) result }
-        ensures load_cause { SparesLoadFaults (load_faults self.old) (load_faults self.new) result };
+        ensures load_cause { SparesLoadFaults (load_faults self.old)
+            (load_faults self.new) result };
 }

@@ -19,7 +19,8 @@ pub fn place(files: &[MemFile], name: &str) -> Option<usize>
 /// Gives the file at this place these bytes.
 pub fn rewrite(files: &mut Vec<MemFile>, name: &str, at: usize, bytes: Vec<u8>)
     requires { place_of files.old.items name.now ≡ Some at }
-    ensures contents { content_of files.new.items ≡ with_held (content_of files.old.items) name.now (Some bytes.items) }
+    ensures contents { content_of files.new.items
+        ≡ with_held (content_of files.old.items) name.now (Some bytes.items) }
     ensures places { place_of files.new.items ≡ place_of files.old.items }
     ensures count { length files.new.items ≡ length files.old.items }
 {

@@ -49,11 +49,17 @@ impl MemFiles {
     /// that `failing` numbers. A file that is made begins with the count of faults that the names
     /// that aren't there share. After want of memory everything is as it was.
     pub fn add(&mut self, name: &str, bytes: &[u8]) -> Result<(), Memory>
-        ensures stored { OnOk result (Stores (⟦<MemFiles as Files>⟧.contents self.old) (⟦<MemFiles as Files>⟧.contents self.new) name.now bytes.now) }
-        ensures unchanged { OnErr result (⟦<MemFiles as Files>⟧.contents self.new ≡ ⟦<MemFiles as Files>⟧.contents self.old) }
-        ensures load_faults { ⟦<MemFiles as Files>⟧.load_faults self.new ≡ ⟦<MemFiles as Files>⟧.load_faults self.old }
-        ensures store_faults { ⟦<MemFiles as Files>⟧.store_faults self.new ≡ ⟦<MemFiles as Files>⟧.store_faults self.old }
-        ensures settings { (self.new.failing ≡ self.old.failing) × (self.new.calls ≡ self.old.calls) }
+        ensures stored { OnOk result
+            (Stores (⟦<MemFiles as Files>⟧.contents self.old)
+            (⟦<MemFiles as Files>⟧.contents self.new) name.now bytes.now) }
+        ensures unchanged { OnErr result (⟦<MemFiles as Files>⟧.contents self.new
+            ≡ ⟦<MemFiles as Files>⟧.contents self.old) }
+        ensures load_faults { ⟦<MemFiles as Files>⟧.load_faults self.new
+            ≡ ⟦<MemFiles as Files>⟧.load_faults self.old }
+        ensures store_faults { ⟦<MemFiles as Files>⟧.store_faults self.new
+            ≡ ⟦<MemFiles as Files>⟧.store_faults self.old }
+        ensures settings { (self.new.failing ≡ self.old.failing)
+            × (self.new.calls ≡ self.old.calls) }
     {
         let mut copy = Vec::new(self.alloc);
         copy.extend_from_slice(bytes)?;
@@ -68,11 +74,16 @@ impl MemFiles {
 
     fn append(&mut self, name: &str, bytes: Vec<u8>) -> Result<(), Memory>
         requires { place_of self.old.files.items name.now ≡ None }
-        ensures stored { OnOk result (content_of self.new.files.items ≡ with_held (content_of self.old.files.items) name.now (Some bytes.items)) }
-        ensures unchanged { OnErr result (content_of self.new.files.items ≡ content_of self.old.files.items) }
-        ensures load_faults { faults_of self.new.files.items self.new.faults.items self.new.absent_faults ≡ faults_of self.old.files.items self.old.faults.items self.old.absent_faults }
+        ensures stored { OnOk result (content_of self.new.files.items
+            ≡ with_held (content_of self.old.files.items) name.now (Some bytes.items)) }
+        ensures unchanged { OnErr result (content_of self.new.files.items
+            ≡ content_of self.old.files.items) }
+        ensures load_faults { faults_of self.new.files.items self.new.faults.items
+            self.new.absent_faults ≡ faults_of self.old.files.items self.old.faults.items
+            self.old.absent_faults }
         ensures store_faults { self.new.store_faults ≡ self.old.store_faults }
-        ensures settings { (self.new.failing ≡ self.old.failing) × (self.new.calls ≡ self.old.calls) }
+        ensures settings { (self.new.failing ≡ self.old.failing)
+            × (self.new.calls ≡ self.old.calls) }
     {
         let name = String::from_str(self.alloc, name)?;
         let count = self.faults.len();
@@ -86,7 +97,8 @@ impl MemFiles {
 
     /// The bytes of the file `name`, or None exactly where no file has that name.
     pub fn get(&self, name: &str) -> Option<&[u8]>
-        ensures { Some (option_map (λ bytes. bytes.now) result) ≡ option_map (λ at. at name.now) (⟦<MemFiles as Files>⟧.contents self.now) }
+        ensures { Some (option_map (λ bytes. bytes.now) result)
+            ≡ option_map (λ at. at name.now) (⟦<MemFiles as Files>⟧.contents self.now) }
     {
         let at = place(&self.files, name)?;
         Some(self.files[at].bytes.as_slice())
@@ -103,15 +115,28 @@ impl Files for MemFiles {
     /// It fails exactly where its number is listed or the name isn't there.
     fn load(&mut self, alloc: Global, name: &str, most: u64) -> Result<Vec<u8>, LoadRefusal>
         ensures most { IfOk result (λ bytes. length bytes.items ≤ most) }
-        ensures loaded { IfOk result (λ bytes. Loads (Some (content_of self.old.files.items)) name.now most bytes.items) }
-        ensures too_long { IsErrOf result LoadRefusal.TooLong → IsTooLong (Some (content_of self.old.files.items)) name.now most }
-        ensures kept { Some (content_of self.new.files.items) ≡ Some (content_of self.old.files.items) }
-        ensures cause { HasLoadCause (faults_of self.old.files.items self.old.faults.items self.old.absent_faults) (faults_of self.new.files.items self.new.faults.items self.new.absent_faults) name.now result }
+        ensures loaded { IfOk result
+            (λ bytes. Loads (Some (content_of self.old.files.items)) name.now most bytes.items) }
+        ensures too_long { IsErrOf result LoadRefusal.TooLong →
+            IsTooLong (Some (content_of self.old.files.items)) name.now most }
+        ensures kept { Some (content_of self.new.files.items)
+            ≡ Some (content_of self.old.files.items) }
+        ensures cause { HasLoadCause
+            (faults_of self.old.files.items self.old.faults.items self.old.absent_faults)
+            (faults_of self.new.files.items self.new.faults.items self.new.absent_faults)
+            name.now result }
         ensures store_cause { SparesStoreFaults self.old.store_faults self.new.store_faults result }
-        ensures raised { IsErrOf result LoadRefusal.Failed → faults_of self.new.files.items self.new.faults.items self.new.absent_faults name.now ≡ raised (faults_of self.old.files.items self.old.faults.items self.old.absent_faults name.now) }
-        ensures listed { IsErrOf result LoadRefusal.Failed ↔ IsTrue (is_none (content_of self.old.files.items name.now) || is_listed self.old.failing.items self.old.calls) }
-        ensures memory { IsErrOf result LoadRefusal.Memory → IfSome (content_of self.old.files.items name.now) (λ bytes. length bytes ≤ most) }
-        ensures settings { (self.new.failing ≡ self.old.failing) × (self.new.calls ≡ next_call self.old.calls) }
+        ensures raised { IsErrOf result LoadRefusal.Failed →
+            faults_of self.new.files.items self.new.faults.items self.new.absent_faults name.now
+            ≡ raised (faults_of self.old.files.items self.old.faults.items
+            self.old.absent_faults name.now) }
+        ensures listed { IsErrOf result LoadRefusal.Failed
+            ↔ IsTrue (is_none (content_of self.old.files.items name.now)
+            || is_listed self.old.failing.items self.old.calls) }
+        ensures memory { IsErrOf result LoadRefusal.Memory →
+            IfSome (content_of self.old.files.items name.now) (λ bytes. length bytes ≤ most) }
+        ensures settings { (self.new.failing ≡ self.old.failing)
+            × (self.new.calls ≡ next_call self.old.calls) }
     {
         self.calls = self.calls.saturating_add(1);
         let Some(at) = place(&self.files, name) else {
@@ -135,15 +160,26 @@ impl Files for MemFiles {
 
     /// It fails exactly where its number is listed, and then every file holds what it held.
     fn store(&mut self, name: &str, bytes: &[u8]) -> Result<(), StoreRefusal>
-        ensures stored { OnOk result (Stores (Some (content_of self.old.files.items)) (Some (content_of self.new.files.items)) name.now bytes.now) }
-        ensures failed { IsErrOf result StoreRefusal.Failed → StoresSome (Some (content_of self.old.files.items)) (Some (content_of self.new.files.items)) name.now }
-        ensures memory { IsErrOf result StoreRefusal.Memory → Some (content_of self.new.files.items) ≡ Some (content_of self.old.files.items) }
+        ensures stored { OnOk result
+            (Stores (Some (content_of self.old.files.items))
+            (Some (content_of self.new.files.items)) name.now bytes.now) }
+        ensures failed { IsErrOf result StoreRefusal.Failed →
+            StoresSome (Some (content_of self.old.files.items))
+            (Some (content_of self.new.files.items)) name.now }
+        ensures memory { IsErrOf result StoreRefusal.Memory → Some (content_of self.new.files.items)
+            ≡ Some (content_of self.old.files.items) }
         ensures cause { HasStoreCause self.old.store_faults self.new.store_faults result }
-        ensures load_cause { SparesLoadFaults (faults_of self.old.files.items self.old.faults.items self.old.absent_faults) (faults_of self.new.files.items self.new.faults.items self.new.absent_faults) result }
-        ensures raised { IsErrOf result StoreRefusal.Failed → self.new.store_faults ≡ raised self.old.store_faults }
-        ensures listed { IsErrOf result StoreRefusal.Failed ↔ IsTrue (is_listed self.old.failing.items self.old.calls) }
-        ensures kept { OnErr result (Some (content_of self.new.files.items) ≡ Some (content_of self.old.files.items)) }
-        ensures settings { (self.new.failing ≡ self.old.failing) × (self.new.calls ≡ next_call self.old.calls) }
+        ensures load_cause { SparesLoadFaults
+            (faults_of self.old.files.items self.old.faults.items self.old.absent_faults)
+            (faults_of self.new.files.items self.new.faults.items self.new.absent_faults) result }
+        ensures raised { IsErrOf result StoreRefusal.Failed →
+            self.new.store_faults ≡ raised self.old.store_faults }
+        ensures listed { IsErrOf result StoreRefusal.Failed
+            ↔ IsTrue (is_listed self.old.failing.items self.old.calls) }
+        ensures kept { OnErr result (Some (content_of self.new.files.items)
+            ≡ Some (content_of self.old.files.items)) }
+        ensures settings { (self.new.failing ≡ self.old.failing)
+            × (self.new.calls ≡ next_call self.old.calls) }
     {
         self.calls = self.calls.saturating_add(1);
         if self.failing.contains(&self.calls) {

@@ -34,7 +34,8 @@ impl MemSink {
     ) -> Result<MemSink, Memory>
         ensures written { IfOk result (λ sink. ⟦<MemSink as Sink>⟧.written sink ≡ Some []) }
         ensures faults { IfOk result (λ sink. ⟦<MemSink as Sink>⟧.faults sink ≡ 0) }
-        ensures settings { IfOk result (λ sink. (sink.room ≡ room) × (sink.failing ≡ failing) × (sink.keep ≡ keep) × (sink.calls ≡ 0)) }
+        ensures settings { IfOk result (λ sink. (sink.room ≡ room) × (sink.failing ≡ failing)
+            × (sink.keep ≡ keep) × (sink.calls ≡ 0)) }
     {
         Ok(MemSink {
             bytes: Vec::with_capacity(alloc, room)?,
@@ -62,13 +63,21 @@ impl Sink for MemSink {
     /// Appends as much as fits, or of a listed call as much as is kept. It fails exactly where its
     /// number is listed or the piece is longer than what is free.
     fn put(&mut self, piece: &[u8]) -> Result<(), Failed>
-        ensures ok { OnOk result (Puts (Some self.old.bytes.items) (Some self.new.bytes.items) piece.now) }
-        ensures failed { OnErr result (PutsFront (Some self.old.bytes.items) (Some self.new.bytes.items) piece.now) }
+        ensures ok { OnOk result
+            (Puts (Some self.old.bytes.items) (Some self.new.bytes.items) piece.now) }
+        ensures failed { OnErr result
+            (PutsFront (Some self.old.bytes.items) (Some self.new.bytes.items) piece.now) }
         ensures cause { HasCause self.old.faults self.new.faults result }
         ensures raised { OnErr result (self.new.faults ≡ raised self.old.faults) }
-        ensures front { let most = (if is_listed self.old.failing.items self.old.calls then self.old.keep else length piece.now) in self.new.bytes.items ≡ self.old.bytes.items ++ take (min most (self.old.room - length self.old.bytes.items)) piece.now }
-        ensures listed { is_err result ≡ (is_listed self.old.failing.items self.old.calls || nat_lt (self.old.room - length self.old.bytes.items) (length piece.now)) }
-        ensures settings { (self.new.room ≡ self.old.room) × (self.new.failing ≡ self.old.failing) × (self.new.keep ≡ self.old.keep) × (self.new.calls ≡ next_call self.old.calls) }
+        ensures front { let most =
+            (if is_listed self.old.failing.items self.old.calls then self.old.keep
+            else length piece.now) in self.new.bytes.items ≡ self.old.bytes.items
+            ++ take (min most (self.old.room - length self.old.bytes.items)) piece.now }
+        ensures listed { is_err result
+            ≡ (is_listed self.old.failing.items self.old.calls
+            || nat_lt (self.old.room - length self.old.bytes.items) (length piece.now)) }
+        ensures settings { (self.new.room ≡ self.old.room) × (self.new.failing ≡ self.old.failing)
+            × (self.new.keep ≡ self.old.keep) × (self.new.calls ≡ next_call self.old.calls) }
     {
         self.calls = self.calls.saturating_add(1);
         let free = self.room - self.bytes.len();

@@ -47,14 +47,21 @@ impl Source for MemSource {
     /// number is listed.
     fn take(&mut self, into: &mut [u8]) -> Result<usize, Failed>
         ensures count { IfOk result (λ n. n ≤ length into.old) }
-        ensures taken { IfOk result (λ n. Takes (Some (drop self.old.at self.old.bytes.items)) (Some (drop self.new.at self.new.bytes.items)) (take n into.new)) }
-        ensures end { IfOk result (λ n. n ≡ 0 → 0 < length into.old → IsEnd (Some (drop self.new.at self.new.bytes.items))) }
-        ensures failed { OnErr result (drop self.new.at self.new.bytes.items ≡ drop self.old.at self.old.bytes.items) }
+        ensures taken { IfOk result
+            (λ n. Takes (Some (drop self.old.at self.old.bytes.items))
+            (Some (drop self.new.at self.new.bytes.items)) (take n into.new)) }
+        ensures end { IfOk result (λ n. n ≡ 0 → 0 < length into.old →
+            IsEnd (Some (drop self.new.at self.new.bytes.items))) }
+        ensures failed { OnErr result (drop self.new.at self.new.bytes.items
+            ≡ drop self.old.at self.old.bytes.items) }
         ensures cause { HasCause self.old.faults self.new.faults result }
         ensures raised { OnErr result (self.new.faults ≡ raised self.old.faults) }
-        ensures amount { IfOk result (λ n. n ≡ min (min (length into.old) self.old.cut) (length self.old.bytes.items - self.old.at)) }
+        ensures amount { IfOk result
+            (λ n. n ≡ min (min (length into.old) self.old.cut)
+            (length self.old.bytes.items - self.old.at)) }
         ensures listed { is_err result ≡ is_listed self.old.failing.items self.old.calls }
-        ensures settings { (self.new.cut ≡ self.old.cut) × (self.new.failing ≡ self.old.failing) × (self.new.calls ≡ next_call self.old.calls) }
+        ensures settings { (self.new.cut ≡ self.old.cut) × (self.new.failing ≡ self.old.failing)
+            × (self.new.calls ≡ next_call self.old.calls) }
     {
         self.calls = self.calls.saturating_add(1);
         if self.failing.contains(&self.calls) {

@@ -43,7 +43,8 @@ impl<W: Write + Drop> Sink for StdSink<W> {
         ensures ok { OnOk result (Puts None None piece.now) }
         ensures failed { OnErr result (PutsFront None None piece.now) }
         ensures cause { HasCause self.old.faults self.new.faults result }
-        ensures whole { OnOk result (Appends (W.contents self.old.writer) (W.contents self.new.writer) piece.now) }
+        ensures whole { OnOk result
+            (Appends (W.contents self.old.writer) (W.contents self.new.writer) piece.now) }
     {
         match write_out(&mut self.writer, piece) {
             Ok(()) => Ok(()),

@@ -35,9 +35,13 @@ impl<R: Read + Drop> Source for StdSource<R> {
         ensures end { IfOk result (λ n. n ≡ 0 → 0 < length into.old → IsEnd None) }
         ensures failed { OnErr result (◌≡◌ {A = Option (List ℕ)} None None) }
         ensures cause { HasCause self.old.faults self.new.faults result }
-        ensures read { IfOk result (λ n. Consumes (R.remaining self.old.reader) (R.remaining self.new.reader) (take n into.new)) }
-        ensures ended { IfOk result (λ n. n ≡ 0 → 0 < length into.old → IsAtEnd (R.remaining self.new.reader)) }
-        ensures kept { OnErr result (Keeps (R.remaining self.old.reader) (R.remaining self.new.reader)) }
+        ensures read { IfOk result
+            (λ n. Consumes (R.remaining self.old.reader) (R.remaining self.new.reader)
+            (take n into.new)) }
+        ensures ended { IfOk result (λ n. n ≡ 0 → 0 < length into.old →
+            IsAtEnd (R.remaining self.new.reader)) }
+        ensures kept { OnErr result
+            (Keeps (R.remaining self.old.reader) (R.remaining self.new.reader)) }
     {
         match self.reader.read(into) {
             Ok(count) => Ok(count),

@@ -48,16 +48,20 @@ symbol_some symbol.Star = omega arith
 symbol_some symbol.At = omega arith
 
 -- a word whose bytes are none is empty
-empty_word : (bytes : List ℕ) (word : List Symbol) → bytes ≡ rendering word → length bytes ≡ 0 → word ≡ []
+empty_word : (bytes : List ℕ) (word : List Symbol) → bytes ≡ rendering word →
+    length bytes ≡ 0 → word ≡ []
 empty_word bytes [] e z = refl
 empty_word bytes (s ∷ word) e z =
     let some = symbol_some s in
     let l = length-append (symbol_bytes s) (rendering word) in
-    let none : length (rendering (s ∷ word)) ≡ 0 = ap length (sym e) ∙ z in absurd (omega (arith, some, l, none))
+    let none : length (rendering (s ∷ word)) ≡ 0 = ap length (sym e) ∙ z in
+    absurd (omega (arith, some, l, none))
 
 -- a word whose bytes aren't none isn't empty
-filled_word : (bytes : List ℕ) (word : List Symbol) → bytes ≡ rendering word → 0 < length bytes → 0 < length word
-filled_word bytes [] e some = let none : length bytes ≡ 0 = ap length e in absurd (omega (arith, none, some))
+filled_word : (bytes : List ℕ) (word : List Symbol) → bytes ≡ rendering word → 0 < length bytes →
+    0 < length word
+filled_word bytes [] e some = let none : length bytes ≡ 0 = ap length e in
+    absurd (omega (arith, none, some))
 filled_word bytes (s ∷ word) e some = omega arith
 
 -- a word without + and # among its bytes has no Join and no Queue
@@ -72,14 +76,21 @@ seamless symbol.Alarm h = refl
 seamless symbol.Star h = refl
 seamless symbol.At h = refl
 
-no_seam : (word : List Symbol) → list_any is_seam_byte (rendering word) ≡ false → list_any is_seam word ≡ false
+no_seam : (word : List Symbol) → list_any is_seam_byte (rendering word) ≡ false →
+    list_any is_seam word ≡ false
 no_seam [] h = refl
 no_seam (s ∷ word) h =
-    let p = or_parts (list_any is_seam_byte (symbol_bytes s)) (list_any is_seam_byte (rendering word)) (sym (list_any-append is_seam_byte (symbol_bytes s) (rendering word)) ∙ h) in
+    let p = or_parts (list_any is_seam_byte (symbol_bytes s))
+    (list_any is_seam_byte (rendering word))
+    (sym (list_any-append is_seam_byte (symbol_bytes s) (rendering word)) ∙ h) in
     rw (seamless s p.0, no_seam word p.1) refl
 
-pub whole_word : (bytes : List ℕ) (word : List Symbol) → bytes ≡ rendering word → 0 < length bytes → list_any is_seam_byte bytes ≡ false → split word ≡ word ∷ []
-whole_word bytes word e some h = plain_split word (filled_word bytes word e some) (no_seam word (ap (list_any is_seam_byte) (sym e) ∙ h))
+pub whole_word : (bytes : List ℕ) (word : List Symbol) → bytes ≡ rendering word → 0 < length bytes →
+    list_any is_seam_byte bytes ≡ false → split word ≡ word ∷ []
+whole_word bytes word e some h =
+    plain_split word (filled_word bytes word e some)
+    (no_seam word (ap (list_any is_seam_byte) (sym e) ∙ h))
 
-pub filled_none : (bytes : List ℕ) (word : List Symbol) → bytes ≡ rendering word → length bytes ≡ 0 → filled_one word ≡ []
+pub filled_none : (bytes : List ℕ) (word : List Symbol) → bytes ≡ rendering word →
+    length bytes ≡ 0 → filled_one word ≡ []
 filled_none bytes word e z = ap filled_one (empty_word bytes word e z)

@@ -39,10 +39,16 @@ abbrev pub split_unit : List (List Symbol) → List ℕ
 split_unit [] = []
 split_unit (word ∷ words) = spaced (split word)
 
--- A tool that takes each item by itself, on what is read of a text. A limit that it meets is the fault; otherwise what
--- stops reading is. Where the text was cut, it is no fault that an item is unfinished.
+-- A tool that takes each item by itself, on what is read of a text. A limit that it meets is the
+-- fault; otherwise what stops reading is. Where the text was cut, it is no fault that an item is
+-- unfinished.
 abbrev pub passed_of : (List (List Symbol) → List ℕ) → Reads → Ending → Told
-passed_of given read ending = record { text = (each given read.items).text; fault = or_else (each given read.items).fault (stop_at ending read.stop) }
+passed_of given read ending =
+    record {
+      text = (each given read.items).text;
+      fault =
+          or_else (each given read.items).fault (stop_at ending read.stop);
+    }
 
 -- the first readings of an analysed text
 abbrev pub first_pass : List ℕ → Ending → Told

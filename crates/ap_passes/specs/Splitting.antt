@@ -24,12 +24,15 @@ invariable word = between (queue_place word) (part_end word) word
 
 -- it is moved where there is one and a tag stands before it
 abbrev pub is_moved : List Symbol → Bool
-is_moved word = nat_lt (tag_place word) (queue_place word) && nat_lt (queue_place word) (length word)
+is_moved word = nat_lt (tag_place word) (queue_place word)
+    && nat_lt (queue_place word) (length word)
 
 -- then it stands in front of the first tag of the word
 abbrev pub moved : List Symbol → List Symbol
 moved word =
-    if is_moved word then take (tag_place word) word ++ (invariable word ++ (between (tag_place word) (queue_place word) word ++ drop (part_end word) word))
+    if is_moved word then take (tag_place word) word
+    ++ (invariable word ++ (between (tag_place word) (queue_place word) word
+    ++ drop (part_end word) word))
     else word
 
 -- these symbols in front of the first of the parts
@@ -40,9 +43,11 @@ in_front front (part ∷ parts) = (front ++ part) ∷ parts
 -- what stands before the first Join, between two Joins, and behind the last one
 abbrev pub between_joins : List Symbol → List (List Symbol)
 between_joins [] = [] ∷ []
-between_joins (x ∷ word) = if is_join x then [] ∷ between_joins word else in_front (x ∷ []) (between_joins word)
+between_joins (x ∷ word) = if is_join x then [] ∷ between_joins word
+    else in_front (x ∷ []) (between_joins word)
 
--- a word is split at each Join that has a tag somewhere before it: what stands before the first tag stays whole
+-- a word is split at each Join that has a tag somewhere before it: what stands before the first tag
+-- stays whole
 abbrev pub parts : List Symbol → List (List Symbol)
 parts word = in_front (take (tag_place word) word) (between_joins (drop (tag_place word) word))
 
@@ -50,11 +55,12 @@ abbrev pub is_filled : List Symbol → Bool
 is_filled [] = false
 is_filled (x ∷ part) = true
 
--- The words that pretransfer makes of a word: the invariable part is moved, then the word is split, and empty parts are
--- left out.
+-- The words that pretransfer makes of a word: the invariable part is moved, then the word is split,
+-- and empty parts are left out.
 unfoldable pub split : List Symbol → List (List Symbol)
 split word = if is_marked word then word ∷ [] else filter is_filled (parts (moved word))
 
--- The parts still to come where one has begun at a place, and further symbols are looked at from another on.
+-- The parts still to come where one has begun at a place, and further symbols are looked at from
+-- another on.
 abbrev pub parts_from : ℕ → ℕ → List Symbol → List (List Symbol)
 parts_from from at word = in_front (between from at word) (between_joins (drop at word))

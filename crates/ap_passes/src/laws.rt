@@ -34,8 +34,8 @@ pub fn first_readings_are_words()
     ensures { FirstReads }
 {}
 
-/// The law that `first` keeps superblanks: where it gives a text without a fault, the superblanks of
-/// that text are those of the input, in order, whole. It is a statement alone and does nothing.
+/// The law that `first` keeps superblanks: where it gives a text without a fault, the superblanks
+/// of that text are those of the input, in order, whole. It is a statement alone and does nothing.
 pub fn first_keeps_superblanks()
     ensures { FirstKeeps }
 {}

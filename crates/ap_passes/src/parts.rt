@@ -21,7 +21,8 @@ fn push_part(
 ) -> Result<(), Memory>
     requires order { from ≤ to }
     requires within { to ≤ length word.now }
-    ensures { OnOk result (words.new ≡ words.old ++ filter is_filled (between from to word.now ∷ [])) }
+    ensures { OnOk result (words.new ≡ words.old
+        ++ filter is_filled (between from to word.now ∷ [])) }
 {
     if from == to {
         return Ok(());
@@ -40,7 +41,9 @@ fn take_symbol(
 ) -> Result<usize, Memory>
     requires order { from ≤ at }
     requires within { at < length word.now }
-    ensures rest { IfOk result (λ next. words.new ++ filter is_filled (parts_from next (at + 1) word.now) ≡ words.old ++ filter is_filled (parts_from from at word.now)) }
+    ensures rest { IfOk result
+        (λ next. words.new ++ filter is_filled (parts_from next (at + 1) word.now) ≡ words.old
+        ++ filter is_filled (parts_from from at word.now)) }
     ensures order { IfOk result (λ next. next ≤ at + 1) }
 {
     if is_join(&word.symbols()[at]) {
@@ -67,7 +70,8 @@ pub(crate) fn parts_of(alloc: Global, word: &Word) -> Result<Words, Memory>
 
 /// Appends a word as a unit, behind a space where a unit stands before.
 fn write_behind(behind: bool, word: &Word, into: &mut Bytes) -> Result<(), Memory>
-    ensures { OnOk result ((words : List (List Symbol)) → into.new ++ following true words ≡ into.old ++ following behind (word.now ∷ words)) }
+    ensures { OnOk result ((words : List (List Symbol)) → into.new ++ following true words
+        ≡ into.old ++ following behind (word.now ∷ words)) }
 {
     if behind {
         into.extend(b" ")?;
@@ -89,7 +93,9 @@ fn write_part(
 ) -> Result<bool, Memory>
     requires order { from ≤ to }
     requires within { to ≤ length word.now }
-    ensures { IfOk result (λ now. (words : List (List Symbol)) → into.new ++ following now words ≡ into.old ++ following behind (filter is_filled (between from to word.now ∷ []) ++ words)) }
+    ensures { IfOk result (λ now. (words : List (List Symbol)) → into.new ++ following now words
+        ≡ into.old ++ following behind
+        (filter is_filled (between from to word.now ∷ []) ++ words)) }
 {
     if from == to {
         return Ok(behind);
@@ -119,7 +125,10 @@ fn write_symbol(
 ) -> Result<Begun, Memory>
     requires order { begun.from ≤ at }
     requires within { at < length word.now }
-    ensures rest { IfOk result (λ now. into.new ++ following now.behind (filter is_filled (parts_from now.from (at + 1) word.now)) ≡ into.old ++ following begun.behind (filter is_filled (parts_from begun.from at word.now))) }
+    ensures rest { IfOk result
+        (λ now. into.new ++ following now.behind
+        (filter is_filled (parts_from now.from (at + 1) word.now)) ≡ into.old
+        ++ following begun.behind (filter is_filled (parts_from begun.from at word.now))) }
     ensures order { IfOk result (λ now. now.from ≤ at + 1) }
 {
     if is_join(&word.symbols()[at]) {

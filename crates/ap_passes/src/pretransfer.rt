@@ -62,7 +62,12 @@ impl Model for PretransferWork {
 
     ghost Value = { Passing };
 
-    ghost view = { λ w. record { dialect = w.each.dialect; item = w.each.item; finished = w.each.finished } };
+    ghost view = { λ w. record {
+      dialect = w.each.dialect;
+      item = w.each.item;
+      finished =
+          w.each.finished;
+    } };
 }
 
 impl PretransferWork {

@@ -19,7 +19,8 @@ pub(crate) fn write_one(word: &Word, into: &mut Bytes) -> Result<(), Memory>
 
 /// Appends the unit of the word with these bytes.
 fn write_bytes(bytes: &[u8], into: &mut Bytes) -> Result<(), Memory>
-    ensures { (word : List Symbol) → bytes.now ≡ rendering word → OnOk result (into.new ≡ into.old ++ one word) }
+    ensures { (word : List Symbol) → bytes.now ≡ rendering word →
+        OnOk result (into.new ≡ into.old ++ one word) }
 {
     into.extend(b"^")?;
     into.extend(bytes)?;
@@ -28,7 +29,8 @@ fn write_bytes(bytes: &[u8], into: &mut Bytes) -> Result<(), Memory>
 
 /// Appends the unit of the word with these bytes, if it isn't empty.
 pub(crate) fn write_filled(bytes: &[u8], into: &mut Bytes) -> Result<(), Memory>
-    ensures { (word : List Symbol) → bytes.now ≡ rendering word → OnOk result (into.new ≡ into.old ++ filled_one word) }
+    ensures { (word : List Symbol) → bytes.now ≡ rendering word →
+        OnOk result (into.new ≡ into.old ++ filled_one word) }
 {
     if bytes.is_empty() {
         return Ok(());
@@ -45,7 +47,8 @@ fn has_seam(bytes: &[u8]) -> bool
 
 /// Whether the word with these bytes surely stays as it is: it has a byte, and neither `+` nor `#`.
 fn is_plain(bytes: &[u8]) -> bool
-    ensures { (word : List Symbol) → bytes.now ≡ rendering word → result ≡ true → split word ≡ word ∷ [] }
+    ensures { (word : List Symbol) → bytes.now ≡ rendering word → result ≡ true →
+        split word ≡ word ∷ [] }
 {
     !bytes.is_empty() && !has_seam(bytes)
 }
@@ -53,7 +56,8 @@ fn is_plain(bytes: &[u8]) -> bool
 /// Appends the unit of the word with these bytes and answers true, where it surely isn't taken
 /// apart.
 pub(crate) fn write_whole(bytes: &[u8], into: &mut Bytes) -> Result<bool, Memory>
-    ensures whole { (word : List Symbol) → bytes.now ≡ rendering word → result ≡ Ok true → into.new ≡ into.old ++ spaced (split word) }
+    ensures whole { (word : List Symbol) → bytes.now ≡ rendering word → result ≡ Ok true →
+        into.new ≡ into.old ++ spaced (split word) }
     ensures none { result ≡ Ok false → into.new ≡ into.old }
 {
     if !is_plain(bytes) {

@@ -10,15 +10,20 @@ pub size_within : (name : List ℕ) (own : Children) → size (within name own) 
 size_within name nothing = omega arith
 size_within name (element tag inner more) = by (is_named name tag) (size_within name more)
   where
-    by : (t : Bool) → size (within name more) ≤ size more → size (cond t inner (within name more)) ≤ size inner + size more + 1
+    by : (t : Bool) → size (within name more) ≤ size more →
+        size (cond t inner (within name more)) ≤ size inner + size more + 1
     by true k = omega arith
     by false k = omega (arith, k)
 
-pub otherwise_within : (s : Scope) (own : Children) → statements s (within (codes "otherwise") own) ≡ otherwise s own
+pub otherwise_within : (s : Scope) (own : Children) → statements s (within (codes "otherwise") own)
+    ≡ otherwise s own
 otherwise_within s nothing = refl
-otherwise_within s (element tag inner more) = by (is_named (codes "otherwise") tag) (otherwise_within s more)
+otherwise_within s (element tag inner more) =
+    by (is_named (codes "otherwise") tag) (otherwise_within s more)
   where
-    by : (t : Bool) → statements s (within (codes "otherwise") more) ≡ otherwise s more → statements s (cond t inner (within (codes "otherwise") more)) ≡ cond t (statements s inner) (otherwise s more)
+    by : (t : Bool) → statements s (within (codes "otherwise") more) ≡ otherwise s more →
+        statements s (cond t inner (within (codes "otherwise") more))
+        ≡ cond t (statements s inner) (otherwise s more)
     by true k = refl
     by false k = k
 

@@ -41,9 +41,11 @@ within name (element tag own more) = if is_named name tag then own else within n
 -- the start tag of the first element of this name
 abbrev pub tag_within : List ℕ → Children → Option Tag
 tag_within name nothing = None
-tag_within name (element tag own more) = if is_named name tag then Some tag else tag_within name more
+tag_within name (element tag own more) = if is_named name tag then Some tag
+    else tag_within name more
 
 -- how many elements of this name stand side by side
 abbrev pub count_named : List ℕ → Children → ℕ
 count_named name nothing = 0
-count_named name (element tag own more) = (if is_named name tag then 1 else 0) + count_named name more
+count_named name (element tag own more) =
+    (if is_named name tag then 1 else 0) + count_named name more

@@ -17,14 +17,16 @@ is_caseless given = is_value (codes "yes") (value_of (codes "caseless") given)
 abbrev pub comparison : List Pair → List PlainValue → Option PlainComparison
 comparison given [] = None
 comparison given (v ∷ []) = None
-comparison given (v ∷ w ∷ []) = Some (record { caseless = is_caseless given; first = v; second = w })
+comparison given (v ∷ w ∷ []) =
+    Some (record { caseless = is_caseless given; first = v; second = w })
 comparison given (v ∷ w ∷ x ∷ more) = None
 
 -- a value, and a list
 abbrev pub membership : List Pair → List PlainValue → Option ℕ → Option PlainMembership
 membership given [] list = None
 membership given (v ∷ []) None = None
-membership given (v ∷ []) (Some n) = Some (record { caseless = is_caseless given; value = v; list = n })
+membership given (v ∷ []) (Some n) =
+    Some (record { caseless = is_caseless given; value = v; list = n })
 membership given (v ∷ w ∷ more) list = None
 
 -- the number of the list that an element's tag names
@@ -54,13 +56,22 @@ negation (c ∷ d ∷ more) = None
 -- a condition without conditions in it
 abbrev pub simple_condition : Scope → Tag → Children → Option PlainCondition
 simple_condition s tag own =
-    if is_named (codes "equal") tag then option_map equal (comparison tag.attributes (values s false own))
-    else if is_named (codes "begins-with") tag then option_map begins_with (comparison tag.attributes (values s false own))
-    else if is_named (codes "ends-with") tag then option_map ends_with (comparison tag.attributes (values s false own))
-    else if is_named (codes "contains-substring") tag then option_map contains_substring (comparison tag.attributes (values s false own))
-    else if is_named (codes "in") tag then option_map is_in (membership tag.attributes (values s false own) (list_in s own))
-    else if is_named (codes "begins-with-list") tag then option_map begins_with_list (membership tag.attributes (values s false own) (list_in s own))
-    else if is_named (codes "ends-with-list") tag then option_map ends_with_list (membership tag.attributes (values s false own) (list_in s own))
+    if is_named (codes "equal") tag
+    then option_map equal (comparison tag.attributes (values s false own))
+    else if is_named (codes "begins-with") tag
+    then option_map begins_with (comparison tag.attributes (values s false own))
+    else if is_named (codes "ends-with") tag
+    then option_map ends_with (comparison tag.attributes (values s false own))
+    else if is_named (codes "contains-substring") tag
+    then option_map contains_substring (comparison tag.attributes (values s false own))
+    else if is_named (codes "in") tag
+    then option_map is_in (membership tag.attributes (values s false own) (list_in s own))
+    else if is_named (codes "begins-with-list") tag
+    then option_map begins_with_list
+    (membership tag.attributes (values s false own) (list_in s own))
+    else if is_named (codes "ends-with-list") tag
+    then option_map ends_with_list
+    (membership tag.attributes (values s false own) (list_in s own))
     else None
 
 -- the condition that an element is, with the conditions within it
@@ -74,4 +85,5 @@ condition s tag own inner =
 -- the conditions among the elements
 abbrev pub conditions : Scope → Children → List PlainCondition
 conditions s nothing = []
-conditions s (element tag own more) = option_to_list (condition s tag own (conditions s own)) ++ conditions s more
+conditions s (element tag own more) = option_to_list (condition s tag own (conditions s own))
+    ++ conditions s more

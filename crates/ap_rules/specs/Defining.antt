@@ -18,16 +18,22 @@ npar_of given = unwrap_or (number_in 0 64 (value_of (codes "npar") given)) 0
 
 -- a further macro, unless there is one of its name
 abbrev pub with_macro : List ℕ → ℕ → Defined → Defined
-with_macro name npar d = if has_name d.macros name then d else record d { macros = d.macros ++ name ∷ []; npars = d.npars ++ npar ∷ [] }
+with_macro name npar d = if has_name d.macros name then d
+    else record d { macros = d.macros ++ name ∷ []; npars = d.npars ++ npar ∷ [] }
 
 -- the names once an element is over
 abbrev pub defined_after : Tag → Defined → Defined
 defined_after tag d =
-    if is_named (codes "def-cat") tag then record d { cats = with_name d.cats (name_of tag.attributes) }
-    else if is_named (codes "def-attr") tag then record d { attrs = with_name d.attrs (name_of tag.attributes) }
-    else if is_named (codes "def-var") tag then record d { vars = with_name d.vars (name_of tag.attributes) }
-    else if is_named (codes "def-list") tag then record d { lists = with_name d.lists (name_of tag.attributes) }
-    else if is_named (codes "def-macro") tag then with_macro (name_of tag.attributes) (npar_of tag.attributes) d
+    if is_named (codes "def-cat") tag
+    then record d { cats = with_name d.cats (name_of tag.attributes) }
+    else if is_named (codes "def-attr") tag
+    then record d { attrs = with_name d.attrs (name_of tag.attributes) }
+    else if is_named (codes "def-var") tag
+    then record d { vars = with_name d.vars (name_of tag.attributes) }
+    else if is_named (codes "def-list") tag
+    then record d { lists = with_name d.lists (name_of tag.attributes) }
+    else if is_named (codes "def-macro") tag
+    then with_macro (name_of tag.attributes) (npar_of tag.attributes) d
     else d
 
 -- the names with those that the elements define, wherever these stand

@@ -12,8 +12,8 @@ use Rattle.ap_rules.specs.declared.statement.Place.{Place}
 use Rattle.ap_rules.specs.declared.value.CaseOf.{CaseOf}
 use Rattle.ap_rules.specs.declared.value.Clip.{Clip}
 
--- A value: a clip; a word; tags; a variable; a value in the case of the unit at a position; the case of a part; values
--- one after another; a blank, with its position where it has one.
+-- A value: a clip; a word; tags; a variable; a value in the case of the unit at a position; the
+-- case of a part; values one after another; a blank, with its position where it has one.
 mutual
   pub data PlainValue : Type 0 where
     clip : Clip → PlainValue
@@ -84,7 +84,8 @@ pub record PlainChunk : Type 0 where
   pub tags : List (List PlainValue)
   pub pieces : List PlainChunkPiece
 
--- a piece of an output: a blank, a unit, one unit of several, a chunk as transfer makes it, or as interchunk does
+-- a piece of an output: a blank, a unit, one unit of several, a chunk as transfer makes it, or as
+-- interchunk does
 pub data PlainPiece : Type 0 where
   blank : Option ℕ → PlainPiece
   unit : PlainUnit → PlainPiece
@@ -92,8 +93,9 @@ pub data PlainPiece : Type 0 where
   chunk : PlainChunk → PlainPiece
   value_chunk : List PlainValue → PlainPiece
 
--- A statement: a choice, with what is done otherwise; a place is set; values are added to a variable; pieces are
--- added to the output; a place is put in the case of a value; a macro is run on the units at these positions.
+-- A statement: a choice, with what is done otherwise; a place is set; values are added to a
+-- variable; pieces are added to the output; a place is put in the case of a value; a macro is run
+-- on the units at these positions.
 mutual
   pub data PlainStatement : Type 0 where
     choose : PlainWhens → PlainStatements → PlainStatement

@@ -18,7 +18,9 @@ use Rattle.ap_rules.specs.declared.rules.Form.{Form}
 
 -- A fault of the notation under the table of the form.
 abbrev pub HasNotationFault : Form → Parts → Fault → Type 0
-HasNotationFault form whole f = (g : NotationFault) × HasFaultUnder (table_of form) (pruned 201 whole) g × (f ≡ (g.0, kind_of g.1))
+HasNotationFault form whole f =
+    (g : NotationFault) × HasFaultUnder (table_of form) (pruned 201 whole) g
+    × (f ≡ (g.0, kind_of g.1))
 
 -- A fault of the names, positions, tags, patterns and uses.
 abbrev pub HasOwnFault : Form → Parts → Fault → Type 0
@@ -45,6 +47,9 @@ pub record HasFirstFault (form : Form) (text : List ℕ) (fault : RuleFault) : T
   pub least : IsLeast order_of (HasAnyFault form whole) (Some first)
   pub is : fault ≡ record { kind = first.1; line = line_at text first.0 }
 
--- The text isn't UTF-8, or spells no tree, and this is its first wrong byte or piece; or it is the first fault of its tree.
+-- The text isn't UTF-8, or spells no tree, and this is its first wrong byte or piece; or it is the
+-- first fault of its tree.
 abbrev pub IsRefusedFor : Form → List ℕ → RuleFault → Type 0
-IsRefusedFor form text fault = ((f : MarkupFault) × IsRefusedBy text f × (fault ≡ record { kind = kind_of f.kind; line = f.line })) ⊎ HasFirstFault form text fault
+IsRefusedFor form text fault =
+    ((f : MarkupFault) × IsRefusedBy text f
+    × (fault ≡ record { kind = kind_of f.kind; line = f.line })) ⊎ HasFirstFault form text fault

@@ -1,5 +1,5 @@
--- When rules are sound: each number that stands for a name is that of something they define, and no element has a fault of its
--- positions, tags, lengths or uses, or lacks what it must have.
+-- When rules are sound: each number that stands for a name is that of something they define, and no
+-- element has a fault of its positions, tags, lengths or uses, or lacks what it must have.
 use Rattle.std.specs.Prelude.{◌≡◌, ℕ, ◌<◌, ◌≤◌, Bool, true, false, ◌&&◌, List, [], ◌∷◌, ◌++◌, length, map, Option, Some, None, is_none, slice_get}
 use Rattle.ap_symbol.specs.declared.symbol.Symbol.{Symbol}
 use Rattle.ap_symbol.specs.declared.symbol.Symbol.TheVariants.{Letter, Tag, Blank, Join, Queue, Alarm, Star, At}
@@ -38,8 +38,9 @@ abbrev pub HasSome : {A : Type 0} → List A → Type 0
 HasSome [] = ⊥
 HasSome (x ∷ xs) = Unit {0}
 
--- What bounds the numbers in a tree: how many attributes, variables and lists there are, how many units each macro is given that may
--- be called, and the positions that there are; with the form of the file and whether its outputs hold chunks.
+-- What bounds the numbers in a tree: how many attributes, variables and lists there are, how many
+-- units each macro is given that may be called, and the positions that there are; with the form of
+-- the file and whether its outputs hold chunks.
 pub record Bounds : Type 0 where
   pub form : Form
   pub chunks : Bool
@@ -79,7 +80,8 @@ IsSoundPart content attributes (Attribute n) = n < attributes
 -- a clip that may read the content of a chunk where `content` says so, and then has no link
 abbrev pub IsSoundClip : Bounds → Bool → Clip → Type 0
 IsSoundClip b content c =
-    IsPosition b c.pos × IsSoundPart (content && is_none c.link_to) b.attributes c.part × Opt (Each (IsTag false)) c.link_to
+    IsPosition b c.pos × IsSoundPart (content && is_none c.link_to) b.attributes c.part
+    × Opt (Each (IsTag false)) c.link_to
 
 abbrev pub IsSoundCase : Bounds → CaseOf → Type 0
 IsSoundCase b c = IsPosition b c.pos × IsSoundPart false b.attributes c.part
@@ -156,7 +158,8 @@ IsSoundPiece b (blank pos) = IsSoundBlank pos
 IsSoundPiece b (unit vs) = (b.chunks ≡ false) × AreSound b vs
 IsSoundPiece b (units us) = (b.chunks ≡ false) × Each (AreSound b) us
 IsSoundPiece b (chunk c) = (b.chunks ≡ true) × (is_transfer b.form ≡ true) × IsSoundChunk b c
-IsSoundPiece b (value_chunk vs) = (b.chunks ≡ true) × (is_transfer b.form ≡ false) × Each (IsSoundValue b true) vs
+IsSoundPiece b (value_chunk vs) = (b.chunks ≡ true) × (is_transfer b.form ≡ false)
+    × Each (IsSoundValue b true) vs
 
 abbrev pub IsSoundPlace : Bounds → Place → Type 0
 IsSoundPlace b (place.Clip c) = IsSoundClip b false c
@@ -174,7 +177,8 @@ abbrev mutual
   IsSoundStatement b (append n vs) = (n < b.variables) × HasSome vs × AreSound b vs
   IsSoundStatement b (out ps) = Each (IsSoundPiece b) ps
   IsSoundStatement b (modify_case p v) = IsSoundPlace b p × IsSoundValue b false v
-  IsSoundStatement b (call_macro n params) = (slice_get b.npars n ≡ Some (length params)) × Each (IsPosition b) params
+  IsSoundStatement b (call_macro n params) = (slice_get b.npars n ≡ Some (length params))
+      × Each (IsPosition b) params
 
   pub AreSoundStatements : Bounds → PlainStatements → Type 0
   AreSoundStatements b no_statements = Unit {0}
@@ -182,7 +186,8 @@ abbrev mutual
 
   pub AreSoundWhens : Bounds → PlainWhens → Type 0
   AreSoundWhens b no_whens = Unit {0}
-  AreSoundWhens b (then_when c ss ws) = IsSoundCondition b c × AreSoundStatements b ss × AreSoundWhens b ws
+  AreSoundWhens b (then_when c ss ws) = IsSoundCondition b c × AreSoundStatements b ss
+      × AreSoundWhens b ws
 
 -- outputs hold chunks
 abbrev pub have_chunks : Form → DefaultPiece → Bool
@@ -210,7 +215,8 @@ npar_in m = m.npar
 abbrev pub AreSoundMacros : PlainRules → List ℕ → List PlainMacro → Type 0
 AreSoundMacros r npars [] = Unit {0}
 AreSoundMacros r npars (m ∷ ms) =
-    (m.npar ≤ 64) × Each (IsSoundStatement (bounds_in r npars (reach_to r.form m.npar))) m.statements × AreSoundMacros r (npars ++ m.npar ∷ []) ms
+    (m.npar ≤ 64) × Each (IsSoundStatement (bounds_in r npars (reach_to r.form m.npar)))
+    m.statements × AreSoundMacros r (npars ++ m.npar ∷ []) ms
 
 abbrev pub IsSoundPatternItem : ℕ → PatternItem → Type 0
 IsSoundPatternItem categories item = item.n < categories
@@ -219,7 +225,8 @@ IsSoundPatternItem categories item = item.n < categories
 pub record IsSoundRule (r : PlainRules) (rule : PlainRule) : Type 0 where
   pub fits : is_length r.form (length rule.pattern) ≡ true
   pub pattern : Each (IsSoundPatternItem (length r.categories)) rule.pattern
-  pub action : Each (IsSoundStatement (bounds_in r (map npar_in r.macros) (rule_reach r.form (length rule.pattern)))) rule.action
+  pub action : Each (IsSoundStatement
+      (bounds_in r (map npar_in r.macros) (rule_reach r.form (length rule.pattern)))) rule.action
 
 abbrev pub IsSoundCatItem : CatItem → Type 0
 IsSoundCatItem item = Each (IsTag true) item.tags

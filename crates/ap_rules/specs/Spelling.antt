@@ -1,5 +1,5 @@
--- What the code is proved to compute of a text: rules, or a fault. What a text says as a rule file is said in `Sentences`, and
--- the laws tie the two.
+-- What the code is proved to compute of a text: rules, or a fault. What a text says as a rule file
+-- is said in `Sentences`, and the laws tie the two.
 use Rattle.std.specs.Prelude.{◌≡◌, ℕ, List, [], Option, Some, None, Result, Ok, Err}
 use Rattle.std.specs.Option.{option_map}
 use Rattle.ap_markup.specs.Elements.{elements, Spelled}
@@ -55,11 +55,13 @@ abbrev pub decided : Form → Children → Option RuleMark → Result PlainRules
 decided form tree None = Ok (rules_in form tree)
 decided form tree (Some m) = Err (fault_of m)
 
--- A tree has its first fault, by its place and then by its number, or else it spells its rules. A text without a
--- tree has the fault of the notation.
+-- A tree has its first fault, by its place and then by its number, or else it spells its rules. A
+-- text without a tree has the fault of the notation.
 abbrev pub judged : Form → Spelled → Result PlainRules RuleFault
 judged form (Err f) = Err (fault_of (mark_of f))
-judged form (Ok tree) = decided form (children tree.0) (sooner (mark_order kind_number) (option_map mark_of tree.1) (first_mark form (children tree.0)))
+judged form (Ok tree) = decided form (children tree.0)
+    (sooner (mark_order kind_number) (option_map mark_of tree.1)
+    (first_mark form (children tree.0)))
 
 unfoldable pub spelled : Form → List ℕ → Result PlainRules RuleFault
 spelled form text = judged form (elements text (table_of form))

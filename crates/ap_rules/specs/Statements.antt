@@ -38,7 +38,8 @@ setting (p ∷ v ∷ w ∷ more) = None
 abbrev pub params : Scope → Children → List ℕ
 params s nothing = []
 params s (element tag own more) =
-    if is_named (codes "with-param") tag then option_to_list (position_of s tag.attributes) ++ params s more else params s more
+    if is_named (codes "with-param") tag then option_to_list (position_of s tag.attributes)
+    ++ params s more else params s more
 
 -- a macro is given so many units
 abbrev pub is_given : Option ℕ → ℕ → Bool
@@ -48,7 +49,8 @@ is_given (Some npar) count = npar == count
 -- a call of the macro of this number with as many units as it is given
 abbrev pub call_of : Scope → Option ℕ → List ℕ → Option PlainStatement
 call_of s None positions = None
-call_of s (Some n) positions = if is_given (slice_get s.names.npars n) (length positions) then Some (call_macro n positions) else None
+call_of s (Some n) positions = if is_given (slice_get s.names.npars n) (length positions)
+    then Some (call_macro n positions) else None
 
 -- one or more values are added to the variable of this number
 abbrev pub appended : Option ℕ → List PlainValue → Option PlainStatement
@@ -64,15 +66,20 @@ choice (w ∷ ws) last = Some (choose (whens_of (w ∷ ws)) (statements_of last)
 -- a statement without statements in it
 abbrev pub simple_statement : Scope → Tag → Children → Option PlainStatement
 simple_statement s tag own =
-    if is_named (codes "let") tag then option_map (λ p. assign p.0 p.1) (setting (values s false own))
-    else if is_named (codes "append") tag then appended (number_of s.names.vars (name_of tag.attributes)) (values s false own)
+    if is_named (codes "let") tag
+    then option_map (λ p. assign p.0 p.1) (setting (values s false own))
+    else if is_named (codes "append") tag
+    then appended (number_of s.names.vars (name_of tag.attributes)) (values s false own)
     else if is_named (codes "out") tag then Some (out (pieces s own))
-    else if is_named (codes "modify-case") tag then option_map (λ p. modify_case p.0 p.1) (setting (values s false own))
-    else if is_named (codes "call-macro") tag then call_of s (number_of s.names.macros (name_of tag.attributes)) (params s own)
+    else if is_named (codes "modify-case") tag
+    then option_map (λ p. modify_case p.0 p.1) (setting (values s false own))
+    else if is_named (codes "call-macro") tag
+    then call_of s (number_of s.names.macros (name_of tag.attributes)) (params s own)
     else None
 
 -- the statement that an element is, with the choices within it and what is done otherwise
-abbrev pub statement : Scope → Tag → Children → List PlainWhen → List PlainStatement → Option PlainStatement
+abbrev pub statement : Scope → Tag → Children → List PlainWhen → List PlainStatement →
+    Option PlainStatement
 statement s tag own choices last =
     if is_named (codes "choose") tag then choice choices last else simple_statement s tag own
 
@@ -83,20 +90,24 @@ tested (c ∷ []) done = Some (c, done)
 tested (c ∷ d ∷ more) done = None
 
 abbrev pub when_of : Scope → Tag → Children → List PlainStatement → Option PlainWhen
-when_of s tag own done = if is_named (codes "when") tag then tested (conditions s (within (codes "test") own)) done else None
+when_of s tag own done = if is_named (codes "when") tag
+    then tested (conditions s (within (codes "test") own)) done else None
 
 abbrev mutual
   -- the statements among the elements
   pub statements : Scope → Children → List PlainStatement
   statements s nothing = []
-  statements s (element tag own more) = option_to_list (statement s tag own (whens s own) (otherwise s own)) ++ statements s more
+  statements s (element tag own more) =
+      option_to_list (statement s tag own (whens s own) (otherwise s own)) ++ statements s more
 
   -- the choices among them
   pub whens : Scope → Children → List PlainWhen
   whens s nothing = []
-  whens s (element tag own more) = option_to_list (when_of s tag own (statements s own)) ++ whens s more
+  whens s (element tag own more) = option_to_list (when_of s tag own (statements s own))
+      ++ whens s more
 
   -- what the first `otherwise` among them says
   pub otherwise : Scope → Children → List PlainStatement
   otherwise s nothing = []
-  otherwise s (element tag own more) = if is_named (codes "otherwise") tag then statements s own else otherwise s more
+  otherwise s (element tag own more) = if is_named (codes "otherwise") tag then statements s own
+      else otherwise s more

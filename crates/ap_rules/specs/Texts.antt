@@ -17,13 +17,14 @@ is_leading c = nat_le 49 c && nat_le c 57
 abbrev pub when_so : Bool → ℕ → Option ℕ
 when_so b n = if b then Some n else None
 
--- The number that a text of one to three digits is in decimal, without a zero in front. A longer one is above each
--- bound that rules have.
+-- The number that a text of one to three digits is in decimal, without a zero in front. A longer
+-- one is above each bound that rules have.
 abbrev pub decimal : List ℕ → Option ℕ
 decimal [] = None
 decimal (a ∷ []) = when_so (is_digit a) (a - 48)
 decimal (a ∷ b ∷ []) = when_so (is_leading a && is_digit b) ((a - 48) * 10 + (b - 48))
-decimal (a ∷ b ∷ c ∷ []) = when_so (is_leading a && is_digit b && is_digit c) ((a - 48) * 100 + (b - 48) * 10 + (c - 48))
+decimal (a ∷ b ∷ c ∷ []) =
+    when_so (is_leading a && is_digit b && is_digit c) ((a - 48) * 100 + (b - 48) * 10 + (c - 48))
 decimal (a ∷ b ∷ c ∷ d ∷ more) = None
 
 abbrev pub bounded : ℕ → ℕ → Option ℕ → Option ℕ
@@ -45,12 +46,14 @@ tag_named name = if is_tag_name name then Some (Tag name) else None
 
 -- a part of tags: a star, where stars may stand, or a tag
 abbrev pub tag_symbol : Bool → List ℕ → Option Symbol
-tag_symbol stars part = if bytes_eq (codes "*") part then (if stars then Some Star else None) else tag_named (encode_utf8_all part)
+tag_symbol stars part = if bytes_eq (codes "*") part then (if stars then Some Star else None)
+    else tag_named (encode_utf8_all part)
 
 -- the parts between the dots, of which this one has begun
 abbrev pub parts_after : List ℕ → List ℕ → List (List ℕ)
 parts_after part [] = part ∷ []
-parts_after part (c ∷ cs) = if c == 46 then part ∷ parts_after [] cs else parts_after (part ++ c ∷ []) cs
+parts_after part (c ∷ cs) = if c == 46 then part ∷ parts_after [] cs
+    else parts_after (part ++ c ∷ []) cs
 
 abbrev pub with_symbol : Option Symbol → Option (List Symbol) → Option (List Symbol)
 with_symbol None rest = None

@@ -21,8 +21,8 @@ use Rattle.ap_rules.specs.declared.value.ClipPart.TheVariants.{Lem, Lemh, Lemq, 
 use Rattle.ap_rules.specs.declared.value.Side.{Side}
 use Rattle.ap_rules.specs.declared.value.Side.TheVariants.{Source, Target}
 
--- What elements are read with: the form of the file, whether its outputs hold chunks, the names that stand for numbers, and
--- the positions that there are.
+-- What elements are read with: the form of the file, whether its outputs hold chunks, the names
+-- that stand for numbers, and the positions that there are.
 pub record Scope : Type 0 where
   pub form : Form
   pub chunks : Bool
@@ -49,11 +49,13 @@ part_named content names part =
     else option_map Attribute (number_of names.attrs part)
 
 abbrev pub part_given : Bool → Defined → List Pair → Option ClipPart
-part_given content names given = part_named content names (given_text (value_of (codes "part") given))
+part_given content names given =
+    part_named content names (given_text (value_of (codes "part") given))
 
 abbrev pub side_named : Bool → Option (List ℕ) → Side
 side_named transfer None = Target
-side_named transfer (Some value) = if transfer && bytes_eq (codes "sl") value then Source else Target
+side_named transfer (Some value) = if transfer && bytes_eq (codes "sl") value
+    then Source else Target
 
 -- in transfer `sl` is the source; elsewhere the side doesn't count
 abbrev pub side_of : Form → List Pair → Side
@@ -67,16 +69,25 @@ is_value text (Some value) = bytes_eq text value
 -- the tag of a link, where one is given
 abbrev pub link_of : Option (List ℕ) → Option (Option (List Symbol))
 link_of None = Some None
-link_of (Some text) = if is_none (number_in 1 99 (Some text)) then None else option_map Some (tags_of false text)
+link_of (Some text) = if is_none (number_in 1 99 (Some text)) then None
+    else option_map Some (tags_of false text)
 
--- A clip: its position, its part, which is the content only where that may be read and without a link, its side, whether the
--- queue is read too, and its link.
+-- A clip: its position, its part, which is the content only where that may be read and without a
+-- link, its side, whether the queue is read too, and its link.
 abbrev pub clip_of : Scope → Bool → List Pair → Option Clip
 clip_of s content given =
     on_some (position_of s given) (λ (pos : ℕ).
-    on_some (part_given (content && not (has_attribute (codes "link-to") given)) s.names given) (λ (part : ClipPart).
+    on_some (part_given (content && not (has_attribute (codes "link-to") given)) s.names given)
+    (λ (part : ClipPart).
     on_some (link_of (value_of (codes "link-to") given)) (λ (link : Option (List Symbol)).
-    Some (record { pos = pos; part = part; side = side_of s.form given; queue = not (is_value (codes "no") (value_of (codes "queue") given)); link_to = link }))))
+    Some (record {
+      pos = pos;
+      part = part;
+      side = side_of s.form given;
+      queue =
+          not (is_value (codes "no") (value_of (codes "queue") given));
+      link_to = link;
+    }))))
 
 abbrev pub case_given : Scope → List Pair → Option CaseOf
 case_given s given =
@@ -95,11 +106,15 @@ recased (Some pos) (v ∷ w ∷ vs) = None
 abbrev pub simple_value : Scope → Bool → Tag → Option PlainValue
 simple_value s content tag =
     if is_named (codes "clip") tag then option_map clip (clip_of s content tag.attributes)
-    else if is_named (codes "lit") tag then Some (lit (word_of (given_text (value_of (codes "v") tag.attributes))))
-    else if is_named (codes "lit-tag") tag then option_map lit_tag (tags_of false (given_text (value_of (codes "v") tag.attributes)))
-    else if is_named (codes "var") tag then option_map var (number_of s.names.vars (name_of tag.attributes))
+    else if is_named (codes "lit") tag
+    then Some (lit (word_of (given_text (value_of (codes "v") tag.attributes))))
+    else if is_named (codes "lit-tag") tag
+    then option_map lit_tag (tags_of false (given_text (value_of (codes "v") tag.attributes)))
+    else if is_named (codes "var") tag
+    then option_map var (number_of s.names.vars (name_of tag.attributes))
     else if is_named (codes "case-of") tag then option_map case_of (case_given s tag.attributes)
-    else if is_named (codes "b") tag then Some (blank_value (number_in 1 99 (value_of (codes "pos") tag.attributes)))
+    else if is_named (codes "b") tag
+    then Some (blank_value (number_in 1 99 (value_of (codes "pos") tag.attributes)))
     else None
 
 -- the value that an element is, with the values within it
@@ -109,7 +124,9 @@ value s content tag inner =
     else if is_named (codes "concat") tag then Some (concat (values_of inner))
     else simple_value s content tag
 
--- the values among the elements; a clip among them may read the content of a chunk where `content` says so
+-- the values among the elements; a clip among them may read the content of a chunk where `content`
+-- says so
 abbrev pub values : Scope → Bool → Children → List PlainValue
 values s content nothing = []
-values s content (element tag own more) = option_to_list (value s content tag (values s false own)) ++ values s content more
+values s content (element tag own more) = option_to_list (value s content tag (values s false own))
+    ++ values s content more

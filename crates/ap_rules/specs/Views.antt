@@ -41,7 +41,12 @@ abbrev pub plain_values : List Value → List PlainValue
 plain_values vs = map plain_value vs
 
 abbrev pub plain_comparison : Comparison → PlainComparison
-plain_comparison c = record { caseless = c.caseless; first = plain_value c.first; second = plain_value c.second }
+plain_comparison c = record {
+  caseless = c.caseless;
+  first = plain_value c.first;
+  second =
+      plain_value c.second;
+}
 
 abbrev pub plain_membership : Membership → PlainMembership
 plain_membership m = record { caseless = m.caseless; value = plain_value m.value; list = m.list }
@@ -61,14 +66,16 @@ abbrev mutual
 
   pub row_conditions : {m : _} → Row_of-Condition m → PlainConditions
   row_conditions end_of-Condition = no_conditions
-  row_conditions (more_of-Condition c rest) = then_condition (plain_condition c) (row_conditions rest)
+  row_conditions (more_of-Condition c rest) =
+      then_condition (plain_condition c) (row_conditions rest)
 
 abbrev pub plain_conditions : List Condition → List PlainCondition
 plain_conditions cs = map plain_condition cs
 
 abbrev pub plain_chunk_piece : ChunkPiece → PlainChunkPiece
 plain_chunk_piece (code_chunk_piece.Lu u) = chunk_unit (plain_values u.values.items)
-plain_chunk_piece (code_chunk_piece.Mlu m) = chunk_units (map (λ u. plain_values u.values.items) m.units.items)
+plain_chunk_piece (code_chunk_piece.Mlu m) =
+    chunk_units (map (λ u. plain_values u.values.items) m.units.items)
 plain_chunk_piece (code_chunk_piece.B space) = chunk_blank space.pos
 
 abbrev pub plain_chunk : Chunk → PlainChunk
@@ -105,11 +112,13 @@ abbrev mutual
 
   pub row_statements : {m : _} → Row_of-Statement m → PlainStatements
   row_statements end_of-Statement = no_statements
-  row_statements (more_of-Statement s rest) = then_statement (plain_statement s) (row_statements rest)
+  row_statements (more_of-Statement s rest) =
+      then_statement (plain_statement s) (row_statements rest)
 
   pub row_whens : {m : _} → Row_of-When m → PlainWhens
   row_whens end_of-When = no_whens
-  row_whens (more_of-When test shape row rest) = then_when (plain_condition test) (row_statements row) (row_whens rest)
+  row_whens (more_of-When test shape row rest) =
+      then_when (plain_condition test) (row_statements row) (row_whens rest)
 
 abbrev pub plain_statements : List Statement → List PlainStatement
 plain_statements ss = map plain_statement ss
@@ -121,7 +130,12 @@ abbrev pub plain_macro : DefMacro → PlainMacro
 plain_macro m = record { npar = m.npar; statements = plain_statements m.statements.items }
 
 abbrev pub plain_rule : Rule → PlainRule
-plain_rule r = record { line = r.line; pattern = r.pattern; action = plain_statements r.action.items }
+plain_rule r = record {
+  line = r.line;
+  pattern = r.pattern;
+  action =
+      plain_statements r.action.items;
+}
 
 -- the rules of a file, as a plain tree
 abbrev pub plain_rules : Rules → PlainRules

@@ -26,7 +26,8 @@ fn is_caseless(given: &[Attribute]) -> bool
 
 /// Two values, in order.
 fn compared(given: &[Attribute], mut inner: Vec<Value>) -> Option<Comparison>
-    ensures { option_map plain_comparison result ≡ read.comparison (pairs given.now) (plain_values inner.items) }
+    ensures { option_map plain_comparison result
+        ≡ read.comparison (pairs given.now) (plain_values inner.items) }
 {
     if inner.len() != 2 {
         return None;
@@ -42,7 +43,8 @@ fn compared(given: &[Attribute], mut inner: Vec<Value>) -> Option<Comparison>
 
 /// A value, and a list.
 fn listed(given: &[Attribute], mut inner: Vec<Value>, list: Option<usize>) -> Option<Membership>
-    ensures { option_map plain_membership result ≡ read.membership (pairs given.now) (plain_values inner.items) list }
+    ensures { option_map plain_membership result
+        ≡ read.membership (pairs given.now) (plain_values inner.items) list }
 {
     if inner.len() != 1 {
         return None;
@@ -67,14 +69,19 @@ fn list_in(s: Scope<'_, '_>, parts: &[Part]) -> Option<usize>
 }
 
 fn comparison(alloc: Global, s: Scope<'_, '_>, node: &Node) -> Result<Option<Comparison>, Memory>
-    ensures { IfOk result (λ made. option_map plain_comparison made ≡ read.comparison (pairs node.now.attributes) (values (scope s.entry) false (children_of node.now))) }
+    ensures { IfOk result (λ made. option_map plain_comparison made
+        ≡ read.comparison (pairs node.now.attributes)
+        (values (scope s.entry) false (children_of node.now))) }
 {
     let inner = values(alloc, s, false, &node.parts)?;
     Ok(compared(node.attributes.as_slice(), inner))
 }
 
 fn membership(alloc: Global, s: Scope<'_, '_>, node: &Node) -> Result<Option<Membership>, Memory>
-    ensures { IfOk result (λ made. option_map plain_membership made ≡ read.membership (pairs node.now.attributes) (values (scope s.entry) false (children_of node.now)) (read.list_in (scope s.entry) (children_of node.now))) }
+    ensures { IfOk result (λ made. option_map plain_membership made
+        ≡ read.membership (pairs node.now.attributes)
+        (values (scope s.entry) false (children_of node.now))
+        (read.list_in (scope s.entry) (children_of node.now))) }
 {
     let inner = values(alloc, s, false, &node.parts)?;
     Ok(listed(node.attributes.as_slice(), inner, list_in(s, &node.parts)))
@@ -86,7 +93,8 @@ fn simple_condition(
     s: Scope<'_, '_>,
     node: &Node,
 ) -> Result<Option<Condition>, Memory>
-    ensures { IfOk result (λ made. option_map plain_condition made ≡ read.simple_condition (scope s.entry) (tag_of node.now) (children_of node.now)) }
+    ensures { IfOk result (λ made. option_map plain_condition made
+        ≡ read.simple_condition (scope s.entry) (tag_of node.now) (children_of node.now)) }
 {
     if is_named("equal", node) {
         return Ok(comparison(alloc, s, node)?.map(Condition::Equal));
@@ -126,7 +134,8 @@ fn one_of(conditions: Vec<Condition>) -> Condition
 
 /// Each of one or more conditions.
 fn conjunction(conditions: Vec<Condition>) -> Option<Condition>
-    ensures { option_map plain_condition result ≡ read.conjunction (plain_conditions conditions.items) }
+    ensures { option_map plain_condition result
+        ≡ read.conjunction (plain_conditions conditions.items) }
 {
     if conditions.is_empty() {
         return None;
@@ -136,7 +145,8 @@ fn conjunction(conditions: Vec<Condition>) -> Option<Condition>
 
 /// One of one or more conditions.
 fn disjunction(conditions: Vec<Condition>) -> Option<Condition>
-    ensures { option_map plain_condition result ≡ read.disjunction (plain_conditions conditions.items) }
+    ensures { option_map plain_condition result
+        ≡ read.disjunction (plain_conditions conditions.items) }
 {
     if conditions.is_empty() {
         return None;
@@ -147,7 +157,8 @@ fn disjunction(conditions: Vec<Condition>) -> Option<Condition>
 /// One condition that must not hold.
 #[tactic(auto, using(crate::proofs::ConditionViews::views))]
 fn negation(alloc: Global, mut inner: Vec<Condition>) -> Result<Option<Condition>, Memory>
-    ensures { IfOk result (λ made. option_map plain_condition made ≡ read.negation (plain_conditions inner.items)) }
+    ensures { IfOk result (λ made. option_map plain_condition made
+        ≡ read.negation (plain_conditions inner.items)) }
 {
     if inner.len() != 1 {
         return Ok(None);
@@ -164,7 +175,9 @@ fn negation(alloc: Global, mut inner: Vec<Condition>) -> Result<Option<Condition
 /// The condition that an element is.
 #[cycle(conditions)]
 fn condition(alloc: Global, s: Scope<'_, '_>, node: &Node) -> Result<Option<Condition>, Memory>
-    ensures { IfOk result (λ made. option_map plain_condition made ≡ read.condition (scope s.entry) (tag_of node.now) (children_of node.now) (read.conditions (scope s.entry) (children_of node.now))) }
+    ensures { IfOk result (λ made. option_map plain_condition made
+        ≡ read.condition (scope s.entry) (tag_of node.now) (children_of node.now)
+        (read.conditions (scope s.entry) (children_of node.now))) }
 {
     if is_named("and", node) {
         let inner = conditions(alloc, s, &node.parts)?;
@@ -184,7 +197,8 @@ fn condition(alloc: Global, s: Scope<'_, '_>, node: &Node) -> Result<Option<Cond
 /// The conditions among the parts.
 #[cycle(conditions)]
 pub fn conditions(alloc: Global, s: Scope<'_, '_>, parts: &[Part]) -> Result<Vec<Condition>, Memory>
-    ensures { IfOk result (λ made. plain_conditions made.items ≡ read.conditions (scope s.entry) (children_in parts.now)) }
+    ensures { IfOk result (λ made. plain_conditions made.items
+        ≡ read.conditions (scope s.entry) (children_in parts.now)) }
 {
     let mut made = Vec::new(alloc);
     let mut rest = parts;

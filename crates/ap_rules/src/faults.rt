@@ -109,7 +109,9 @@ fn is_no_variable(all: &Defined, name: Option<&[char]>) -> bool
 
 /// A variable that a chunk names isn't there.
 fn has_no_variable(all: &Defined, node: &Node) -> bool
-    ensures { result ≡ (sentence.is_no_variable all.now (value_of (codes "namefrom") (tag_of node.now).attributes) || sentence.is_no_variable all.now (value_of (codes "case") (tag_of node.now).attributes)) }
+    ensures { result ≡ (sentence.is_no_variable all.now
+        (value_of (codes "namefrom") (tag_of node.now).attributes)
+        || sentence.is_no_variable all.now (value_of (codes "case") (tag_of node.now).attributes)) }
 {
     let given = node.attributes.as_slice();
     is_no_variable(all, value_of("namefrom", given)) || is_no_variable(all, value_of("case", given))
@@ -164,7 +166,8 @@ fn is_other_than(count: usize, npar: Option<usize>) -> bool
 }
 
 fn is_misnumbered(reach: Reach, above: &Defined, node: &Node) -> bool
-    ensures { result ≡ sentence.is_misnumbered reach above.now (tag_of node.now) (children_of node.now) }
+    ensures { result ≡ sentence.is_misnumbered reach above.now (tag_of node.now)
+        (children_of node.now) }
 {
     let given = node.attributes.as_slice();
     let pos = value_of("pos", given);
@@ -272,7 +275,8 @@ fn tag_kind(
     above: &Defined,
     node: &Node,
 ) -> Result<Option<RuleKind>, Memory>
-    ensures { IfOk result (λ kind. kind ≡ sentence.tag_kind (around a.entry) above.now (tag_of node.now) (children_of node.now)) }
+    ensures { IfOk result (λ kind. kind
+        ≡ sentence.tag_kind (around a.entry) above.now (tag_of node.now) (children_of node.now)) }
 {
     if is_duplicate(above, node) {
         return Ok(Some(RuleKind::DuplicateName));
@@ -305,7 +309,9 @@ fn tag_mark(
     above: &Defined,
     node: &Node,
 ) -> Result<Option<Mark<RuleKind>>, Memory>
-    ensures { IfOk result (λ mark. mark ≡ sentence.marked (tag_of node.now) (sentence.tag_kind (around a.entry) above.now (tag_of node.now) (children_of node.now))) }
+    ensures { IfOk result (λ mark. mark
+        ≡ sentence.marked (tag_of node.now)
+        (sentence.tag_kind (around a.entry) above.now (tag_of node.now) (children_of node.now))) }
 {
     match tag_kind(alloc, a, above, node)? {
         None => Ok(None),
@@ -341,7 +347,8 @@ pub fn rule_reach(form: Form, items: usize) -> Reach
 
 /// The positions within an element.
 fn reach_within(a: Around<'_, '_>, node: &Node) -> Reach
-    ensures { result ≡ sentence.reach_within (around a.entry) (tag_of node.now) (children_of node.now) }
+    ensures { result ≡ sentence.reach_within (around a.entry) (tag_of node.now)
+        (children_of node.now) }
 {
     if is_named("rule", node) {
         let items = count_named("pattern-item", within("pattern", &node.parts));
@@ -355,7 +362,8 @@ fn reach_within(a: Around<'_, '_>, node: &Node) -> Reach
 
 /// What stands around the elements within an element.
 fn around_within<'a, 'n>(a: Around<'a, 'n>, node: &'a Node) -> Around<'a, 'n>
-    ensures { around result ≡ sentence.around_within (around a.entry) (tag_of node.now) (children_of node.now) }
+    ensures { around result ≡ sentence.around_within (around a.entry) (tag_of node.now)
+        (children_of node.now) }
 {
     Around {
         form: a.form,
@@ -374,8 +382,10 @@ fn first_in<'a>(
     above: &mut Defined<'a>,
     parts: &'a [Part],
 ) -> Result<Option<Mark<RuleKind>>, Memory>
-    ensures first { IfOk result (λ first. first ≡ sentence.first_in (around a.entry) above.old (children_in parts.now)) }
-    ensures after { IfOk result (λ first. IfNone first (above.new ≡ defined_in above.old (children_in parts.now))) }
+    ensures first { IfOk result
+        (λ first. first ≡ sentence.first_in (around a.entry) above.old (children_in parts.now)) }
+    ensures after { IfOk result
+        (λ first. IfNone first (above.new ≡ defined_in above.old (children_in parts.now))) }
 {
     let mut rest = parts;
     'rest: while let Some((node, more)) = next_element(rest) {
@@ -419,7 +429,9 @@ fn first_below<'a>(
     above: &mut Defined<'a>,
     root: &'a Node,
 ) -> Result<Option<Mark<RuleKind>>, Memory>
-    ensures { IfOk result (λ first. first ≡ sentence.first_below (around outside.entry) above.old (tag_of root.now) (children_of root.now)) }
+    ensures { IfOk result (λ first. first
+        ≡ sentence.first_below (around outside.entry) above.old (tag_of root.now)
+        (children_of root.now)) }
 {
     if let Some(mark) = tag_mark(alloc, outside, above, root)? {
         return Ok(Some(mark));
@@ -452,7 +464,8 @@ fn all_names<'a>(alloc: Global, root: &'a Node) -> Result<Defined<'a>, Memory>
 
 /// The first fault of the tree of this root.
 pub fn first_mark(alloc: Global, form: Form, root: &Node) -> Result<Option<Mark<RuleKind>>, Memory>
-    ensures { IfOk result (λ first. first ≡ sentence.first_mark form (element (tag_of root.now) (children_of root.now) nothing)) }
+    ensures { IfOk result (λ first. first
+        ≡ sentence.first_mark form (element (tag_of root.now) (children_of root.now) nothing)) }
 {
     let all = all_names(alloc, root)?;
     let mut above = Defined::new(alloc);

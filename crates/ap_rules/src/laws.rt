@@ -10,30 +10,37 @@ ghost use Rattle.ap_rules.specs.declared.rules.Form.{Form};
 /// without fault of which these are the rules. It is a statement alone and does nothing, as are the
 /// others here.
 pub fn reads_what_the_grammar_spells()
-    ensures found { (form : Form) (text : List ℕ) (r : PlainRules) → Spells form text r → SpellsRules form text r }
-    ensures read { (form : Form) (text : List ℕ) (r : PlainRules) → SpellsRules form text r → Spells form text r }
+    ensures found { (form : Form) (text : List ℕ) (r : PlainRules) → Spells form text r →
+        SpellsRules form text r }
+    ensures read { (form : Form) (text : List ℕ) (r : PlainRules) → SpellsRules form text r →
+        Spells form text r }
 {}
 
 /// The law of refusals. A text is refused exactly for its first byte that begins no character, its
 /// first wrong piece, or the least fault of its tree, by place and then by number.
 pub fn refuses_by_the_first_fault()
-    ensures found { (form : Form) (text : List ℕ) (f : RuleFault) → IsFirstFault form text f → IsRefusedFor form text f }
-    ensures read { (form : Form) (text : List ℕ) (f : RuleFault) → IsRefusedFor form text f → IsFirstFault form text f }
+    ensures found { (form : Form) (text : List ℕ) (f : RuleFault) → IsFirstFault form text f →
+        IsRefusedFor form text f }
+    ensures read { (form : Form) (text : List ℕ) (f : RuleFault) → IsRefusedFor form text f →
+        IsFirstFault form text f }
 {}
 
 /// A text spells the rules of one file at most.
 pub fn spells_one()
-    ensures { (form : Form) (text : List ℕ) (q r : PlainRules) → Spells form text q → Spells form text r → q ≡ r }
+    ensures { (form : Form) (text : List ℕ) (q r : PlainRules) → Spells form text q →
+        Spells form text r → q ≡ r }
 {}
 
 /// A text has one first fault at most.
 pub fn has_one_fault()
-    ensures { (form : Form) (text : List ℕ) (e f : RuleFault) → IsFirstFault form text e → IsFirstFault form text f → e ≡ f }
+    ensures { (form : Form) (text : List ℕ) (e f : RuleFault) → IsFirstFault form text e →
+        IsFirstFault form text f → e ≡ f }
 {}
 
 /// A text that spells rules has no fault.
 pub fn spells_without_fault()
-    ensures { (form : Form) (text : List ℕ) (r : PlainRules) (f : RuleFault) → Spells form text r → IsFirstFault form text f → ⊥ }
+    ensures { (form : Form) (text : List ℕ) (r : PlainRules) (f : RuleFault) → Spells form text r →
+        IsFirstFault form text f → ⊥ }
 {}
 
 /// What a text spells is sound.

@@ -21,7 +21,8 @@ use std::alloc::Global;
 
 /// The units among the parts.
 fn units(alloc: Global, s: Scope<'_, '_>, parts: &[Part]) -> Result<Vec<Lu>, Memory>
-    ensures { IfOk result (λ made. map (λ u. plain_values u.values.items) made.items ≡ read.rows_named (codes "lu") (scope s.entry) (children_in parts.now)) }
+    ensures { IfOk result (λ made. map (λ u. plain_values u.values.items) made.items
+        ≡ read.rows_named (codes "lu") (scope s.entry) (children_in parts.now)) }
 {
     let mut made = Vec::new(alloc);
     let mut rest = parts;
@@ -37,7 +38,8 @@ fn units(alloc: Global, s: Scope<'_, '_>, parts: &[Part]) -> Result<Vec<Lu>, Mem
 
 /// The tags among the parts.
 fn tags(alloc: Global, s: Scope<'_, '_>, parts: &[Part]) -> Result<Vec<Tag>, Memory>
-    ensures { IfOk result (λ made. map (λ t. plain_values t.values.items) made.items ≡ read.rows_named (codes "tag") (scope s.entry) (children_in parts.now)) }
+    ensures { IfOk result (λ made. map (λ t. plain_values t.values.items) made.items
+        ≡ read.rows_named (codes "tag") (scope s.entry) (children_in parts.now)) }
 {
     let mut made = Vec::new(alloc);
     let mut rest = parts;
@@ -60,7 +62,8 @@ fn blank(node: &Node) -> B
 }
 
 fn chunk_piece(alloc: Global, s: Scope<'_, '_>, node: &Node) -> Result<Option<ChunkPiece>, Memory>
-    ensures { IfOk result (λ made. option_map plain_chunk_piece made ≡ read.chunk_piece (scope s.entry) (tag_of node.now) (children_of node.now)) }
+    ensures { IfOk result (λ made. option_map plain_chunk_piece made
+        ≡ read.chunk_piece (scope s.entry) (tag_of node.now) (children_of node.now)) }
 {
     if is_named("lu", node) {
         let values = values(alloc, s, false, &node.parts)?;
@@ -77,7 +80,8 @@ fn chunk_piece(alloc: Global, s: Scope<'_, '_>, node: &Node) -> Result<Option<Ch
 }
 
 fn chunk_pieces(alloc: Global, s: Scope<'_, '_>, parts: &[Part]) -> Result<Vec<ChunkPiece>, Memory>
-    ensures { IfOk result (λ made. map plain_chunk_piece made.items ≡ read.chunk_pieces (scope s.entry) (children_in parts.now)) }
+    ensures { IfOk result (λ made. map plain_chunk_piece made.items
+        ≡ read.chunk_pieces (scope s.entry) (children_in parts.now)) }
 {
     let mut made = Vec::new(alloc);
     let mut rest = parts;
@@ -127,7 +131,8 @@ fn is_named_once(name: &Option<Word>, namefrom: Option<usize>) -> bool
 
 /// A chunk of transfer.
 fn chunk_of(alloc: Global, s: Scope<'_, '_>, node: &Node) -> Result<Option<Chunk>, Memory>
-    ensures { IfOk result (λ made. option_map plain_chunk made ≡ read.chunk_of (scope s.entry) (pairs node.now.attributes) (children_of node.now)) }
+    ensures { IfOk result (λ made. option_map plain_chunk made
+        ≡ read.chunk_of (scope s.entry) (pairs node.now.attributes) (children_of node.now)) }
 {
     let given = node.attributes.as_slice();
     let Some(namefrom) = variable_given(&s.names.vars, value_of("namefrom", given)) else {
@@ -153,7 +158,8 @@ fn chunk_of(alloc: Global, s: Scope<'_, '_>, node: &Node) -> Result<Option<Chunk
 
 /// A chunk as the form of the file has it.
 fn any_chunk(alloc: Global, s: Scope<'_, '_>, node: &Node) -> Result<Option<Piece>, Memory>
-    ensures { IfOk result (λ made. option_map plain_piece made ≡ read.any_chunk (scope s.entry) (tag_of node.now) (children_of node.now)) }
+    ensures { IfOk result (λ made. option_map plain_piece made
+        ≡ read.any_chunk (scope s.entry) (tag_of node.now) (children_of node.now)) }
 {
     if is_transfer(s.form) {
         return Ok(chunk_of(alloc, s, node)?.map(Piece::Chunk));
@@ -165,7 +171,8 @@ fn any_chunk(alloc: Global, s: Scope<'_, '_>, node: &Node) -> Result<Option<Piec
 /// The piece that an element is: a blank; a chunk where outputs hold chunks, and units where they
 /// don't.
 fn piece(alloc: Global, s: Scope<'_, '_>, node: &Node) -> Result<Option<Piece>, Memory>
-    ensures { IfOk result (λ made. option_map plain_piece made ≡ read.piece (scope s.entry) (tag_of node.now) (children_of node.now)) }
+    ensures { IfOk result (λ made. option_map plain_piece made
+        ≡ read.piece (scope s.entry) (tag_of node.now) (children_of node.now)) }
 {
     if is_named("b", node) {
         return Ok(Some(Piece::B(blank(node))));
@@ -196,7 +203,8 @@ fn piece(alloc: Global, s: Scope<'_, '_>, node: &Node) -> Result<Option<Piece>, 
 
 /// The pieces among the parts of an output.
 pub fn pieces(alloc: Global, s: Scope<'_, '_>, parts: &[Part]) -> Result<Vec<Piece>, Memory>
-    ensures { IfOk result (λ made. map plain_piece made.items ≡ read.pieces (scope s.entry) (children_in parts.now)) }
+    ensures { IfOk result (λ made. map plain_piece made.items
+        ≡ read.pieces (scope s.entry) (children_in parts.now)) }
 {
     let mut made = Vec::new(alloc);
     let mut rest = parts;

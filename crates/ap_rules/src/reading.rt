@@ -70,8 +70,14 @@ fn what_is_done<'n>(
     parts: &'n [Part],
 ) -> Result<Deeds, Memory>
     requires { names.old ≡ none_defined }
-    ensures macros { IfOk result (λ made. map plain_macro made.macros.items ≡ macros form chunks (section_names (children_in parts.now)) (within (codes "section-def-macros") (children_in parts.now))) }
-    ensures rules { IfOk result (λ made. map plain_rule made.rules.items ≡ rules (rules_scope form chunks (past_macros (section_names (children_in parts.now)) (within (codes "section-def-macros") (children_in parts.now)))) (within (codes "section-rules") (children_in parts.now))) }
+    ensures macros { IfOk result (λ made. map plain_macro made.macros.items
+        ≡ macros form chunks (section_names (children_in parts.now))
+        (within (codes "section-def-macros") (children_in parts.now))) }
+    ensures rules { IfOk result (λ made. map plain_rule made.rules.items
+        ≡ rules (rules_scope form chunks
+        (past_macros (section_names (children_in parts.now))
+        (within (codes "section-def-macros") (children_in parts.now))))
+        (within (codes "section-rules") (children_in parts.now))) }
 {
     add_sections(names, parts)?;
     let macros = macros(
@@ -93,7 +99,8 @@ fn what_is_done<'n>(
 
 /// The rules of the file whose root this is.
 fn rules_of(alloc: Global, form: Form, root: &Node) -> Result<Rules, Memory>
-    ensures { IfOk result (λ made. plain_rules made ≡ rules_of form (tag_of root.now) (children_of root.now)) }
+    ensures { IfOk result (λ made. plain_rules made
+        ≡ rules_of form (tag_of root.now) (children_of root.now)) }
 {
     let parts = root.parts.as_slice();
     let default = value_of("default", root.attributes.as_slice());
@@ -161,8 +168,10 @@ fn refusal(mark: Mark<RuleKind>) -> RuleRefusal
 /// The rules of a tree, or its first fault.
 #[tactic(auto, using(crate::proofs::TreeLaws::tree_is))]
 fn judged(alloc: Global, form: Form, tree: Elements) -> Result<Rules, RuleRefusal>
-    ensures value { IfOk result (λ r. judged form (Ok (node_then tree.root Done, tree.first)) ≡ Ok (plain_rules r)) }
-    ensures fault { IfErr result (λ e. IfFault e (λ f. judged form (Ok (node_then tree.root Done, tree.first)) ≡ Err f)) }
+    ensures value { IfOk result (λ r. judged form (Ok (node_then tree.root Done, tree.first))
+        ≡ Ok (plain_rules r)) }
+    ensures fault { IfErr result
+        (λ e. IfFault e (λ f. judged form (Ok (node_then tree.root Done, tree.first)) ≡ Err f)) }
 {
     let own = first_mark(alloc, form, &tree.root)?;
     let first = match tree.first {

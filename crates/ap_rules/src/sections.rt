@@ -26,7 +26,8 @@ use std::alloc::Global;
 
 /// Adds the names of the elements of this kind among the parts.
 pub fn add_names<'n>(names: &mut Names<'n>, kind: &str, parts: &'n [Part]) -> Result<(), Memory>
-    ensures { OnOk result (names.new ≡ read.names_behind kind.now names.old (children_in parts.now)) }
+    ensures { OnOk result (names.new
+        ≡ read.names_behind kind.now names.old (children_in parts.now)) }
 {
     let mut rest = parts;
     'rest: while let Some((node, more)) = next_element(rest) {
@@ -55,7 +56,9 @@ fn item_of(alloc: Global, form: Form, given: &[Attribute]) -> Result<Option<CatI
 
 /// The item whose tags are given.
 fn tagged(alloc: Global, given: &[Attribute]) -> Result<Option<CatItem>, Memory>
-    ensures { IfOk result (λ made. made ≡ read.tagged (pairs given.now) (tags_of true (given_text (value_of (codes "tags") (pairs given.now))))) }
+    ensures { IfOk result (λ made. made
+        ≡ read.tagged (pairs given.now)
+        (tags_of true (given_text (value_of (codes "tags") (pairs given.now))))) }
 {
     let Some(tags) = tags_of(alloc, true, given_text(value_of("tags", given)))? else {
         return Ok(None);
@@ -194,7 +197,8 @@ fn one_macro(
     names: &Defined,
     node: &Node,
 ) -> Result<DefMacro, Memory>
-    ensures { IfOk result (λ made. plain_macro made ≡ read.macro form chunks names.now (tag_of node.now) (children_of node.now)) }
+    ensures { IfOk result (λ made. plain_macro made
+        ≡ read.macro form chunks names.now (tag_of node.now) (children_of node.now)) }
 {
     let npar = npar_of(node);
     let s = Scope {
@@ -224,7 +228,8 @@ pub fn macros<'n>(
     names: &mut Defined<'n>,
     parts: &'n [Part],
 ) -> Result<Vec<DefMacro>, Memory>
-    ensures made { IfOk result (λ made. map plain_macro made.items ≡ read.macros form chunks names.old (children_in parts.now)) }
+    ensures made { IfOk result (λ made. map plain_macro made.items
+        ≡ read.macros form chunks names.old (children_in parts.now)) }
     ensures named { OnOk result (names.new ≡ read.past_macros names.old (children_in parts.now)) }
 {
     let mut made = Vec::new(alloc);
@@ -261,7 +266,8 @@ fn pattern_items(
 }
 
 fn rule(alloc: Global, s: Scope<'_, '_>, node: &Node) -> Result<Option<Rule>, Memory>
-    ensures { IfOk result (λ made. option_map plain_rule made ≡ read.rule (scope s.entry) (tag_of node.now) (children_of node.now)) }
+    ensures { IfOk result (λ made. option_map plain_rule made
+        ≡ read.rule (scope s.entry) (tag_of node.now) (children_of node.now)) }
 {
     let pattern = pattern_items(alloc, &s.names.cats, within("pattern", &node.parts))?;
     if !is_length(s.form, pattern.len()) {
@@ -283,7 +289,8 @@ fn rule(alloc: Global, s: Scope<'_, '_>, node: &Node) -> Result<Option<Rule>, Me
 
 /// The rules among the parts.
 pub fn rules(alloc: Global, s: Scope<'_, '_>, parts: &[Part]) -> Result<Vec<Rule>, Memory>
-    ensures { IfOk result (λ made. map plain_rule made.items ≡ read.rules (scope s.entry) (children_in parts.now)) }
+    ensures { IfOk result (λ made. map plain_rule made.items
+        ≡ read.rules (scope s.entry) (children_in parts.now)) }
 {
     let mut made = Vec::new(alloc);
     let mut rest = parts;

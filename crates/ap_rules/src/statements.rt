@@ -52,14 +52,16 @@ fn placed(mut inner: Vec<Value>) -> Option<(Place, Value)>
 }
 
 fn setting(alloc: Global, s: Scope<'_, '_>, node: &Node) -> Result<Option<(Place, Value)>, Memory>
-    ensures { IfOk result (λ made. option_map plain_setting made ≡ read.setting (values (scope s.entry) false (children_of node.now))) }
+    ensures { IfOk result (λ made. option_map plain_setting made
+        ≡ read.setting (values (scope s.entry) false (children_of node.now))) }
 {
     Ok(placed(values(alloc, s, false, &node.parts)?))
 }
 
 /// The positions of the units that a macro is given.
 fn params(alloc: Global, s: Scope<'_, '_>, parts: &[Part]) -> Result<Vec<usize>, Memory>
-    ensures { IfOk result (λ made. made.items ≡ read.params (scope s.entry) (children_in parts.now)) }
+    ensures { IfOk result (λ made. made.items
+        ≡ read.params (scope s.entry) (children_in parts.now)) }
 {
     let mut made = Vec::new(alloc);
     let mut rest = parts;
@@ -97,7 +99,9 @@ fn call_of(s: Scope<'_, '_>, number: Option<usize>, params: Vec<usize>) -> Optio
 }
 
 fn append(alloc: Global, s: Scope<'_, '_>, node: &Node) -> Result<Option<Statement>, Memory>
-    ensures { IfOk result (λ made. option_map plain_statement made ≡ read.appended (number_of (scope s.entry).names.vars (name_of (pairs node.now.attributes))) (values (scope s.entry) false (children_of node.now))) }
+    ensures { IfOk result (λ made. option_map plain_statement made
+        ≡ read.appended (number_of (scope s.entry).names.vars (name_of (pairs node.now.attributes)))
+        (values (scope s.entry) false (children_of node.now))) }
 {
     let Some(n) = s.names.vars.number_of(name_of(node)) else {
         return Ok(None);
@@ -115,7 +119,8 @@ fn simple_statement(
     s: Scope<'_, '_>,
     node: &Node,
 ) -> Result<Option<Statement>, Memory>
-    ensures { IfOk result (λ made. option_map plain_statement made ≡ read.simple_statement (scope s.entry) (tag_of node.now) (children_of node.now)) }
+    ensures { IfOk result (λ made. option_map plain_statement made
+        ≡ read.simple_statement (scope s.entry) (tag_of node.now) (children_of node.now)) }
 {
     if is_named("let", node) {
         return Ok(match setting(alloc, s, node)? {
@@ -144,14 +149,17 @@ fn simple_statement(
 }
 
 fn choose(whens: Vec<When>, otherwise: Vec<Statement>) -> Statement
-    ensures { plain_statement result ≡ choose (whens_of (map plain_when whens.items)) (statements_of (plain_statements otherwise.items)) }
+    ensures { plain_statement result
+        ≡ choose (whens_of (map plain_when whens.items))
+        (statements_of (plain_statements otherwise.items)) }
 {
     Statement::Choose(Choose { whens, otherwise })
 }
 
 /// One or more choices, and what is done otherwise.
 fn choice(whens: Vec<When>, otherwise: Vec<Statement>) -> Option<Statement>
-    ensures { option_map plain_statement result ≡ read.choice (map plain_when whens.items) (plain_statements otherwise.items) }
+    ensures { option_map plain_statement result
+        ≡ read.choice (map plain_when whens.items) (plain_statements otherwise.items) }
 {
     if whens.is_empty() {
         return None;
@@ -161,7 +169,8 @@ fn choice(whens: Vec<When>, otherwise: Vec<Statement>) -> Option<Statement>
 
 /// One condition, with the statements that are run where it holds.
 fn tested(mut tests: Vec<Condition>, statements: Vec<Statement>) -> Option<When>
-    ensures { option_map plain_when result ≡ read.tested (plain_conditions tests.items) (plain_statements statements.items) }
+    ensures { option_map plain_when result
+        ≡ read.tested (plain_conditions tests.items) (plain_statements statements.items) }
 {
     if tests.len() != 1 {
         return None;
@@ -174,7 +183,10 @@ fn tested(mut tests: Vec<Condition>, statements: Vec<Statement>) -> Option<When>
 #[tactic(auto, using(crate::proofs::WithinLaws::within_laws))]
 #[cycle(statements)]
 fn statement(alloc: Global, s: Scope<'_, '_>, node: &Node) -> Result<Option<Statement>, Memory>
-    ensures { IfOk result (λ made. option_map plain_statement made ≡ read.statement (scope s.entry) (tag_of node.now) (children_of node.now) (read.whens (scope s.entry) (children_of node.now)) (read.otherwise (scope s.entry) (children_of node.now))) }
+    ensures { IfOk result (λ made. option_map plain_statement made
+        ≡ read.statement (scope s.entry) (tag_of node.now) (children_of node.now)
+        (read.whens (scope s.entry) (children_of node.now))
+        (read.otherwise (scope s.entry) (children_of node.now))) }
 {
     if is_named("choose", node) {
         let whens = whens(alloc, s, &node.parts)?;
@@ -187,7 +199,9 @@ fn statement(alloc: Global, s: Scope<'_, '_>, node: &Node) -> Result<Option<Stat
 /// The choice that an element is.
 #[cycle(statements)]
 fn when(alloc: Global, s: Scope<'_, '_>, node: &Node) -> Result<Option<When>, Memory>
-    ensures { IfOk result (λ made. option_map plain_when made ≡ read.when_of (scope s.entry) (tag_of node.now) (children_of node.now) (read.statements (scope s.entry) (children_of node.now))) }
+    ensures { IfOk result (λ made. option_map plain_when made
+        ≡ read.when_of (scope s.entry) (tag_of node.now) (children_of node.now)
+        (read.statements (scope s.entry) (children_of node.now))) }
 {
     if !is_named("when", node) {
         return Ok(None);
@@ -200,7 +214,8 @@ fn when(alloc: Global, s: Scope<'_, '_>, node: &Node) -> Result<Option<When>, Me
 /// The choices among the parts.
 #[cycle(statements)]
 fn whens(alloc: Global, s: Scope<'_, '_>, parts: &[Part]) -> Result<Vec<When>, Memory>
-    ensures { IfOk result (λ made. map plain_when made.items ≡ read.whens (scope s.entry) (children_in parts.now)) }
+    ensures { IfOk result (λ made. map plain_when made.items
+        ≡ read.whens (scope s.entry) (children_in parts.now)) }
 {
     let mut made = Vec::new(alloc);
     let mut rest = parts;
@@ -216,7 +231,8 @@ fn whens(alloc: Global, s: Scope<'_, '_>, parts: &[Part]) -> Result<Vec<When>, M
 /// The statements among the parts.
 #[cycle(statements)]
 pub fn statements(alloc: Global, s: Scope<'_, '_>, parts: &[Part]) -> Result<Vec<Statement>, Memory>
-    ensures { IfOk result (λ made. plain_statements made.items ≡ read.statements (scope s.entry) (children_in parts.now)) }
+    ensures { IfOk result (λ made. plain_statements made.items
+        ≡ read.statements (scope s.entry) (children_in parts.now)) }
 {
     let mut made = Vec::new(alloc);
     let mut rest = parts;

@@ -168,7 +168,8 @@ fn recased(
     pos: Option<usize>,
     mut inner: Vec<Value>,
 ) -> Result<Option<Value>, Memory>
-    ensures { IfOk result (λ made. option_map plain_value made ≡ read.recased pos (plain_values inner.items)) }
+    ensures { IfOk result (λ made. option_map plain_value made
+        ≡ read.recased pos (plain_values inner.items)) }
 {
     let Some(pos) = pos else {
         return Ok(None);
@@ -200,7 +201,8 @@ fn simple_value(
     content: bool,
     node: &Node,
 ) -> Result<Option<Value>, Memory>
-    ensures { IfOk result (λ made. option_map plain_value made ≡ read.simple_value (scope s.entry) content (tag_of node.now)) }
+    ensures { IfOk result (λ made. option_map plain_value made
+        ≡ read.simple_value (scope s.entry) content (tag_of node.now)) }
 {
     let given = node.attributes.as_slice();
     if is_named("clip", node) {
@@ -248,7 +250,9 @@ fn value(
     content: bool,
     node: &Node,
 ) -> Result<Option<Value>, Memory>
-    ensures { IfOk result (λ made. option_map plain_value made ≡ read.value (scope s.entry) content (tag_of node.now) (read.values (scope s.entry) false (children_of node.now))) }
+    ensures { IfOk result (λ made. option_map plain_value made
+        ≡ read.value (scope s.entry) content (tag_of node.now)
+        (read.values (scope s.entry) false (children_of node.now))) }
 {
     if is_named("get-case-from", node) {
         let inner = values(alloc, s, false, &node.parts)?;
@@ -270,7 +274,8 @@ pub fn values(
     content: bool,
     parts: &[Part],
 ) -> Result<Vec<Value>, Memory>
-    ensures { IfOk result (λ made. plain_values made.items ≡ read.values (scope s.entry) content (children_in parts.now)) }
+    ensures { IfOk result (λ made. plain_values made.items
+        ≡ read.values (scope s.entry) content (children_in parts.now)) }
 {
     let mut made = Vec::new(alloc);
     let mut rest = parts;

@@ -20,19 +20,28 @@ use Rattle.ap_stream.specs.Given.{Standing}
 use Rattle.ap_stream.specs.Crossing.{GoesOn, AllGoOn, stops_word, is_lone, is_named, word_crossed, tag_crossed, crossed_by, crossing, and_on, AllCross}
 
 pub goes_on : (b : ℕ) → b < 128 → ((b == 93 || b == 92) ≡ true → ⊥) → GoesOn b
-goes_on b small bare = record { ascii = small; stays = grind (arith, nat_tests, bare); bare = grind (arith, nat_tests, bare) }
+goes_on b small bare = record {
+  ascii = small;
+  stays = grind (arith, nat_tests, bare);
+  bare =
+      grind (arith, nat_tests, bare);
+}
 
 ascii_char : (b : ℕ) (x : List ℕ) → b < 128 → char_at (b ∷ x) ≡ Char b 1
 unfolding char_at
 ascii_char b x h = let t : ltb b 128 ≡ true = grind (arith, nat_tests) in rw t refl
 
-crossed : (done run : List ℕ) → Within false done [] → AllGoOn (length run) run → Within false (done ++ run) []
-crossed done [] h all = let P : List ℕ → Type 0 = λ q. Within false q [] in subst P (sym (append-nil done)) h
+crossed : (done run : List ℕ) → Within false done [] → AllGoOn (length run) run →
+    Within false (done ++ run) []
+crossed done [] h all = let P : List ℕ → Type 0 = λ q. Within false q [] in
+    subst P (sym (append-nil done)) h
 crossed done (b ∷ run) h all =
     let first : GoesOn b = all 0 (omega arith) in
-    let next : Within false (done ++ b ∷ []) [] = within_on done (b ∷ []) [] b h (ascii_char b [] first.ascii) first.stays first.bare in
+    let next : Within false (done ++ b ∷ []) [] =
+    within_on done (b ∷ []) [] b h (ascii_char b [] first.ascii) first.stays first.bare in
     let P : List ℕ → Type 0 = λ q. Within false q [] in
-    subst P (append_assoc done (b ∷ []) run) (crossed (done ++ b ∷ []) run next (λ k l. all (suc k) (omega arith)))
+    subst P (append_assoc done (b ∷ []) run)
+    (crossed (done ++ b ∷ []) run next (λ k l. all (suc k) (omega arith)))
 
 -- a byte that is a symbol of any word
 record Lone (b : ℕ) : Type 0 where
@@ -73,11 +82,17 @@ lone b h =
       barred = λ surface. rw (g.0, f.0, i.0, j.0, k.0, l.0, e.0, l.1) (and_none surface);
     }
 
-lone_sign : (surface : Bool) (b : ℕ) (x : List ℕ) → Lone b → sign surface (b ∷ x) ≡ Reads (bare_of surface b) 1
-lone_sign surface b x l = sign_bare surface (b ∷ []) x (Char b 1) (omega arith) l.escape (λ _. l.angle) (ascii_char b x l.ascii) ∙ rw (l.slash, l.dollar, l.barred surface) refl
+lone_sign : (surface : Bool) (b : ℕ) (x : List ℕ) → Lone b →
+    sign surface (b ∷ x) ≡ Reads (bare_of surface b) 1
+lone_sign surface b x l =
+    sign_bare surface (b ∷ []) x (Char b 1) (omega arith) l.escape (λ _. l.angle)
+    (ascii_char b x l.ascii) ∙ rw (l.slash, l.dollar, l.barred surface) refl
 
-lone_symbol : (dialect : Dialect) (at : Spot) (done : List ℕ) (b : ℕ) → InUnit dialect at done → Lone b → InUnit dialect (grown_spot at) (done ++ b ∷ [])
-lone_symbol dialect at done b h l = unit_symbol dialect at done h (b ∷ []) (bare_of (in_surface (form_of dialect) h.words) b) (omega arith) (λ x. lone_sign (in_surface (form_of dialect) h.words) b x l)
+lone_symbol : (dialect : Dialect) (at : Spot) (done : List ℕ) (b : ℕ) → InUnit dialect at done →
+    Lone b → InUnit dialect (grown_spot at) (done ++ b ∷ [])
+lone_symbol dialect at done b h l =
+    unit_symbol dialect at done h (b ∷ []) (bare_of (in_surface (form_of dialect) h.words) b)
+    (omega arith) (λ x. lone_sign (in_surface (form_of dialect) h.words) b x l)
 
 -- a byte of a tag's name
 record Named (b : ℕ) : Type 0 where
@@ -100,34 +115,49 @@ InUnitAt dialect mode.Inside done = ⊥
 InUnitAt dialect mode.InsideEscape done = ⊥
 InUnitAt dialect (mode.WordEscape at) done = ⊥
 
-one_more : {A : Type 0} (t : Bool) (x y : Option A) (z : A) (R : A → Type 0) → cond t x y ≡ Some z → (t ≡ true → x ≡ Some z → R z) → (t ≡ false → y ≡ Some z → R z) → R z
+one_more : {A : Type 0} (t : Bool) (x y : Option A) (z : A) (R : A → Type 0) → cond t x y ≡ Some z →
+    (t ≡ true → x ≡ Some z → R z) → (t ≡ false → y ≡ Some z → R z) → R z
 one_more true x y z R e f g = f refl e
 one_more false x y z R e f g = g refl e
 
 given : {A : Type 0} (x z : A) (R : A → Type 0) → Some x ≡ Some z → R x → R z
 given x z R e r = let same : x ≡ z = cc in subst R same r
 
-word_on : (dialect : Dialect) (at : Spot) (done : List ℕ) (b : ℕ) (to : Mode) → InUnit dialect at done → word_crossed dialect at b ≡ Some to → InUnitAt dialect to (done ++ b ∷ [])
+word_on : (dialect : Dialect) (at : Spot) (done : List ℕ) (b : ℕ) (to : Mode) →
+    InUnit dialect at done → word_crossed dialect at b ≡ Some to →
+    InUnitAt dialect to (done ++ b ∷ [])
 word_on dialect at done b to h e =
-    one_more (is_lone b) (Some (mode.Word (grown_spot at))) _ to (λ m. InUnitAt dialect m (done ++ b ∷ [])) e
-    (λ t k. given (mode.Word (grown_spot at)) to (λ m. InUnitAt dialect m (done ++ b ∷ [])) k (lone_symbol dialect at done b h (lone b t)))
-    (λ f k. one_more (eqb b 60 && not (surface_at dialect at)) (Some (mode.Tag at false)) None to (λ m. InUnitAt dialect m (done ++ b ∷ [])) k
-    (λ t l. given (mode.Tag at false) to (λ m. InUnitAt dialect m (done ++ b ∷ [])) l (words.word_tag dialect at done (b ∷ []) h [] b refl nothing_part t))
+    one_more (is_lone b) (Some (mode.Word (grown_spot at))) _ to
+    (λ m. InUnitAt dialect m (done ++ b ∷ [])) e
+    (λ t k. given (mode.Word (grown_spot at)) to (λ m. InUnitAt dialect m (done ++ b ∷ [])) k
+    (lone_symbol dialect at done b h (lone b t)))
+    (λ f k. one_more (eqb b 60 && not (surface_at dialect at)) (Some (mode.Tag at false)) None to
+    (λ m. InUnitAt dialect m (done ++ b ∷ [])) k
+    (λ t l. given (mode.Tag at false) to (λ m. InUnitAt dialect m (done ++ b ∷ [])) l
+    (words.word_tag dialect at done (b ∷ []) h [] b refl nothing_part t))
     (λ g l. absurd (cc)))
 
-tag_on : (dialect : Dialect) (at : Spot) (some : Bool) (done : List ℕ) (b : ℕ) (to : Mode) → InTag dialect at some done → tag_crossed at some b ≡ Some to → InUnitAt dialect to (done ++ b ∷ [])
+tag_on : (dialect : Dialect) (at : Spot) (some : Bool) (done : List ℕ) (b : ℕ) (to : Mode) →
+    InTag dialect at some done → tag_crossed at some b ≡ Some to →
+    InUnitAt dialect to (done ++ b ∷ [])
 tag_on dialect at some done b to h e =
-    one_more (is_named b) (Some (mode.Tag at true)) _ to (λ m. InUnitAt dialect m (done ++ b ∷ [])) e
+    one_more (is_named b) (Some (mode.Tag at true)) _ to
+    (λ m. InUnitAt dialect m (done ++ b ∷ [])) e
     (λ t k. given (mode.Tag at true) to (λ m. InUnitAt dialect m (done ++ b ∷ [])) k
-    (let n : Named b = named b t in words.goes_on dialect at some done (b ∷ []) h b (ascii_char b [] n.ascii) (omega arith) n.unreserved))
-    (λ f k. one_more (eqb b 62 && some) (Some (mode.Word (grown_spot at))) None to (λ m. InUnitAt dialect m (done ++ b ∷ [])) k
+    (let n : Named b = named b t in
+    words.goes_on dialect at some done (b ∷ []) h b (ascii_char b [] n.ascii) (omega arith)
+    n.unreserved))
+    (λ f k. one_more (eqb b 62 && some) (Some (mode.Word (grown_spot at))) None to
+    (λ m. InUnitAt dialect m (done ++ b ∷ [])) k
     (λ t l. given (mode.Word (grown_spot at)) to (λ m. InUnitAt dialect m (done ++ b ∷ [])) l
     (let both = and_parts (eqb b 62) some t in
     let is : b ≡ 62 = eqb-true b 62 both.0 in
-    words.ends_on dialect at some done (b ∷ []) h b (ascii_char b [] (omega (arith, is))) (omega arith) is both.1))
+    words.ends_on dialect at some done (b ∷ []) h b (ascii_char b [] (omega (arith, is)))
+    (omega arith) is both.1))
     (λ g l. absurd (cc)))
 
-crossed_on : (dialect : Dialect) (at to : Mode) (done : List ℕ) (b : ℕ) → InUnitAt dialect at done → crossed_by dialect at b ≡ Some to → InUnitAt dialect to (done ++ b ∷ [])
+crossed_on : (dialect : Dialect) (at to : Mode) (done : List ℕ) (b : ℕ) → InUnitAt dialect at done →
+    crossed_by dialect at b ≡ Some to → InUnitAt dialect to (done ++ b ∷ [])
 crossed_on dialect (mode.Word at) to done b h e = word_on dialect at done b to h e
 crossed_on dialect (mode.Tag at some) to done b h e = tag_on dialect at some done b to h e
 crossed_on dialect mode.Start to done b h e = absurd h
@@ -137,23 +167,40 @@ crossed_on dialect mode.Inside to done b h e = absurd h
 crossed_on dialect mode.InsideEscape to done b h e = absurd h
 crossed_on dialect (mode.WordEscape at) to done b h e = absurd h
 
-crossed_all : (dialect : Dialect) (at to : Mode) (done run : List ℕ) → InUnitAt dialect at done → crossing dialect at run ≡ Some to → InUnitAt dialect to (done ++ run)
+crossed_all : (dialect : Dialect) (at to : Mode) (done run : List ℕ) → InUnitAt dialect at done →
+    crossing dialect at run ≡ Some to → InUnitAt dialect to (done ++ run)
 unfolding crossing
-crossed_all dialect at to done [] h e = subst (InUnitAt dialect to) (sym (append-nil done)) (given at to (λ m. InUnitAt dialect m done) e h)
-crossed_all dialect at to done (b ∷ run) h e = by (crossed_by dialect at b) refl e (λ next k l. crossed_all dialect next to (done ++ b ∷ []) run k l)
+crossed_all dialect at to done [] h e =
+    subst (InUnitAt dialect to) (sym (append-nil done))
+    (given at to (λ m. InUnitAt dialect m done) e h)
+crossed_all dialect at to done (b ∷ run) h e =
+    by (crossed_by dialect at b) refl e
+    (λ next k l. crossed_all dialect next to (done ++ b ∷ []) run k l)
   where
-    by : (o : Option Mode) → crossed_by dialect at b ≡ o → and_on o (λ next. crossing dialect next run) ≡ Some to
-        → ((next : Mode) → InUnitAt dialect next (done ++ b ∷ []) → crossing dialect next run ≡ Some to → InUnitAt dialect to ((done ++ b ∷ []) ++ run)) → InUnitAt dialect to (done ++ b ∷ run)
+    by : (o : Option Mode) → crossed_by dialect at b ≡ o →
+        and_on o (λ next. crossing dialect next run) ≡ Some to
+        → ((next : Mode) → InUnitAt dialect next (done ++ b ∷ []) → crossing dialect next run
+        ≡ Some to → InUnitAt dialect to ((done ++ b ∷ []) ++ run)) →
+        InUnitAt dialect to (done ++ b ∷ run)
     by None k l more = absurd (cc)
-    by (Some next) k l more = subst (InUnitAt dialect to) (append_assoc done (b ∷ []) run) (more next (crossed_on dialect at next done b h k) l)
+    by (Some next) k l more =
+        subst (InUnitAt dialect to) (append_assoc done (b ∷ []) run)
+        (more next (crossed_on dialect at next done b h k) l)
 
 -- one byte more is crossed
-pub crossing_more : (dialect : Dialect) (at to next : Mode) (run : List ℕ) (b : ℕ) → crossing dialect at run ≡ Some to → crossed_by dialect to b ≡ Some next → crossing dialect at (run ++ b ∷ []) ≡ Some next
+pub crossing_more : (dialect : Dialect) (at to next : Mode) (run : List ℕ) (b : ℕ) →
+    crossing dialect at run ≡ Some to → crossed_by dialect to b ≡ Some next →
+    crossing dialect at (run ++ b ∷ []) ≡ Some next
 unfolding crossing
-crossing_more dialect at to next [] b e k = let same : at ≡ to = cc in ap (λ m. and_on (crossed_by dialect m b) (λ z. Some z)) same ∙ ap (λ o. and_on o (λ z. Some z)) k
-crossing_more dialect at to next (a ∷ run) b e k = by (crossed_by dialect at a) e (λ mid l. crossing_more dialect mid to next run b l k)
+crossing_more dialect at to next [] b e k = let same : at ≡ to = cc in
+    ap (λ m. and_on (crossed_by dialect m b) (λ z. Some z)) same
+    ∙ ap (λ o. and_on o (λ z. Some z)) k
+crossing_more dialect at to next (a ∷ run) b e k =
+    by (crossed_by dialect at a) e (λ mid l. crossing_more dialect mid to next run b l k)
   where
-    by : (o : Option Mode) → and_on o (λ z. crossing dialect z run) ≡ Some to → ((mid : Mode) → crossing dialect mid run ≡ Some to → crossing dialect mid (run ++ b ∷ []) ≡ Some next)
+    by : (o : Option Mode) → and_on o (λ z. crossing dialect z run) ≡ Some to →
+        ((mid : Mode) → crossing dialect mid run ≡ Some to →
+        crossing dialect mid (run ++ b ∷ []) ≡ Some next)
         → and_on o (λ z. crossing dialect z (run ++ b ∷ [])) ≡ Some next
     by None l more = absurd (cc)
     by (Some mid) l more = more mid l
@@ -162,7 +209,10 @@ pub crossing_none : (dialect : Dialect) (at : Mode) → crossing dialect at [] �
 unfolding crossing
 crossing_none dialect at = refl
 
-module _ (done size n m : ℕ) (held piece after : List ℕ) (d : length held ≤ done) (fits : n ≤ length (take m piece)) (short : m ≤ unit_max - length held) (few : length held ≤ unit_max) (a : after ≡ held ++ take n piece) (s : size ≡ length after) where
+module _ (done size n m : ℕ) (held piece after : List ℕ) (d : length held ≤ done)
+    (fits : n ≤ length (take m piece)) (short : m ≤ unit_max - length held)
+    (few : length held ≤ unit_max) (a : after ≡ held ++ take n piece)
+    (s : size ≡ length after) where
   cut : length (take m piece) ≡ min m (length piece)
   cut = length-take m piece
 
@@ -187,13 +237,17 @@ module _ (done size n m : ℕ) (held piece after : List ℕ) (d : length held �
   none : drop size after ≡ []
   none = drop_all size after (omega (arith, s))
 
-  each : (P : ℕ → Type 0) → ((k : ℕ) → k < n → P (get_or (take m piece) k 0)) → (k : ℕ) → k < length (take n piece) → P (get_or (take n piece) k 0)
+  each : (P : ℕ → Type 0) → ((k : ℕ) → k < n → P (get_or (take m piece) k 0)) → (k : ℕ) →
+      k < length (take n piece) → P (get_or (take n piece) k 0)
   each P all k l =
-      let same : get_or (take m piece) k 0 ≡ get_or (take n piece) k 0 = get_or-take m piece k 0 (omega (arith, l, len, cut, fits)) ∙ sym (get_or-take n piece k 0 (omega (arith, l, len))) in
+      let same : get_or (take m piece) k 0 ≡ get_or (take n piece) k 0 =
+      get_or-take m piece k 0 (omega (arith, l, len, cut, fits))
+      ∙ sym (get_or-take n piece k 0 (omega (arith, l, len))) in
       subst P same (all k (omega (arith, l, len)))
 
 -- within a unit a reader stands where it stands in the unit, with no start of a character behind it
-stands_at : (dialect : Dialect) (at : Mode) (held : List ℕ) → InUnitAt dialect at held → Stands dialect at held []
+stands_at : (dialect : Dialect) (at : Mode) (held : List ℕ) → InUnitAt dialect at held →
+    Stands dialect at held []
 stands_at dialect (mode.Word at) held h = (h, nothing_part)
 stands_at dialect (mode.Tag at some) held h = (h, nothing_part)
 stands_at dialect mode.Start held h = absurd h
@@ -203,43 +257,80 @@ stands_at dialect mode.Inside held h = absurd h
 stands_at dialect mode.InsideEscape held h = absurd h
 stands_at dialect (mode.WordEscape at) held h = absurd h
 
-module _ (dialect : Dialect) (done size n m : ℕ) (held piece after : List ℕ) (at to : Mode) (d : length held ≤ done) (fits : n ≤ length (take m piece)) (short : m ≤ unit_max - length held) (few : length held ≤ unit_max) (a : after ≡ held ++ take n piece) (s : size ≡ length after) where
+module _ (dialect : Dialect) (done size n m : ℕ) (held piece after : List ℕ) (at to : Mode)
+    (d : length held ≤ done) (fits : n ≤ length (take m piece)) (short : m ≤ unit_max - length held)
+    (few : length held ≤ unit_max) (a : after ≡ held ++ take n piece)
+    (s : size ≡ length after) where
   shorter : take n (take m piece) ≡ take n piece
-  shorter = take-take n m piece (omega (arith, cut done size n m held piece after d fits short few a s, fits))
+  shorter = take-take n m piece
+      (omega (arith, cut done size n m held piece after d fits short few a s, fits))
 
-  unit_crossed : InUnitAt dialect at held → crossing dialect at (take n (take m piece)) ≡ Some to → Standing dialect true to size after
+  unit_crossed : InUnitAt dialect at held → crossing dialect at (take n (take m piece)) ≡ Some to →
+      Standing dialect true to size after
   unit_crossed h all =
-      let on : InUnitAt dialect to after = subst (InUnitAt dialect to) (sym a) (crossed_all dialect at to held (take n piece) h (ap (crossing dialect at) (sym shorter) ∙ all)) in
+      let on : InUnitAt dialect to after =
+      subst (InUnitAt dialect to) (sym a)
+      (crossed_all dialect at to held (take n piece) h
+      (ap (crossing dialect at) (sym shorter) ∙ all)) in
       record {
         fits = omega (arith, s);
         short = λ _. after_short done size n m held piece after d fits short few a s;
-        stands = rw (whole done size n m held piece after d fits short few a s, none done size n m held piece after d fits short few a s) (stands_at dialect to after on);
+        stands = rw (
+          whole done size n m held piece after d fits short few a s,
+          none done size n m held piece after d fits short few a s,
+        )
+            (stands_at dialect to after on);
       }
 
 -- a reader crosses such bytes
-pub stands_crossed : (dialect : Dialect) (done size n m : ℕ) (held piece after : List ℕ) (looked : Bool) (at to : Mode) → looked ≡ true → 0 < n → Standing dialect looked at done held → length held ≤ done →
-    n ≤ length (take m piece) → AllCross dialect at to n (take m piece) → m ≤ unit_max - length held → after ≡ held ++ take n piece → size ≡ length after → Standing dialect looked to size after
-stands_crossed dialect done size n m held piece after false at to e some h d fits all short a s = absurd (cc)
-stands_crossed dialect done size n m held piece after true mode.Start to e some h d fits all short a s = absurd (omega (arith, some, all))
-stands_crossed dialect done size n m held piece after true mode.Escape to e some h d fits all short a s = absurd (omega (arith, some, all))
-stands_crossed dialect done size n m held piece after true mode.Blank to e some h d fits all short a s = absurd (omega (arith, some, all))
-stands_crossed dialect done size n m held piece after true mode.InsideEscape to e some h d fits all short a s = absurd (omega (arith, some, all))
-stands_crossed dialect done size n m held piece after true (mode.WordEscape at) to e some h d fits all short a s = absurd (omega (arith, some, all))
-stands_crossed dialect done size n m held piece after true mode.Inside to e some h d fits all short a s =
+pub stands_crossed : (dialect : Dialect) (done size n m : ℕ) (held piece after : List ℕ)
+    (looked : Bool) (at to : Mode) → looked ≡ true → 0 < n → Standing dialect looked at done held →
+    length held ≤ done →
+    n ≤ length (take m piece) → AllCross dialect at to n (take m piece) → m ≤ unit_max - length held
+    → after ≡ held ++ take n piece → size ≡ length after → Standing dialect looked to size after
+stands_crossed dialect done size n m held piece after false at to e some h d fits all short a
+    s = absurd (cc)
+stands_crossed dialect done size n m held piece after true mode.Start to e some h d fits all short a
+    s = absurd (omega (arith, some, all))
+stands_crossed dialect done size n m held piece after true mode.Escape to e some h d fits all short
+    a s = absurd (omega (arith, some, all))
+stands_crossed dialect done size n m held piece after true mode.Blank to e some h d fits all short a
+    s = absurd (omega (arith, some, all))
+stands_crossed dialect done size n m held piece after true mode.InsideEscape to e some h d fits all
+    short a s = absurd (omega (arith, some, all))
+stands_crossed dialect done size n m held piece after true (mode.WordEscape at) to e some h d fits
+    all short a s = absurd (omega (arith, some, all))
+stands_crossed dialect done size n m held piece after true mode.Inside to e some h d fits
+    all short a s =
     let few : length held ≤ unit_max = h.short refl in
-    let within : Within false held [] = rw (front done size n m held piece after d fits short few a s, back done size n m held piece after d fits short few a s) at h.stands in
-    let on : Within false after [] = let P : List ℕ → Type 0 = λ q. Within false q [] in subst P (sym a) (crossed held (take n piece) within (each done size n m held piece after d fits short few a s GoesOn all.1)) in
+    let within : Within false held [] =
+    rw (
+      front done size n m held piece after d fits short few a s,
+      back done size n m held piece after d fits short few a s,
+    ) at h.stands in
+    let on : Within false after [] = let P : List ℕ → Type 0 = λ q. Within false q [] in
+    subst P (sym a) (crossed held (take n piece) within
+    (each done size n m held piece after d fits short few a s GoesOn all.1)) in
     let there : Standing dialect true mode.Inside size after = record {
       fits = omega (arith, s);
       short = λ _. after_short done size n m held piece after d fits short few a s;
-      stands = rw (whole done size n m held piece after d fits short few a s, none done size n m held piece after d fits short few a s) on;
+      stands = rw (
+        whole done size n m held piece after d fits short few a s,
+        none done size n m held piece after d fits short few a s,
+      ) on;
     } in
     subst (λ (z : Mode). Standing dialect true z size after) (sym all.0) there
-stands_crossed dialect done size n m held piece after true (mode.Word at) to e some h d fits all short a s =
+stands_crossed dialect done size n m held piece after true (mode.Word at) to e some h d fits
+    all short a s =
     let few : length held ≤ unit_max = h.short refl in
-    let unit : InUnit dialect at held = let P : List ℕ → Type 0 = λ q. InUnit dialect at q in subst P (front done size n m held piece after d fits short few a s) h.stands.0 in
-    unit_crossed dialect done size n m held piece after (mode.Word at) to d fits short few a s unit all
-stands_crossed dialect done size n m held piece after true (mode.Tag at more) to e some h d fits all short a s =
+    let unit : InUnit dialect at held = let P : List ℕ → Type 0 = λ q. InUnit dialect at q in
+    subst P (front done size n m held piece after d fits short few a s) h.stands.0 in
+    unit_crossed dialect done size n m held piece after (mode.Word at) to d fits short
+    few a s unit all
+stands_crossed dialect done size n m held piece after true (mode.Tag at more) to e some h d fits
+    all short a s =
     let few : length held ≤ unit_max = h.short refl in
-    let unit : InTag dialect at more held = let P : List ℕ → Type 0 = λ q. InTag dialect at more q in subst P (front done size n m held piece after d fits short few a s) h.stands.0 in
-    unit_crossed dialect done size n m held piece after (mode.Tag at more) to d fits short few a s unit all
+    let unit : InTag dialect at more held = let P : List ℕ → Type 0 = λ q. InTag dialect at more q
+    in subst P (front done size n m held piece after d fits short few a s) h.stands.0 in
+    unit_crossed dialect done size n m held piece after (mode.Tag at more) to d fits short
+    few a s unit all

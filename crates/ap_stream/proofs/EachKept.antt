@@ -23,16 +23,30 @@ use Rattle.ap_stream.proofs.Joined.{joined, one_piece}
 use Rattle.ap_stream.proofs.Rows.{IsRow, Rows, reads_rows, rows_have}
 
 -- what is written of an item as it is spelled, in a dialect where what stands bare may do so too
-pub spelled_has : (from to : Dialect) (given : List (List Symbol) → List ℕ) (thing : Item) (bytes : List ℕ) → StayBare from to → MakesNone from to given → IsRow from thing bytes → HasSuperblanks to (item_text given thing) (item_supers thing)
-spelled_has from to given (item.Plain c) bytes stay none h = one_piece to (item_text given (item.Plain c)) [] (plain (record { character = c; code = h.0; allowed = λ e. stay c.letter (h.1 e); spelled = refl }) refl)
-spelled_has from to given (item.Blank all) bytes stay none h = subst (λ (q : List ℕ). HasSuperblanks to q (blank_supers 0 q)) (sym h.0) (h.1 to)
+pub spelled_has : (from to : Dialect) (given : List (List Symbol) → List ℕ) (thing : Item)
+    (bytes : List ℕ) → StayBare from to → MakesNone from to given → IsRow from thing bytes →
+    HasSuperblanks to (item_text given thing) (item_supers thing)
+spelled_has from to given (item.Plain c) bytes stay none h =
+    one_piece to (item_text given (item.Plain c)) []
+    (plain (record {
+      character = c;
+      code = h.0;
+      allowed = λ e. stay c.letter (h.1 e);
+      spelled =
+          refl;
+    }) refl)
+spelled_has from to given (item.Blank all) bytes stay none h =
+    subst (λ (q : List ℕ). HasSuperblanks to q (blank_supers 0 q)) (sym h.0) (h.1 to)
 spelled_has from to given (item.Unit words) bytes stay none h = none words h.1
 spelled_has from to given (item.Chunk c) bytes stay none h = absurd h
 
-module _ (from to : Dialect) (given : List (List Symbol) → List ℕ) (stay : StayBare from to) (none : MakesNone from to given) where
-  each_kept : (text : List ℕ) (items : List Read) → Rows from text items → (each given items).fault ≡ None → HasSuperblanks to (each given items).text (supers_of items)
+module _ (from to : Dialect) (given : List (List Symbol) → List ℕ) (stay : StayBare from to)
+    (none : MakesNone from to given) where
+  each_kept : (text : List ℕ) (items : List Read) → Rows from text items → (each given items).fault
+      ≡ None → HasSuperblanks to (each given items).text (supers_of items)
   each_kept text [] h e = nothing refl refl
-  each_kept text (read ∷ items) h e = by (is_over given read.item) (λ f. each_kept h.1 items h.3 f) e
+  each_kept text (read ∷ items) h e =
+      by (is_over given read.item) (λ f. each_kept h.1 items h.3 f) e
     where
       own : HasSuperblanks to (item_text given read.item) (item_supers read.item)
       own = spelled_has from to given read.item h.0 stay none h.2
@@ -40,23 +54,44 @@ module _ (from to : Dialect) (given : List (List Symbol) → List ℕ) (stay : S
       list : supers_of (read ∷ items) ≡ item_supers read.item ++ supers_of items
       list = flat_map-cons (λ (r : Read). item_supers r.item) read items
 
-      on : ((each given items).fault ≡ None → HasSuperblanks to (each given items).text (supers_of items)) → (each given items).fault ≡ None → HasSuperblanks to (item_text given read.item ++ (each given items).text) (supers_of (read ∷ items))
-      on go e = subst (λ (q : List (List ℕ)). HasSuperblanks to (item_text given read.item ++ (each given items).text) q) (sym list)
-          (joined to (item_text given read.item) (each given items).text (item_supers read.item) (supers_of items) own (go e))
+      on : ((each given items).fault ≡ None →
+          HasSuperblanks to (each given items).text (supers_of items)) → (each given items).fault
+          ≡ None → HasSuperblanks to (item_text given read.item ++ (each given items).text)
+          (supers_of (read ∷ items))
+      on go e = subst (λ (q : List (List ℕ)). HasSuperblanks to (item_text given read.item
+          ++ (each given items).text) q) (sym list)
+          (joined to (item_text given read.item) (each given items).text (item_supers read.item)
+          (supers_of items) own (go e))
 
-      by : (v : Bool) → ((each given items).fault ≡ None → HasSuperblanks to (each given items).text (supers_of items)) → (if v then ends_in [] (Limit UnitTooLong read.place) else behind (item_text given read.item) (each given items)).fault ≡ None
-          → HasSuperblanks to (if v then ends_in [] (Limit UnitTooLong read.place) else behind (item_text given read.item) (each given items)).text (supers_of (read ∷ items))
+      by : (v : Bool) → ((each given items).fault ≡ None →
+          HasSuperblanks to (each given items).text (supers_of items)) →
+          (if v then ends_in [] (Limit UnitTooLong read.place)
+          else behind (item_text given read.item) (each given items)).fault ≡ None
+          → HasSuperblanks to (if v then ends_in [] (Limit UnitTooLong read.place)
+          else behind (item_text given read.item) (each given items)).text
+          (supers_of (read ∷ items))
       by true go e = absurd (cc)
       by false go e = on go e
 
-  pub reads_kept : (place : ℕ) (text : List ℕ) → (reads from place text).stop ≡ None → (each given (reads from place text).items).fault ≡ None → HaveSameSuperblanks from to text (each given (reads from place text).items).text
+  pub reads_kept : (place : ℕ) (text : List ℕ) → (reads from place text).stop ≡ None →
+      (each given (reads from place text).items).fault ≡ None →
+      HaveSameSuperblanks from to text (each given (reads from place text).items).text
   reads_kept place text h e =
       let rows = reads_rows from place text h in
-      record { superblanks = supers_of (reads from place text).items; before = rows_have from text (reads from place text).items rows; after = each_kept text (reads from place text).items rows e }
+      record {
+        superblanks = supers_of (reads from place text).items;
+        before =
+            rows_have from text (reads from place text).items rows;
+        after =
+            each_kept text (reads from place text).items rows e;
+      }
 
-pub each_keeps : (from to : Dialect) (given : List (List Symbol) → List ℕ) (place : ℕ) (text : List ℕ) → StayBare from to → MakesNone from to given
-    → (reads from place text).stop ≡ None → (each given (reads from place text).items).fault ≡ None → HaveSameSuperblanks from to text (each given (reads from place text).items).text
-each_keeps from to given place text stay none h e = reads_kept from to given stay none place text h e
+pub each_keeps : (from to : Dialect) (given : List (List Symbol) → List ℕ) (place : ℕ)
+    (text : List ℕ) → StayBare from to → MakesNone from to given
+    → (reads from place text).stop ≡ None → (each given (reads from place text).items).fault ≡ None
+    → HaveSameSuperblanks from to text (each given (reads from place text).items).text
+each_keeps from to given place text stay none h e =
+    reads_kept from to given stay none place text h e
 
 -- where neither of two faults is there
 pub neither : (a b : Option StreamFault) → or_else a b ≡ None → (a ≡ None) × (b ≡ None)
@@ -64,10 +99,18 @@ neither None b h = (refl, h)
 neither (Some fault) b h = absurd (cc)
 
 -- what is written of a unit has no superblanks
-pub unit_has_none : (dialect : Dialect) (words : List (List Symbol)) → AreWords dialect words → HasSuperblanks dialect (unit_bytes words) []
+pub unit_has_none : (dialect : Dialect) (words : List (List Symbol)) → AreWords dialect words →
+    HasSuperblanks dialect (unit_bytes words) []
 unit_has_none dialect words h =
-    one_piece dialect (unit_bytes words) [] (unit (record { words = words; read = ap (first dialect) (sym (append-nil (unit_bytes words))) ∙ unit_back dialect words [] h }) refl)
+    one_piece dialect (unit_bytes words) []
+    (unit (record {
+      words = words;
+      read =
+          ap (first dialect) (sym (append-nil (unit_bytes words)))
+          ∙ unit_back dialect words [] h;
+    }) refl)
 
 -- nor has a space in front of a text that has none
-pub space_has_none : (dialect : Dialect) (text : List ℕ) → HasSuperblanks dialect text [] → HasSuperblanks dialect (32 ∷ text) []
+pub space_has_none : (dialect : Dialect) (text : List ℕ) → HasSuperblanks dialect text [] →
+    HasSuperblanks dialect (32 ∷ text) []
 space_has_none dialect text h = piece (32 ∷ []) text [] [] (white 32 refl refl refl) h refl refl

@@ -17,33 +17,59 @@ use Rattle.ap_stream.specs.Each.{each, item_text, is_over, is_worded, Single, he
 use Rattle.ap_stream.proofs.BareSpells.{bare_size}
 
 module _ (given : List (List Symbol) → List ℕ) (read : Read) (xs : List Read) where
-  pub each_writes : is_over given read.item ≡ false → behind (item_text given read.item) (each given xs) ≡ each given (read ∷ xs)
+  pub each_writes : is_over given read.item ≡ false →
+      behind (item_text given read.item) (each given xs) ≡ each given (read ∷ xs)
   each_writes e = rw e refl
 
-  pub each_stops : is_over given read.item ≡ true → each given (read ∷ xs) ≡ ends_in [] (Limit UnitTooLong read.place)
+  pub each_stops : is_over given read.item ≡ true →
+      each given (read ∷ xs) ≡ ends_in [] (Limit UnitTooLong read.place)
   each_stops e = rw e refl
 
 under : (n : ℕ) → nat_lt unit_max n ≡ false → n ≤ unit_max
 under n h = grind (arith, nat_tests)
 
 -- what a turn writes is within the bound
-sized : (given : List (List Symbol) → List ℕ) (thing : Item) (size : ℕ) → is_over given thing ≡ false → (is_worded thing ≡ false → length (spelled thing) ≤ size) → size ≤ unit_max → length (item_text given thing) ≤ unit_max
+sized : (given : List (List Symbol) → List ℕ) (thing : Item) (size : ℕ) →
+    is_over given thing ≡ false → (is_worded thing ≡ false → length (spelled thing) ≤ size) →
+    size ≤ unit_max → length (item_text given thing) ≤ unit_max
 sized given (item.Plain c) size e h short = let k = h refl in omega (arith, k, short)
 sized given (item.Blank bytes) size e h short = let k = h refl in omega (arith, k, short)
 sized given (item.Unit words) size e h short = under (length (given words)) e
 sized given (item.Chunk c) size e h short = under (length (spelled (item.Chunk c))) e
 
-pub text_fits : (given : List (List Symbol) → List ℕ) (dialect : Dialect) (read : Read) → is_over given read.item ≡ false → IsRead dialect read → length (item_text given read.item) ≤ unit_max
-text_fits given dialect read e h = sized given read.item read.size e (λ w. bare_size dialect read w h) h.short
+pub text_fits : (given : List (List Symbol) → List ℕ) (dialect : Dialect) (read : Read) →
+    is_over given read.item ≡ false → IsRead dialect read →
+    length (item_text given read.item) ≤ unit_max
+text_fits given dialect read e h =
+    sized given read.item read.size e (λ w. bare_size dialect read w h) h.short
 
-module _ {W : Type 0} (given : W → List (List Symbol) → List ℕ) (now : Single W) (writer after : W) (dialect : Dialect) (held next : Option Read) (finished : Bool)
-    (view : record { writer = writer; dialect = dialect; item = held; finished = finished } ≡ now) (read : Read) (is : held ≡ Some read) (invariant : IfSome held (IsRead dialect))
-    (text old new : List ℕ) (t : text ≡ item_text (given writer) read.item) (same : given after ≡ given writer) (under_max : is_over (given writer) read.item ≡ false) (e : new ≡ old ++ text) (gone : next ≡ None) where
+module _ {W : Type 0} (given : W → List (List Symbol) → List ℕ) (now : Single W) (writer after : W)
+    (dialect : Dialect) (held next : Option Read) (finished : Bool)
+    (view : record { writer = writer; dialect = dialect; item = held; finished = finished } ≡ now)
+    (read : Read) (is : held ≡ Some read) (invariant : IfSome held (IsRead dialect))
+    (text old new : List ℕ) (t : text ≡ item_text (given writer) read.item)
+    (same : given after ≡ given writer) (under_max : is_over (given writer) read.item ≡ false)
+    (e : new ≡ old ++ text) (gone : next ≡ None) where
   is_read : IsRead dialect read
   is_read = subst (λ (h : Option Read). IfSome h (IsRead dialect)) is invariant
 
-  pub turn_wrote : (x : List ℕ) × (new ≡ old ++ x) × (length x ≤ stage_max) × (length (held_items next) < length (held_items now.item)) × (held_size next < held_size now.item) × (dialect ≡ now.dialect) × (finished ≡ now.finished)
-      × ((xs : List Read) → (now.finished ≡ true → xs ≡ []) → behind x (each (given after) (held_items next ++ xs)) ≡ each (given now.writer) (held_items now.item ++ xs))
+  pub turn_wrote : (x : List ℕ) × (new ≡ old ++ x) × (length x ≤ stage_max)
+      × (length (held_items next) < length (held_items now.item))
+      × (held_size next < held_size now.item) × (dialect ≡ now.dialect) × (finished ≡ now.finished)
+      × ((xs : List Read) → (now.finished ≡ true → xs ≡ []) →
+      behind x (each (given after) (held_items next ++ xs))
+      ≡ each (given now.writer) (held_items now.item ++ xs))
   turn_wrote =
-      let fits : length text ≤ stage_max = let l = text_fits (given writer) dialect read under_max is_read in let m = ap length t in omega (arith, l, m) in
-      rw (← view, gone, is) (text, e, fits, omega arith, is_read.some, refl, refl, λ xs f. rw (same, t) (each_writes (given writer) read xs under_max))
+      let fits : length text ≤ stage_max = let l =
+      text_fits (given writer) dialect read under_max is_read in let m = ap length t in
+      omega (arith, l, m) in
+      rw (← view, gone, is) (
+        text,
+        e,
+        fits,
+        omega arith,
+        is_read.some,
+        refl,
+        refl,
+        λ xs f. rw (same, t) (each_writes (given writer) read xs under_max),
+      )

@@ -33,11 +33,13 @@ IsLow test = (b : ℕ) → 128 ≤ b → test b ≡ false
 first_high : (a : ℕ) (bs : List ℕ) (c n : ℕ) → char_at (a ∷ bs) ≡ Char c n → 128 ≤ c → 128 ≤ a
 unfolding char_at
 first_high a bs c n h high = elim (cases_lt a 128) [
-  | inl low ↦ let t : ltb a 128 ≡ true = grind (arith, nat_tests) in let k : Char a 1 ≡ Char c n = rw t at h in let e : a ≡ c = cc in absurd (omega (arith, e, low, high))
+  | inl low ↦ let t : ltb a 128 ≡ true = grind (arith, nat_tests) in let k : Char a 1 ≡ Char c n =
+      rw t at h in let e : a ≡ c = cc in absurd (omega (arith, e, low, high))
   | inr more ↦ more
 ]
 
-pub same_test : (test : ℕ → Bool) → IsLow test → (a : ℕ) (bs : List ℕ) (c n : ℕ) → char_at (a ∷ bs) ≡ Char c n → test a ≡ test c
+pub same_test : (test : ℕ → Bool) → IsLow test → (a : ℕ) (bs : List ℕ) (c n : ℕ) →
+    char_at (a ∷ bs) ≡ Char c n → test a ≡ test c
 same_test test low a bs c n h = elim (cases_lt c 128) [
   | inl small ↦ ap test (first_byte a bs c n h small).0
   | inr high ↦ low a (first_high a bs c n h high) ∙ sym (low c high)
@@ -47,7 +49,13 @@ differs : (d : ℕ) → d < 128 → IsLow (λ b. eqb b d)
 differs d small b high = ne_eqb b d (λ e. omega (arith, e, small, high))
 
 pub low_blank : IsLow begins_blank
-low_blank b high = rw (differs 32 (omega arith) b high, differs 9 (omega arith) b high, differs 10 (omega arith) b high, differs 13 (omega arith) b high, differs 91 (omega arith) b high) refl
+low_blank b high = rw (
+  differs 32 (omega arith) b high,
+  differs 9 (omega arith) b high,
+  differs 10 (omega arith) b high,
+  differs 13 (omega arith) b high,
+  differs 91 (omega arith) b high,
+) refl
 
 pub low_escape : IsLow (λ b. eqb b 92)
 low_escape = differs 92 (omega arith)
@@ -66,7 +74,8 @@ pub record IsFree (dialect : Dialect) (c : ℕ) : Type 0 where
   pub unit : begins_unit dialect c ≡ false
   pub refused : is_refused dialect c ≡ false
 
-none_of : (a b c d : Bool) → not (a || (b || (c || d))) ≡ true → (a ≡ false) × (b ≡ false) × (c ≡ false) × (d ≡ false)
+none_of : (a b c d : Bool) → not (a || (b || (c || d))) ≡ true → (a ≡ false) × (b ≡ false)
+    × (c ≡ false) × (d ≡ false)
 none_of true b c d h = absurd (cc)
 none_of false true c d h = absurd (cc)
 none_of false false true d h = absurd (cc)
@@ -74,7 +83,9 @@ none_of false false false true h = absurd (cc)
 none_of false false false false h = (refl, refl, refl, refl)
 
 pub bare_free : (dialect : Dialect) (c : ℕ) → is_bare dialect c ≡ true → IsFree dialect c
-bare_free dialect c h = let n = none_of (begins_blank c) (eqb c 92) (begins_unit dialect c) (is_refused dialect c) h in record { blank = n.0; escape = n.1; unit = n.2; refused = n.3 }
+bare_free dialect c h = let n =
+    none_of (begins_blank c) (eqb c 92) (begins_unit dialect c) (is_refused dialect c) h in
+    record { blank = n.0; escape = n.1; unit = n.2; refused = n.3 }
 
 pub free_bare : (dialect : Dialect) (c : ℕ) → IsFree dialect c → is_bare dialect c ≡ true
 free_bare dialect c h = rw (h.blank, h.escape, h.unit, h.refused) refl
@@ -87,7 +98,8 @@ module _ (c : ℕ) (code : IsCode c) where
   pub alone_some : 0 < length (encode_utf8 c)
   alone_some = (char_size (encode_utf8 c) c (length (encode_utf8 c)) alone).0
 
-  alone_test : (test : ℕ → Bool) → IsLow test → (of : List ℕ → Bool) → of [] ≡ false → ((b : ℕ) (bs : List ℕ) → of (b ∷ bs) ≡ test b) → test c ≡ false → of (encode_utf8 c) ≡ false
+  alone_test : (test : ℕ → Bool) → IsLow test → (of : List ℕ → Bool) → of [] ≡ false →
+      ((b : ℕ) (bs : List ℕ) → of (b ∷ bs) ≡ test b) → test c ≡ false → of (encode_utf8 c) ≡ false
   alone_test test low of none some t = by (encode_utf8 c) (length (encode_utf8 c)) alone
     where
       by : (p : List ℕ) (n : ℕ) → char_at p ≡ Char c n → of p ≡ false
@@ -98,36 +110,59 @@ module _ (c : ℕ) (code : IsCode c) where
     pub free_blank : blank_first (encode_utf8 c) ≡ false
     free_blank = alone_test begins_blank low_blank blank_first refl (λ b bs. refl) free.blank
 
-    pub free_whole : (x : List ℕ) → first dialect (encode_utf8 c ++ x) ≡ Whole (plain_item c false) (length (encode_utf8 c))
-    free_whole x = letter_whole dialect (encode_utf8 c) alone_some free_blank (alone_test (λ b. eqb b 92) low_escape escape_first refl (λ b bs. refl) free.escape)
-        (alone_test (begins_unit dialect) (low_unit dialect) (unit_first dialect) refl (λ b bs. refl) free.unit) c alone free.refused x
+    pub free_whole : (x : List ℕ) → first dialect (encode_utf8 c ++ x)
+        ≡ Whole (plain_item c false) (length (encode_utf8 c))
+    free_whole x = letter_whole dialect (encode_utf8 c) alone_some free_blank
+        (alone_test (λ b. eqb b 92) low_escape escape_first refl (λ b bs. refl) free.escape)
+        (alone_test (begins_unit dialect) (low_unit dialect) (unit_first dialect) refl
+        (λ b bs. refl) free.unit) c alone free.refused x
 
 -- a superblank
-pub to_bracket : (bytes : List ℕ) → IsToBracket bytes → (x : List ℕ) → closing false 0 (bytes ++ x) ≡ Closed (length bytes)
+pub to_bracket : (bytes : List ℕ) → IsToBracket bytes → (x : List ℕ) → closing false 0 (bytes ++ x)
+    ≡ Closed (length bytes)
 unfolding char_at
-to_bracket bytes (closed e) x = ap (λ (q : List ℕ). closing false 0 (q ++ x)) e ∙ closing_first false (93 ∷ x) 93 1 refl ∙ ap (λ (q : List ℕ). Closed (length q)) (sym e)
+to_bracket bytes (closed e) x = ap (λ (q : List ℕ). closing false 0 (q ++ x)) e
+    ∙ closing_first false (93 ∷ x) 93 1 refl ∙ ap (λ (q : List ℕ). Closed (length q)) (sym e)
 to_bracket bytes (bare c more code no_escape no_close h e) x =
     let n : ℕ = length (encode_utf8 c) in
     let u : eqb c 93 ≡ false = ne_eqb c 93 no_close in
     let v : eqb c 92 ≡ false = ne_eqb c 92 no_escape in
-    let one : closing false 0 (encode_utf8 c ++ (more ++ x)) ≡ longer (length (encode_utf8 c)) (closing false 0 (more ++ x)) =
-    closing_first false (encode_utf8 c ++ (more ++ x)) c (length (encode_utf8 c)) (char_back c (more ++ x) code) ∙ rw (u, v, drop-append_seam (encode_utf8 c) (more ++ x)) refl in
-    let size : length (encode_utf8 c) + length more ≡ length bytes = sym (ap length e ∙ length-append (encode_utf8 c) more) in
-    ap (λ (q : List ℕ). closing false 0 (q ++ x)) e ∙ ap (closing false 0) (append_assoc (encode_utf8 c) more x) ∙ one ∙ ap (longer (length (encode_utf8 c))) (to_bracket more h x) ∙ ap Closed size
+    let one : closing false 0 (encode_utf8 c ++ (more ++ x))
+    ≡ longer (length (encode_utf8 c)) (closing false 0 (more ++ x)) =
+    closing_first false (encode_utf8 c ++ (more ++ x)) c (length (encode_utf8 c))
+    (char_back c (more ++ x) code)
+    ∙ rw (u, v, drop-append_seam (encode_utf8 c) (more ++ x)) refl in
+    let size : length (encode_utf8 c) + length more ≡ length bytes =
+    sym (ap length e ∙ length-append (encode_utf8 c) more) in
+    ap (λ (q : List ℕ). closing false 0 (q ++ x)) e
+    ∙ ap (closing false 0) (append_assoc (encode_utf8 c) more x) ∙ one
+    ∙ ap (longer (length (encode_utf8 c))) (to_bracket more h x) ∙ ap Closed size
 to_bracket bytes (escaped c more code h e) x =
-    let two : closing true 0 (encode_utf8 c ++ (more ++ x)) ≡ longer (length (encode_utf8 c)) (closing false 0 (more ++ x)) =
-    closing_first true (encode_utf8 c ++ (more ++ x)) c (length (encode_utf8 c)) (char_back c (more ++ x) code) ∙ rw (drop-append_seam (encode_utf8 c) (more ++ x)) refl in
-    let one : closing false 0 (92 ∷ (encode_utf8 c ++ (more ++ x))) ≡ longer 1 (closing true 0 (encode_utf8 c ++ (more ++ x))) = closing_first false (92 ∷ (encode_utf8 c ++ (more ++ x))) 92 1 refl in
-    let size : 1 + (length (encode_utf8 c) + length more) ≡ length bytes = let l = ap length e in let k = length-append (encode_utf8 c) more in omega (arith, l, k) in
-    ap (λ (q : List ℕ). closing false 0 (q ++ x)) e ∙ ap (λ (q : List ℕ). closing false 0 (92 ∷ q)) (append_assoc (encode_utf8 c) more x) ∙ one ∙ ap (longer 1) (two ∙ ap (longer (length (encode_utf8 c))) (to_bracket more h x)) ∙ ap Closed size
+    let two : closing true 0 (encode_utf8 c ++ (more ++ x))
+    ≡ longer (length (encode_utf8 c)) (closing false 0 (more ++ x)) =
+    closing_first true (encode_utf8 c ++ (more ++ x)) c (length (encode_utf8 c))
+    (char_back c (more ++ x) code) ∙ rw (drop-append_seam (encode_utf8 c) (more ++ x)) refl in
+    let one : closing false 0 (92 ∷ (encode_utf8 c ++ (more ++ x)))
+    ≡ longer 1 (closing true 0 (encode_utf8 c ++ (more ++ x))) =
+    closing_first false (92 ∷ (encode_utf8 c ++ (more ++ x))) 92 1 refl in
+    let size : 1 + (length (encode_utf8 c) + length more) ≡ length bytes = let l = ap length e in
+    let k = length-append (encode_utf8 c) more in omega (arith, l, k) in
+    ap (λ (q : List ℕ). closing false 0 (q ++ x)) e
+    ∙ ap (λ (q : List ℕ). closing false 0 (92 ∷ q)) (append_assoc (encode_utf8 c) more x) ∙ one
+    ∙ ap (longer 1) (two ∙ ap (longer (length (encode_utf8 c))) (to_bracket more h x))
+    ∙ ap Closed size
 
 -- a unit
-pub unit_cut : (dialect : Dialect) (bs : List ℕ) (words : List (List Symbol)) (n : ℕ) → first dialect bs ≡ Whole (item.Unit words) n → UnitOf dialect (take n bs) words × (0 < n) × (n ≤ length bs)
+pub unit_cut : (dialect : Dialect) (bs : List ℕ) (words : List (List Symbol)) (n : ℕ) →
+    first dialect bs ≡ Whole (item.Unit words) n → UnitOf dialect (take n bs) words × (0 < n)
+    × (n ≤ length bs)
 unfolding first
 unit_cut dialect [] words n h = absurd (cc)
 unit_cut dialect (b ∷ bs) words n h = by_blank (begins_blank b) h
   where
-    of_rest : begins_unit dialect b ≡ true → (r : Rest) → rest (form_of dialect) [] [] 0 bs ≡ r → of_unit r ≡ Whole (item.Unit words) n → UnitOf dialect (take n (b ∷ bs)) words × (0 < n) × (n ≤ length (b ∷ bs))
+    of_rest : begins_unit dialect b ≡ true → (r : Rest) → rest (form_of dialect) [] [] 0 bs ≡ r →
+        of_unit r ≡ Whole (item.Unit words) n → UnitOf dialect (take n (b ∷ bs)) words × (0 < n)
+        × (n ≤ length (b ∷ bs))
     of_rest u Lacks e h = absurd (cc)
     of_rest u (Wrong kind) e h = absurd (cc)
     of_rest u (Ends all k) e h =
@@ -141,7 +176,8 @@ unit_cut dialect (b ∷ bs) words n h = by_blank (begins_blank b) h
             tail = take k bs;
             has = is.0;
             begins = ap (λ q. take q (b ∷ bs)) grown ∙ ap (λ q. q ∷ take k bs) (eqb-true b 94 is.1);
-            on = λ x. (rest_cut (form_of dialect) [] [] 0 bs x all k e).0 ∙ ap (λ (q : List (List Symbol)). Ends q k) same ∙ ap (Ends words) (sym len);
+            on = λ x. (rest_cut (form_of dialect) [] [] 0 bs x all k e).0
+                ∙ ap (λ (q : List (List Symbol)). Ends q k) same ∙ ap (Ends words) (sym len);
           },
           omega (arith, size),
           omega (arith, size, fits),
@@ -158,7 +194,8 @@ unit_cut dialect (b ∷ bs) words n h = by_blank (begins_blank b) h
     escape NotChar h = cc
     escape (Char c m) h = cc
 
-    letter_at : (v : Bool) (c m : ℕ) → cond v (Faulty (OfKind Stray)) (Whole (plain_item c false) m) ≡ Whole (item.Unit words) n → ⊥
+    letter_at : (v : Bool) (c m : ℕ) → cond v (Faulty (OfKind Stray)) (Whole (plain_item c false) m)
+        ≡ Whole (item.Unit words) n → ⊥
     letter_at true c m h = cc
     letter_at false c m h = cc
 
@@ -167,23 +204,37 @@ unit_cut dialect (b ∷ bs) words n h = by_blank (begins_blank b) h
     letter NotChar h = cc
     letter (Char c m) h = letter_at (is_refused dialect c) c m h
 
-    by_unit : (v : Bool) → begins_unit dialect b ≡ v → cond v (of_unit (rest (form_of dialect) [] [] 0 bs)) (of_char dialect (char_at (b ∷ bs))) ≡ Whole (item.Unit words) n → UnitOf dialect (take n (b ∷ bs)) words × (0 < n) × (n ≤ length (b ∷ bs))
+    by_unit : (v : Bool) → begins_unit dialect b ≡ v →
+        cond v (of_unit (rest (form_of dialect) [] [] 0 bs)) (of_char dialect (char_at (b ∷ bs)))
+        ≡ Whole (item.Unit words) n → UnitOf dialect (take n (b ∷ bs)) words × (0 < n)
+        × (n ≤ length (b ∷ bs))
     by_unit true u h = of_rest u (rest (form_of dialect) [] [] 0 bs) refl h
     by_unit false u h = absurd (letter (char_at (b ∷ bs)) h)
 
-    by_escape : (v : Bool) → cond v (of_escaped (char_at bs)) (cond (begins_unit dialect b) (of_unit (rest (form_of dialect) [] [] 0 bs)) (of_char dialect (char_at (b ∷ bs)))) ≡ Whole (item.Unit words) n → UnitOf dialect (take n (b ∷ bs)) words × (0 < n) × (n ≤ length (b ∷ bs))
+    by_escape : (v : Bool) →
+        cond v (of_escaped (char_at bs))
+        (cond (begins_unit dialect b) (of_unit (rest (form_of dialect) [] [] 0 bs))
+        (of_char dialect (char_at (b ∷ bs)))) ≡ Whole (item.Unit words) n →
+        UnitOf dialect (take n (b ∷ bs)) words × (0 < n) × (n ≤ length (b ∷ bs))
     by_escape true h = absurd (escape (char_at bs) h)
     by_escape false h = by_unit (begins_unit dialect b) refl h
 
-    by_blank : (v : Bool) → cond v (of_run (b ∷ bs) (blank 0 (b ∷ bs))) (cond (eqb b 92) (of_escaped (char_at bs)) (cond (begins_unit dialect b) (of_unit (rest (form_of dialect) [] [] 0 bs)) (of_char dialect (char_at (b ∷ bs))))) ≡ Whole (item.Unit words) n
+    by_blank : (v : Bool) → cond v (of_run (b ∷ bs) (blank 0 (b ∷ bs)))
+        (cond (eqb b 92) (of_escaped (char_at bs))
+        (cond (begins_unit dialect b) (of_unit (rest (form_of dialect) [] [] 0 bs))
+        (of_char dialect (char_at (b ∷ bs))))) ≡ Whole (item.Unit words) n
         → UnitOf dialect (take n (b ∷ bs)) words × (0 < n) × (n ≤ length (b ∷ bs))
     by_blank true h = absurd (run (blank 0 (b ∷ bs)) h)
     by_blank false h = by_escape (eqb b 92) h
 
-pub unit_of_bytes : (dialect : Dialect) (bytes : List ℕ) (u : IsUnit dialect bytes) → UnitOf dialect bytes u.words × (0 < length bytes)
+pub unit_of_bytes : (dialect : Dialect) (bytes : List ℕ) (u : IsUnit dialect bytes) →
+    UnitOf dialect bytes u.words × (0 < length bytes)
 unit_of_bytes dialect bytes u =
-    let c = unit_cut dialect bytes u.words (length bytes) u.read in
-    (subst (λ (q : List ℕ). UnitOf dialect q u.words) (take_all (length bytes) bytes (omega arith)) c.0, c.1)
+    let c = unit_cut dialect bytes u.words (length bytes) u.read in (
+      subst (λ (q : List ℕ). UnitOf dialect q u.words)
+          (take_all (length bytes) bytes (omega arith)) c.0,
+      c.1,
+    )
 
 -- the size of the piece at the front of a text
 abbrev close_size : Close → ℕ
@@ -198,7 +249,9 @@ whole_size (Faulty kind) = 0
 
 abbrev size_at : Dialect → List ℕ → ℕ
 size_at dialect [] = 0
-size_at dialect (b ∷ bs) = cond (is_white b) 1 (cond (eqb b 91) (close_size (closing false 0 bs)) (whole_size (first dialect (b ∷ bs))))
+size_at dialect (b ∷ bs) =
+    cond (is_white b) 1 (cond (eqb b 91) (close_size (closing false 0 bs))
+    (whole_size (first dialect (b ∷ bs))))
 
 -- a piece is a superblank where it begins with [
 abbrev own_at : List ℕ → List (List ℕ)
@@ -222,13 +275,20 @@ pub record IsWhole (dialect : Dialect) (bytes : List ℕ) : Type 0 where
   pub dark : blank_first bytes ≡ false
   pub read : (x : List ℕ) → first dialect (bytes ++ x) ≡ Whole thing (length bytes)
 
-whole_front : (dialect : Dialect) (bytes : List ℕ) (own : List (List ℕ)) → IsWhole dialect bytes → own ≡ [] → IsFront dialect bytes own
+whole_front : (dialect : Dialect) (bytes : List ℕ) (own : List (List ℕ)) → IsWhole dialect bytes →
+    own ≡ [] → IsFront dialect bytes own
 whole_front dialect [] own h e = absurd (let s = h.some in omega (arith, s))
 whole_front dialect (b ∷ bs) own h e =
     let n = either_none (is_white b) (eqb b 91) h.dark in
-    record { some = h.some; size = λ x. rw (n.0, n.1) (ap whole_size (h.read x)); own_is = e ∙ rw n.1 refl }
+    record {
+      some = h.some;
+      size = λ x. rw (n.0, n.1) (ap whole_size (h.read x));
+      own_is =
+          e ∙ rw n.1 refl;
+    }
 
-pub plain_whole : (dialect : Dialect) (bytes : List ℕ) → IsPlain dialect bytes → IsWhole dialect bytes
+pub plain_whole : (dialect : Dialect) (bytes : List ℕ) → IsPlain dialect bytes →
+    IsWhole dialect bytes
 plain_whole dialect bytes p = by p.character.escaped refl
   where
     escaped_whole_item : IsWhole dialect (92 ∷ encode_utf8 p.character.letter)
@@ -237,10 +297,13 @@ plain_whole dialect bytes p = by p.character.escaped refl
       none = refl;
       some = omega arith;
       dark = refl;
-      read = λ x. escaped_whole dialect (encode_utf8 p.character.letter) p.character.letter (alone p.character.letter p.code) x ∙ ap (Whole (plain_item p.character.letter true)) (omega arith);
+      read = λ x. escaped_whole dialect (encode_utf8 p.character.letter) p.character.letter
+          (alone p.character.letter p.code) x
+          ∙ ap (Whole (plain_item p.character.letter true)) (omega arith);
     }
 
-    bare_whole_item : IsFree dialect p.character.letter → IsWhole dialect (encode_utf8 p.character.letter)
+    bare_whole_item : IsFree dialect p.character.letter →
+        IsWhole dialect (encode_utf8 p.character.letter)
     bare_whole_item free = record {
       thing = plain_item p.character.letter false;
       none = refl;
@@ -255,51 +318,92 @@ plain_whole dialect bytes p = by p.character.escaped refl
         subst (λ (q : List ℕ). IsWhole dialect q) (sym is) escaped_whole_item
     by false v =
         let is : bytes ≡ encode_utf8 p.character.letter = p.spelled ∙ rw v refl in
-        subst (λ (q : List ℕ). IsWhole dialect q) (sym is) (bare_whole_item (bare_free dialect p.character.letter (p.allowed v)))
+        subst (λ (q : List ℕ). IsWhole dialect q) (sym is)
+        (bare_whole_item (bare_free dialect p.character.letter (p.allowed v)))
 
 pub unit_whole : (dialect : Dialect) (bytes : List ℕ) → IsUnit dialect bytes → IsWhole dialect bytes
 unit_whole dialect bytes u =
     let k = unit_of_bytes dialect bytes u in
-    record { thing = item.Unit u.words; none = refl; some = k.1; dark = ap blank_first k.0.begins; read = unit_always dialect bytes u.words k.0 }
+    record {
+      thing = item.Unit u.words;
+      none = refl;
+      some = k.1;
+      dark = ap blank_first k.0.begins;
+      read = unit_always dialect bytes u.words k.0;
+    }
 
 pub white_other : (b : ℕ) → is_white b ≡ true → eqb b 91 ≡ false
 white_other b w = by (eqb b 91) refl
   where
     by : (v : Bool) → eqb b 91 ≡ v → v ≡ false
-    by true e = absurd (let is = eqb-true b 91 e in let k : is_white 91 ≡ true = subst (λ z. is_white z ≡ true) is w in cc)
+    by true e = absurd (let is = eqb-true b 91 e in let k : is_white 91 ≡ true =
+        subst (λ z. is_white z ≡ true) is w in cc)
     by false e = refl
 
-front_is : (dialect : Dialect) (bytes : List ℕ) (own : List (List ℕ)) → IsPiece dialect bytes own → IsFront dialect bytes own
-front_is dialect bytes own (plain p e) = whole_front dialect bytes own (plain_whole dialect bytes p) e
-front_is dialect bytes own (white b is w e) = subst (λ (q : List ℕ). IsFront dialect q own) (sym is) (record { some = omega arith; size = λ x. rw w refl; own_is = e ∙ rw (white_other b w) refl })
-front_is dialect bytes own (superblank s e) = subst (λ (q : List ℕ). IsFront dialect q own) (sym s.begins)
-    (record { some = omega arith; size = λ x. rw (to_bracket s.rest s.goes_on x) refl; own_is = e ∙ ap (λ (q : List ℕ). q ∷ []) s.begins })
+front_is : (dialect : Dialect) (bytes : List ℕ) (own : List (List ℕ)) → IsPiece dialect bytes own →
+    IsFront dialect bytes own
+front_is dialect bytes own (plain p e) =
+    whole_front dialect bytes own (plain_whole dialect bytes p) e
+front_is dialect bytes own (white b is w e) =
+    subst (λ (q : List ℕ). IsFront dialect q own) (sym is)
+    (record { some = omega arith; size = λ x. rw w refl; own_is = e ∙ rw (white_other b w) refl })
+front_is dialect bytes own (superblank s e) =
+    subst (λ (q : List ℕ). IsFront dialect q own) (sym s.begins)
+    (record {
+      some = omega arith;
+      size = λ x. rw (to_bracket s.rest s.goes_on x) refl;
+      own_is =
+          e ∙ ap (λ (q : List ℕ). q ∷ []) s.begins;
+    })
 front_is dialect bytes own (unit u e) = whole_front dialect bytes own (unit_whole dialect bytes u) e
 
 -- two pieces at the front of a text are one
-same_front : (dialect : Dialect) (a b x y : List ℕ) (own other : List (List ℕ)) → IsFront dialect a own → IsFront dialect b other → a ++ x ≡ b ++ y → (a ≡ b) × (own ≡ other) × (x ≡ y)
+same_front : (dialect : Dialect) (a b x y : List ℕ) (own other : List (List ℕ)) →
+    IsFront dialect a own → IsFront dialect b other → a ++ x ≡ b ++ y →
+    (a ≡ b) × (own ≡ other) × (x ≡ y)
 same_front dialect a b x y own other h k e =
     let n : length a ≡ length b = sym (h.size x) ∙ ap (size_at dialect) e ∙ k.size y in
-    let s : a ≡ b = sym (take-append_seam a x) ∙ ap (take (length a)) e ∙ ap (λ m. take m (b ++ y)) n ∙ take-append_seam b y in
-    (s, h.own_is ∙ ap own_at s ∙ sym k.own_is, sym (drop-append_seam a x) ∙ ap (drop (length a)) e ∙ ap (λ m. drop m (b ++ y)) n ∙ drop-append_seam b y)
+    let s : a ≡ b = sym (take-append_seam a x) ∙ ap (take (length a)) e
+    ∙ ap (λ m. take m (b ++ y)) n ∙ take-append_seam b y in (
+      s,
+      h.own_is ∙ ap own_at s ∙ sym k.own_is,
+      sym (drop-append_seam a x) ∙ ap (drop (length a)) e
+          ∙ ap (λ m. drop m (b ++ y)) n ∙ drop-append_seam b y,
+    )
 
-no_front : (dialect : Dialect) (a x : List ℕ) (own : List (List ℕ)) → IsFront dialect a own → [] ≡ a ++ x → ⊥
+no_front : (dialect : Dialect) (a x : List ℕ) (own : List (List ℕ)) → IsFront dialect a own →
+    [] ≡ a ++ x → ⊥
 no_front dialect a x own h e = let l = ap length e ∙ length-append a x in omega (arith, l, h.some)
 
 -- a text has one list of superblanks
-pub one_list_by : (dialect : Dialect) (text same : List ℕ) (one other : List (List ℕ)) → HasSuperblanks dialect text one → HasSuperblanks dialect same other → text ≡ same → one ≡ other
+pub one_list_by : (dialect : Dialect) (text same : List ℕ) (one other : List (List ℕ)) →
+    HasSuperblanks dialect text one → HasSuperblanks dialect same other → text ≡ same → one ≡ other
 one_list_by dialect text same one other (nothing e f) (nothing g h) is = f ∙ sym h
-one_list_by dialect text same one other (nothing e f) (piece a x own more p k g h) is = absurd (no_front dialect a x own (front_is dialect a own p) (sym e ∙ is ∙ g))
-one_list_by dialect text same one other (piece a x own more p k e f) (nothing g h) is = absurd (no_front dialect a x own (front_is dialect a own p) (sym g ∙ sym is ∙ e))
-one_list_by dialect text same one other (piece a x own more p k e f) (piece b y theirs rest q m g h) is =
-    let s = same_front dialect a b x y own theirs (front_is dialect a own p) (front_is dialect b theirs q) (sym e ∙ is ∙ g) in
+one_list_by dialect text same one other (nothing e f) (piece a x own more p k g h) is =
+    absurd (no_front dialect a x own (front_is dialect a own p) (sym e ∙ is ∙ g))
+one_list_by dialect text same one other (piece a x own more p k e f) (nothing g h) is =
+    absurd (no_front dialect a x own (front_is dialect a own p) (sym g ∙ sym is ∙ e))
+one_list_by dialect text same one other (piece a x own more p k e f)
+    (piece b y theirs rest q m g h) is =
+    let s = same_front dialect a b x y own theirs (front_is dialect a own p)
+    (front_is dialect b theirs q) (sym e ∙ is ∙ g) in
     let t = one_list_by dialect x y more rest k m s.2 in
-    f ∙ ap (λ (z : List (List ℕ)). z ++ more) s.1 ∙ ap (λ (z : List (List ℕ)). theirs ++ z) t ∙ sym h
+    f ∙ ap (λ (z : List (List ℕ)). z ++ more) s.1
+    ∙ ap (λ (z : List (List ℕ)). theirs ++ z) t ∙ sym h
 
-pub one_list : (dialect : Dialect) (text : List ℕ) (one other : List (List ℕ)) → HasSuperblanks dialect text one → HasSuperblanks dialect text other → one ≡ other
+pub one_list : (dialect : Dialect) (text : List ℕ) (one other : List (List ℕ)) →
+    HasSuperblanks dialect text one → HasSuperblanks dialect text other → one ≡ other
 one_list dialect text one other h k = one_list_by dialect text text one other h k refl
 
-pub kept_twice : (first second third : Dialect) (text made last : List ℕ) → HaveSameSuperblanks first second text made → HaveSameSuperblanks second third made last → HaveSameSuperblanks first third text last
+pub kept_twice : (first second third : Dialect) (text made last : List ℕ) →
+    HaveSameSuperblanks first second text made → HaveSameSuperblanks second third made last →
+    HaveSameSuperblanks first third text last
 kept_twice first second third text made last h k =
-    let same : k.superblanks ≡ h.superblanks = one_list second made k.superblanks h.superblanks k.before h.after in
-    record { superblanks = h.superblanks; before = h.before; after = subst (λ (q : List (List ℕ)). HasSuperblanks third last q) same k.after }
+    let same : k.superblanks ≡ h.superblanks =
+    one_list second made k.superblanks h.superblanks k.before h.after in
+    record {
+      superblanks = h.superblanks;
+      before = h.before;
+      after =
+          subst (λ (q : List (List ℕ)). HasSuperblanks third last q) same k.after;
+    }

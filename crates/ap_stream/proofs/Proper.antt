@@ -24,15 +24,22 @@ use Rattle.ap_stream.proofs.WordsRead.{unit_words}
 named_free : (cs : List ℕ) → AreNamed cs → list_any is_reserved_lem (encode_utf8_all cs) ≡ false
 named_free [] h = refl
 named_free (c ∷ cs) h =
-    let keeps : KeepsPlain (encode_utf8 c ++ []) (Char c (length (encode_utf8 c))) = subst (λ (f : Front). KeepsPlain (encode_utf8 c ++ []) f) (char_back c [] h.0) (char_plain (encode_utf8 c ++ [])) in
-    let one : list_any is_reserved_lem (encode_utf8 c) ≡ false = ap (list_any is_reserved_lem) (sym (take-append_seam (encode_utf8 c) [])) ∙ keeps h.1 in
-    list_any-append is_reserved_lem (encode_utf8 c) (encode_utf8_all cs) ∙ rw (one, named_free cs h.2) refl
+    let keeps : KeepsPlain (encode_utf8 c ++ []) (Char c (length (encode_utf8 c))) =
+    subst (λ (f : Front). KeepsPlain (encode_utf8 c ++ []) f) (char_back c [] h.0)
+    (char_plain (encode_utf8 c ++ [])) in
+    let one : list_any is_reserved_lem (encode_utf8 c) ≡ false =
+    ap (list_any is_reserved_lem) (sym (take-append_seam (encode_utf8 c) [])) ∙ keeps h.1 in
+    list_any-append is_reserved_lem (encode_utf8 c) (encode_utf8_all cs)
+    ∙ rw (one, named_free cs h.2) refl
 
-named_proper : (name : List ℕ) (cs : List ℕ) → name ≡ encode_utf8_all cs → AreNamed cs → 0 < length cs → is_tag_name name ≡ true
+named_proper : (name : List ℕ) (cs : List ℕ) → name ≡ encode_utf8_all cs → AreNamed cs →
+    0 < length cs → is_tag_name name ≡ true
 named_proper name cs e h some =
-    let full : 0 < length name = let m = some_named cs h some in subst (λ (q : List ℕ). 0 < length q) (sym e) m in
+    let full : 0 < length name = let m = some_named cs h some in
+    subst (λ (q : List ℕ). 0 < length q) (sym e) m in
     let counted : eqb (length name) 0 ≡ false = grind (arith, nat_tests, full) in
-    let free : list_any is_reserved_lem name ≡ false = ap (list_any is_reserved_lem) e ∙ named_free cs h in
+    let free : list_any is_reserved_lem name ≡ false = ap (list_any is_reserved_lem) e
+    ∙ named_free cs h in
     rw (counted, free) refl
 
 spelt_proper : (surface : Bool) (s : Symbol) → IsSpelt surface s → is_proper s ≡ true
@@ -45,25 +52,34 @@ spelt_proper surface symbol.Alarm h = refl
 spelt_proper surface symbol.Star h = refl
 spelt_proper surface symbol.At h = refl
 
-pub word_proper : (surface : Bool) (word : List Symbol) → AreSpelt surface word → list_all is_proper word ≡ true
+pub word_proper : (surface : Bool) (word : List Symbol) → AreSpelt surface word →
+    list_all is_proper word ≡ true
 word_proper surface [] h = refl
-word_proper surface (s ∷ word) h = rw (spelt_proper surface s h.0, word_proper surface word h.1) refl
+word_proper surface (s ∷ word) h =
+    rw (spelt_proper surface s h.0, word_proper surface word h.1) refl
 
 abbrev ProperAt : Option (List Symbol) → Type 0
 ProperAt None = Unit {0}
 ProperAt (Some word) = AreProper word
 
-each_proper : (words : List (List Symbol)) (at : ℕ) → EachSpelt words → ProperAt (slice_get words at)
+each_proper : (words : List (List Symbol)) (at : ℕ) → EachSpelt words →
+    ProperAt (slice_get words at)
 each_proper [] at h = tt
 each_proper (word ∷ words) zero h = word_proper false word h.0
 each_proper (word ∷ words) (suc at) h = each_proper words at h.1
 
-words_proper : (dialect : Dialect) (words : List (List Symbol)) (at : ℕ) → AreWords dialect words → ProperAt (slice_get words at)
+words_proper : (dialect : Dialect) (words : List (List Symbol)) (at : ℕ) → AreWords dialect words →
+    ProperAt (slice_get words at)
 words_proper dialect [] at h = tt
 words_proper dialect (word ∷ words) zero h = word_proper (form_of dialect).surface word h.2
 words_proper dialect (word ∷ words) (suc at) h = each_proper words at h.3
 
 -- each word of a unit that is read is proper
-pub unit_proper : (dialect : Dialect) (held : List ℕ) (words : List (List Symbol)) (at : ℕ) (word : List Symbol) → UnitOf dialect held words → slice_get words at ≡ Some word → AreProper word
+pub unit_proper : (dialect : Dialect) (held : List ℕ) (words : List (List Symbol)) (at : ℕ)
+    (word : List Symbol) → UnitOf dialect held words → slice_get words at ≡ Some word →
+    AreProper word
 unit_proper dialect held words at word u e =
-    subst (λ (q : Option (List Symbol)). ProperAt q) e (words_proper dialect words at (unit_words dialect (held ++ []) words (length held) (unit_always dialect held words u [])))
+    subst (λ (q : Option (List Symbol)). ProperAt q) e
+    (words_proper dialect words
+    at (unit_words dialect (held ++ []) words (length held)
+    (unit_always dialect held words u [])))

@@ -36,7 +36,8 @@ use Rattle.ap_stream.proofs.WordsRead.{unit_words}
 
 -- behind a backslash stands any one character
 abbrev Behind : Bool → List ℕ → Type 0
-Behind true bytes = (c : ℕ) × (more : List ℕ) × IsCode c × IsToBracket more × (bytes ≡ encode_utf8 c ++ more)
+Behind true bytes = (c : ℕ) × (more : List ℕ) × IsCode c × IsToBracket more
+    × (bytes ≡ encode_utf8 c ++ more)
 Behind false bytes = IsToBracket bytes
 
 pub drop_pred : (n b : ℕ) (bs : List ℕ) → 0 < n → drop n (b ∷ bs) ≡ drop (pred n) bs
@@ -52,22 +53,42 @@ no_escape c h e = grind (arith, nat_tests)
 -- one character more
 module _ (b : ℕ) (bs : List ℕ) (c m k : ℕ) (h : char_at (b ∷ bs) ≡ Char c m) where
   front : take (m + k) (b ∷ bs) ≡ encode_utf8 c ++ take k (drop m (b ∷ bs))
-  front = take-add m k (b ∷ bs) ∙ ap (λ (q : List ℕ). q ++ take k (drop m (b ∷ bs))) (sym (char_bytes (b ∷ bs) c m h))
+  front = take-add m k (b ∷ bs)
+      ∙ ap (λ (q : List ℕ). q ++ take k (drop m (b ∷ bs))) (sym (char_bytes (b ∷ bs) c m h))
 
-  plain_behind : (e v w : Bool) → closes e c ≡ false → eqb c 92 ≡ w → e ≡ v → Behind (escapes e c) (take k (drop m (b ∷ bs))) → Behind e (take (m + k) (b ∷ bs))
+  plain_behind : (e v w : Bool) → closes e c ≡ false → eqb c 92 ≡ w → e ≡ v →
+      Behind (escapes e c) (take k (drop m (b ∷ bs))) → Behind e (take (m + k) (b ∷ bs))
   plain_behind e true w n is v g =
-      let done : IsToBracket (take k (drop m (b ∷ bs))) = subst (λ (z : Bool). Behind (not z && eqb c 92) (take k (drop m (b ∷ bs)))) v g in
-      subst (λ (z : Bool). Behind z (take (m + k) (b ∷ bs))) (sym v) (c, take k (drop m (b ∷ bs)), char_code (b ∷ bs) c m h, done, front)
+      let done : IsToBracket (take k (drop m (b ∷ bs))) =
+      subst (λ (z : Bool). Behind (not z && eqb c 92) (take k (drop m (b ∷ bs)))) v g in
+      subst (λ (z : Bool). Behind z (take (m + k) (b ∷ bs))) (sym v) (
+        c,
+        take k (drop m (b ∷ bs)),
+        char_code (b ∷ bs) c m h,
+        done,
+        front,
+      )
   plain_behind e false true n is v g =
-      let there : Behind true (take k (drop m (b ∷ bs))) = subst (λ (z : Bool). Behind z (take k (drop m (b ∷ bs)))) is (subst (λ (z : Bool). Behind (not z && eqb c 92) (take k (drop m (b ∷ bs)))) v g) in
-      let slash : encode_utf8 c ≡ 92 ∷ [] = let s = eqb-true c 92 is in ap encode_utf8 s ∙ encode_ascii 92 (omega arith) in
-      subst (λ (z : Bool). Behind z (take (m + k) (b ∷ bs))) (sym v) (escaped there.0 there.1 there.2 there.3 (front ∙ ap (λ (q : List ℕ). q ++ take k (drop m (b ∷ bs))) slash ∙ ap (λ (q : List ℕ). 92 ∷ q) there.4))
+      let there : Behind true (take k (drop m (b ∷ bs))) =
+      subst (λ (z : Bool). Behind z (take k (drop m (b ∷ bs)))) is
+      (subst (λ (z : Bool). Behind (not z && eqb c 92) (take k (drop m (b ∷ bs)))) v g) in
+      let slash : encode_utf8 c ≡ 92 ∷ [] = let s = eqb-true c 92 is in
+      ap encode_utf8 s ∙ encode_ascii 92 (omega arith) in
+      subst (λ (z : Bool). Behind z (take (m + k) (b ∷ bs))) (sym v)
+      (escaped there.0 there.1 there.2 there.3
+      (front ∙ ap (λ (q : List ℕ). q ++ take k (drop m (b ∷ bs))) slash
+      ∙ ap (λ (q : List ℕ). 92 ∷ q) there.4))
   plain_behind e false false n is v g =
-      let done : IsToBracket (take k (drop m (b ∷ bs))) = subst (λ (z : Bool). Behind z (take k (drop m (b ∷ bs)))) is (subst (λ (z : Bool). Behind (not z && eqb c 92) (take k (drop m (b ∷ bs)))) v g) in
+      let done : IsToBracket (take k (drop m (b ∷ bs))) =
+      subst (λ (z : Bool). Behind z (take k (drop m (b ∷ bs)))) is
+      (subst (λ (z : Bool). Behind (not z && eqb c 92) (take k (drop m (b ∷ bs)))) v g) in
       let open_c : eqb c 93 ≡ false = subst (λ (z : Bool). (not z && eqb c 93) ≡ false) v n in
-      subst (λ (z : Bool). Behind z (take (m + k) (b ∷ bs))) (sym v) (bare c (take k (drop m (b ∷ bs))) (char_code (b ∷ bs) c m h) (no_escape c is) (no_close c open_c) done front)
+      subst (λ (z : Bool). Behind z (take (m + k) (b ∷ bs))) (sym v)
+      (bare c (take k (drop m (b ∷ bs))) (char_code (b ∷ bs) c m h) (no_escape c is)
+      (no_close c open_c) done front)
 
-close_behind : (e : Bool) (b : ℕ) (bs : List ℕ) (c m : ℕ) → char_at (b ∷ bs) ≡ Char c m → closes e c ≡ true → Behind e (take m (b ∷ bs))
+close_behind : (e : Bool) (b : ℕ) (bs : List ℕ) (c m : ℕ) → char_at (b ∷ bs) ≡ Char c m →
+    closes e c ≡ true → Behind e (take m (b ∷ bs))
 close_behind true b bs c m h t = absurd (cc)
 close_behind false b bs c m h t =
     let is : c ≡ 93 = eqb-true c 93 t in
@@ -76,13 +97,17 @@ close_behind false b bs c m h t =
 abbrev ClosedAt : Bool → List ℕ → ℕ → Type 0
 ClosedAt e bs n = Behind e (take n bs) × (n ≤ length bs)
 
-closed_at : (e : Bool) (skip : ℕ) (bs : List ℕ) (n : ℕ) → closing e skip bs ≡ Closed n → ClosedAt e (drop skip bs) n
+closed_at : (e : Bool) (skip : ℕ) (bs : List ℕ) (n : ℕ) → closing e skip bs ≡ Closed n →
+    ClosedAt e (drop skip bs) n
 unfolding closing
 closed_at e skip [] n h = absurd (cc)
 closed_at e (suc skip) (b ∷ bs) n h = closed_at e skip bs n h
 closed_at e zero (b ∷ bs) n h = by (char_at (b ∷ bs)) refl (λ f k m g. closed_at f k bs m g) h
   where
-    later : (c m : ℕ) → char_at (b ∷ bs) ≡ Char c m → closes e c ≡ false → ((f : Bool) (k j : ℕ) → closing f k bs ≡ Closed j → ClosedAt f (drop k bs) j) → (r : Close) → closing (escapes e c) (pred m) bs ≡ r → longer m r ≡ Closed n → ClosedAt e (b ∷ bs) n
+    later : (c m : ℕ) → char_at (b ∷ bs) ≡ Char c m → closes e c ≡ false →
+        ((f : Bool) (k j : ℕ) → closing f k bs ≡ Closed j → ClosedAt f (drop k bs) j) →
+        (r : Close) → closing (escapes e c) (pred m) bs ≡ r → longer m r ≡ Closed n →
+        ClosedAt e (b ∷ bs) n
     later c m k t go Within is h = absurd (cc)
     later c m k t go Bad is h = absurd (cc)
     later c m k t go (Closed j) is h =
@@ -90,18 +115,29 @@ closed_at e zero (b ∷ bs) n h = by (char_at (b ∷ bs)) refl (λ f k m g. clos
         let s = char_size (b ∷ bs) c m k in
         let g = go (escapes e c) (pred m) j is in
         let same : drop (pred m) bs ≡ drop m (b ∷ bs) = sym (drop_pred m b bs s.0) in
-        let there : Behind (escapes e c) (take j (drop m (b ∷ bs))) = subst (λ (q : List ℕ). Behind (escapes e c) (take j q)) same g.0 in
+        let there : Behind (escapes e c) (take j (drop m (b ∷ bs))) =
+        subst (λ (q : List ℕ). Behind (escapes e c) (take j q)) same g.0 in
         let far : length (drop m (b ∷ bs)) ≡ length (b ∷ bs) - m = length-drop m (b ∷ bs) in
-        let near : length (drop (pred m) bs) ≡ length (drop m (b ∷ bs)) = ap length same in
-        (subst (λ q. Behind e (take q (b ∷ bs))) size (plain_behind b bs c m j k e e (eqb c 92) t refl refl there), omega (arith, size, g.1, far, near, s.1))
+        let near : length (drop (pred m) bs) ≡ length (drop m (b ∷ bs)) = ap length same in (
+          subst (λ q. Behind e (take q (b ∷ bs))) size
+              (plain_behind b bs c m j k e e (eqb c 92) t refl refl there),
+          omega (arith, size, g.1, far, near, s.1),
+        )
 
-    test : (c m : ℕ) → char_at (b ∷ bs) ≡ Char c m → ((f : Bool) (k j : ℕ) → closing f k bs ≡ Closed j → ClosedAt f (drop k bs) j) → (v : Bool) → closes e c ≡ v → cond v (Closed m) (longer m (closing (escapes e c) (pred m) bs)) ≡ Closed n → ClosedAt e (b ∷ bs) n
+    test : (c m : ℕ) → char_at (b ∷ bs) ≡ Char c m →
+        ((f : Bool) (k j : ℕ) → closing f k bs ≡ Closed j → ClosedAt f (drop k bs) j) → (v : Bool) →
+        closes e c ≡ v → cond v (Closed m) (longer m (closing (escapes e c) (pred m) bs)) ≡ Closed n
+        → ClosedAt e (b ∷ bs) n
     test c m k go true t h =
-        let size : m ≡ n = cc in
-        (subst (λ q. Behind e (take q (b ∷ bs))) size (close_behind e b bs c m k t), omega (arith, size, (char_size (b ∷ bs) c m k).1))
+        let size : m ≡ n = cc in (
+          subst (λ q. Behind e (take q (b ∷ bs))) size (close_behind e b bs c m k t),
+          omega (arith, size, (char_size (b ∷ bs) c m k).1),
+        )
     test c m k go false t h = later c m k t go (closing (escapes e c) (pred m) bs) refl h
 
-    by : (f : Front) → char_at (b ∷ bs) ≡ f → ((f : Bool) (k j : ℕ) → closing f k bs ≡ Closed j → ClosedAt f (drop k bs) j) → closing_by e f (λ v skip. closing v skip bs) ≡ Closed n → ClosedAt e (b ∷ bs) n
+    by : (f : Front) → char_at (b ∷ bs) ≡ f →
+        ((f : Bool) (k j : ℕ) → closing f k bs ≡ Closed j → ClosedAt f (drop k bs) j) →
+        closing_by e f (λ v skip. closing v skip bs) ≡ Closed n → ClosedAt e (b ∷ bs) n
     by Part k go h = absurd (cc)
     by NotChar k go h = absurd (cc)
     by (Char c m) k go h = test c m k go (closes e c) refl h
@@ -116,13 +152,18 @@ unfolding blank_supers
 none_row dialect = nothing refl refl
 
 white_row : (b : ℕ) (bs : List ℕ) → is_white b ≡ true → BlankRow bs → BlankRow (b ∷ bs)
-white_row b bs w h dialect = piece (b ∷ []) bs [] (blank_supers 0 bs) (white b refl w refl) (h dialect) refl (supers_other b bs (white_other b w))
+white_row b bs w h dialect =
+    piece (b ∷ []) bs [] (blank_supers 0 bs) (white b refl w refl) (h dialect) refl
+    (supers_other b bs (white_other b w))
 
 super_row : (inner bs : List ℕ) → IsToBracket inner → BlankRow bs → BlankRow (91 ∷ (inner ++ bs))
 super_row inner bs t h dialect =
     let own : IsSuperblank (91 ∷ inner) = record { rest = inner; begins = refl; goes_on = t } in
-    let all : blank_supers 0 (91 ∷ (inner ++ bs)) ≡ (91 ∷ inner) ∷ blank_supers 0 bs = supers_closed (inner ++ bs) (length inner) (to_bracket inner t bs) ∙ rw (take-append_seam inner bs, drop-append_seam inner bs) refl in
-    piece (91 ∷ inner) bs ((91 ∷ inner) ∷ []) (blank_supers 0 bs) (superblank own refl) (h dialect) refl all
+    let all : blank_supers 0 (91 ∷ (inner ++ bs)) ≡ (91 ∷ inner) ∷ blank_supers 0 bs =
+    supers_closed (inner ++ bs) (length inner) (to_bracket inner t bs)
+    ∙ rw (take-append_seam inner bs, drop-append_seam inner bs) refl in
+    piece (91 ∷ inner) bs ((91 ∷ inner) ∷ []) (blank_supers 0 bs) (superblank own refl)
+    (h dialect) refl all
 
 abbrev RunRow : List ℕ → Run → Type 0
 RunRow bs Open = BlankRow bs
@@ -130,23 +171,35 @@ RunRow bs Inside = Unit {0}
 RunRow bs BadChar = Unit {0}
 RunRow bs (Done n) = BlankRow (take n bs) × (n ≤ length bs)
 
-white_run : (b : ℕ) (bs : List ℕ) (r : Run) → is_white b ≡ true → RunRow bs r → RunRow (b ∷ bs) (further 1 r)
+white_run : (b : ℕ) (bs : List ℕ) (r : Run) → is_white b ≡ true → RunRow bs r →
+    RunRow (b ∷ bs) (further 1 r)
 white_run b bs Open w h = white_row b bs w h
 white_run b bs Inside w h = tt
 white_run b bs BadChar w h = tt
-white_run b bs (Done n) w h = let size : 1 + n ≡ suc n = omega arith in (subst (λ q. BlankRow (take q (b ∷ bs))) (sym size) (white_row b (take n bs) w h.0), omega (arith, h.1))
+white_run b bs (Done n) w h = let size : 1 + n ≡ suc n = omega arith in (
+  subst (λ q. BlankRow (take q (b ∷ bs))) (sym size) (white_row b (take n bs) w h.0),
+  omega (arith, h.1),
+)
 
-super_run : (bs : List ℕ) (n : ℕ) (r : Run) → closing false 0 bs ≡ Closed n → RunRow (drop n bs) r → RunRow (91 ∷ bs) (further 1 (further n r))
-super_run bs n Open e h = let c = closed_at false 0 bs n e in subst (λ (q : List ℕ). BlankRow (91 ∷ q)) (take-append-drop n bs) (super_row (take n bs) (drop n bs) c.0 h)
+super_run : (bs : List ℕ) (n : ℕ) (r : Run) → closing false 0 bs ≡ Closed n → RunRow (drop n bs) r →
+    RunRow (91 ∷ bs) (further 1 (further n r))
+super_run bs n Open e h = let c = closed_at false 0 bs n e in
+    subst (λ (q : List ℕ). BlankRow (91 ∷ q)) (take-append-drop n bs)
+    (super_row (take n bs) (drop n bs) c.0 h)
 super_run bs n Inside e h = tt
 super_run bs n BadChar e h = tt
 super_run bs n (Done m) e h =
     let c = closed_at false 0 bs n e in
     let size : suc (n + m) ≡ 1 + (n + m) = omega arith in
-    let l = length-drop n bs in
-    (subst (λ q. BlankRow (take q (91 ∷ bs))) size (subst (λ (q : List ℕ). BlankRow (91 ∷ q)) (sym (take-add n m bs)) (super_row (take n bs) (take m (drop n bs)) c.0 h.0)), omega (arith, l, c.1, h.1))
+    let l = length-drop n bs in (
+      subst (λ q. BlankRow (take q (91 ∷ bs))) size
+          (subst (λ (q : List ℕ). BlankRow (91 ∷ q)) (sym (take-add n m bs))
+          (super_row (take n bs) (take m (drop n bs)) c.0 h.0)),
+      omega (arith, l, c.1, h.1),
+    )
 
-run_cond : (bs : List ℕ) (v : Bool) (r s : Run) → (v ≡ true → RunRow bs r) → (v ≡ false → RunRow bs s) → RunRow bs (cond v r s)
+run_cond : (bs : List ℕ) (v : Bool) (r s : Run) → (v ≡ true → RunRow bs r) →
+    (v ≡ false → RunRow bs s) → RunRow bs (cond v r s)
 run_cond bs true r s h k = h refl
 run_cond bs false r s h k = k refl
 
@@ -155,17 +208,27 @@ unfolding blank
 run_row zero [] = none_row
 run_row (suc skip) [] = none_row
 run_row (suc skip) (b ∷ bs) = run_row skip bs
-run_row zero (b ∷ bs) = run_cond (b ∷ bs) (is_white b) (further 1 (blank 0 bs)) _ (λ w. white_run b bs (blank 0 bs) w (run_row 0 bs))
-    (λ _. run_cond (b ∷ bs) (eqb b 91) (further 1 (behind_close (closing false 0 bs) (λ n. blank n bs))) (Done 0) (λ e. bracket (eqb-true b 91 e) (closing false 0 bs) refl (λ n. run_row n bs)) (λ _. (none_row, omega arith)))
+run_row zero (b ∷ bs) = run_cond (b ∷ bs) (is_white b) (further 1 (blank 0 bs)) _
+    (λ w. white_run b bs (blank 0 bs) w (run_row 0 bs))
+    (λ _. run_cond (b ∷ bs) (eqb b 91)
+    (further 1 (behind_close (closing false 0 bs) (λ n. blank n bs))) (Done 0)
+    (λ e. bracket (eqb-true b 91 e) (closing false 0 bs) refl (λ n. run_row n bs))
+    (λ _. (none_row, omega arith)))
   where
-    bracket : b ≡ 91 → (c : Close) → closing false 0 bs ≡ c → ((n : ℕ) → RunRow (drop n bs) (blank n bs)) → RunRow (b ∷ bs) (further 1 (behind_close c (λ n. blank n bs)))
+    bracket : b ≡ 91 → (c : Close) → closing false 0 bs ≡ c →
+        ((n : ℕ) → RunRow (drop n bs) (blank n bs)) →
+        RunRow (b ∷ bs) (further 1 (behind_close c (λ n. blank n bs)))
     bracket is Within e go = tt
     bracket is Bad e go = tt
-    bracket is (Closed n) e go = subst (λ q. RunRow (q ∷ bs) (further 1 (further n (blank n bs)))) (sym is) (super_run bs n (blank n bs) e (go n))
+    bracket is (Closed n) e go =
+        subst (λ q. RunRow (q ∷ bs) (further 1 (further n (blank n bs)))) (sym is)
+        (super_run bs n (blank n bs) e (go n))
 
 -- an item that is read, and its bytes
 abbrev pub IsRow : Dialect → Item → List ℕ → Type 0
-IsRow dialect (item.Plain c) bytes = IsCode c.letter × (c.escaped ≡ false → is_bare dialect c.letter ≡ true) × (bytes ≡ character_bytes c)
+IsRow dialect (item.Plain c) bytes =
+    IsCode c.letter × (c.escaped ≡ false → is_bare dialect c.letter ≡ true)
+    × (bytes ≡ character_bytes c)
 IsRow dialect (item.Blank blank) bytes = (blank ≡ bytes) × BlankRow bytes
 IsRow dialect (item.Unit words) bytes = IsUnit dialect bytes × AreWords dialect words
 IsRow dialect (item.Chunk c) bytes = ⊥
@@ -175,11 +238,14 @@ FirstRow dialect bs Needs = Unit {0}
 FirstRow dialect bs (Whole thing n) = IsRow dialect thing (take n bs) × (0 < n) × (n ≤ length bs)
 FirstRow dialect bs (Faulty kind) = Unit {0}
 
-row_cond : (dialect : Dialect) (bs : List ℕ) (v : Bool) (f g : First) → (v ≡ true → FirstRow dialect bs f) → (v ≡ false → FirstRow dialect bs g) → FirstRow dialect bs (cond v f g)
+row_cond : (dialect : Dialect) (bs : List ℕ) (v : Bool) (f g : First) →
+    (v ≡ true → FirstRow dialect bs f) → (v ≡ false → FirstRow dialect bs g) →
+    FirstRow dialect bs (cond v f g)
 row_cond dialect bs true f g h k = h refl
 row_cond dialect bs false f g h k = k refl
 
-pub blank_some : (b : ℕ) (bs : List ℕ) (n : ℕ) → begins_blank b ≡ true → blank 0 (b ∷ bs) ≡ Done n → 0 < n
+pub blank_some : (b : ℕ) (bs : List ℕ) (n : ℕ) → begins_blank b ≡ true →
+    blank 0 (b ∷ bs) ≡ Done n → 0 < n
 unfolding blank
 blank_some b bs n begins h = by_white (is_white b) (eqb b 91) begins h
   where
@@ -189,46 +255,76 @@ blank_some b bs n begins h = by_white (is_white b) (eqb b 91) begins h
     more BadChar h = absurd (cc)
     more (Done m) h = let size : 1 + m ≡ n = cc in omega (arith, size)
 
-    by_white : (v w : Bool) → (v || w) ≡ true → cond v (further 1 (blank 0 bs)) (cond w (further 1 (behind_close (closing false 0 bs) (λ n. blank n bs))) (Done 0)) ≡ Done n → 0 < n
+    by_white : (v w : Bool) → (v || w) ≡ true →
+        cond v (further 1 (blank 0 bs))
+        (cond w (further 1 (behind_close (closing false 0 bs) (λ n. blank n bs))) (Done 0))
+        ≡ Done n → 0 < n
     by_white true w t h = more (blank 0 bs) h
     by_white false true t h = more (behind_close (closing false 0 bs) (λ n. blank n bs)) h
     by_white false false t h = absurd (cc)
 
-row_run : (dialect : Dialect) (b : ℕ) (bs : List ℕ) (r : Run) → begins_blank b ≡ true → blank 0 (b ∷ bs) ≡ r → RunRow (b ∷ bs) r → FirstRow dialect (b ∷ bs) (of_run (b ∷ bs) r)
+row_run : (dialect : Dialect) (b : ℕ) (bs : List ℕ) (r : Run) → begins_blank b ≡ true →
+    blank 0 (b ∷ bs) ≡ r → RunRow (b ∷ bs) r → FirstRow dialect (b ∷ bs) (of_run (b ∷ bs) r)
 row_run dialect b bs Open t e h = tt
 row_run dialect b bs Inside t e h = tt
 row_run dialect b bs BadChar t e h = tt
 row_run dialect b bs (Done n) t e h = ((refl, h.0), blank_some b bs n t e, h.1)
 
-row_escaped : (dialect : Dialect) (b : ℕ) (bs : List ℕ) (f : Front) → b ≡ 92 → char_at bs ≡ f → FirstRow dialect (b ∷ bs) (of_escaped f)
+row_escaped : (dialect : Dialect) (b : ℕ) (bs : List ℕ) (f : Front) → b ≡ 92 → char_at bs ≡ f →
+    FirstRow dialect (b ∷ bs) (of_escaped f)
 row_escaped dialect b bs Part is e = tt
 row_escaped dialect b bs NotChar is e = tt
 row_escaped dialect b bs (Char c n) is e =
     let grown : 1 + n ≡ suc n = omega arith in
-    let s = char_size bs c n e in
-    ((char_code bs c n e, λ u. absurd (cc), ap (λ q. take q (b ∷ bs)) grown ∙ ap (λ q. q ∷ take n bs) is ∙ ap (λ (q : List ℕ). 92 ∷ q) (sym (char_bytes bs c n e))), omega arith, omega (arith, s.1))
+    let s = char_size bs c n e in (
+      (
+        char_code bs c n e,
+        λ u. absurd (cc),
+        ap (λ q. take q (b ∷ bs)) grown
+            ∙ ap (λ q. q ∷ take n bs) is ∙ ap (λ (q : List ℕ). 92 ∷ q) (sym (char_bytes bs c n e)),
+      ),
+      omega arith,
+      omega (arith, s.1),
+    )
 
-row_char : (dialect : Dialect) (b : ℕ) (bs : List ℕ) (f : Front) → begins_blank b ≡ false → eqb b 92 ≡ false → begins_unit dialect b ≡ false → char_at (b ∷ bs) ≡ f → FirstRow dialect (b ∷ bs) (of_char dialect f)
+row_char : (dialect : Dialect) (b : ℕ) (bs : List ℕ) (f : Front) → begins_blank b ≡ false →
+    eqb b 92 ≡ false → begins_unit dialect b ≡ false → char_at (b ∷ bs) ≡ f →
+    FirstRow dialect (b ∷ bs) (of_char dialect f)
 row_char dialect b bs Part u v w e = tt
 row_char dialect b bs NotChar u v w e = tt
-row_char dialect b bs (Char c n) u v w e = row_cond dialect (b ∷ bs) (is_refused dialect c) (Faulty (OfKind Stray)) (Whole (plain_item c false) n) (λ _. tt)
+row_char dialect b bs (Char c n) u v w e =
+    row_cond dialect (b ∷ bs) (is_refused dialect c) (Faulty (OfKind Stray))
+    (Whole (plain_item c false) n) (λ _. tt)
     (λ r. (
       (
         char_code (b ∷ bs) c n e,
-        λ _. free_bare dialect c (record { blank = sym (same_test begins_blank low_blank b bs c n e) ∙ u; escape = sym (same_test (λ z. eqb z 92) low_escape b bs c n e) ∙ v; unit = sym (same_test (begins_unit dialect) (low_unit dialect) b bs c n e) ∙ w; refused = r }),
+        λ _. free_bare dialect c
+            (record {
+              blank = sym (same_test begins_blank low_blank b bs c n e) ∙ u;
+              escape =
+                  sym (same_test (λ z. eqb z 92) low_escape b bs c n e) ∙ v;
+              unit =
+                  sym (same_test (begins_unit dialect) (low_unit dialect) b bs c n e) ∙ w;
+              refused = r;
+            }),
         sym (char_bytes (b ∷ bs) c n e),
       ),
       (char_size (b ∷ bs) c n e).0,
       (char_size (b ∷ bs) c n e).1,
     ))
 
-row_unit : (dialect : Dialect) (bs : List ℕ) (words : List (List Symbol)) (n : ℕ) → first dialect bs ≡ Whole (item.Unit words) n → FirstRow dialect bs (Whole (item.Unit words) n)
+row_unit : (dialect : Dialect) (bs : List ℕ) (words : List (List Symbol)) (n : ℕ) →
+    first dialect bs ≡ Whole (item.Unit words) n → FirstRow dialect bs (Whole (item.Unit words) n)
 row_unit dialect bs words n e =
     let c = unit_cut dialect bs words n e in
-    let alone : first dialect (take n bs) ≡ Whole (item.Unit words) (length (take n bs)) = ap (first dialect) (sym (append-nil (take n bs))) ∙ unit_always dialect (take n bs) words c.0 [] in
+    let alone : first dialect (take n bs) ≡ Whole (item.Unit words) (length (take n bs)) =
+    ap (first dialect) (sym (append-nil (take n bs)))
+    ∙ unit_always dialect (take n bs) words c.0 [] in
     ((record { words = words; read = alone }, unit_words dialect bs words n e), c.1, c.2)
 
-unit_row : (dialect : Dialect) (b : ℕ) (bs : List ℕ) → begins_blank b ≡ false → eqb b 92 ≡ false → begins_unit dialect b ≡ true → FirstRow dialect (b ∷ bs) (of_unit (rest (form_of dialect) [] [] 0 bs))
+unit_row : (dialect : Dialect) (b : ℕ) (bs : List ℕ) → begins_blank b ≡ false → eqb b 92 ≡ false →
+    begins_unit dialect b ≡ true →
+    FirstRow dialect (b ∷ bs) (of_unit (rest (form_of dialect) [] [] 0 bs))
 unfolding first
 unit_row dialect b bs u v w = by (rest (form_of dialect) [] [] 0 bs) refl
   where
@@ -240,12 +336,19 @@ unit_row dialect b bs u v w = by (rest (form_of dialect) [] [] 0 bs) refl
 first_row : (dialect : Dialect) (bs : List ℕ) → FirstRow dialect bs (first dialect bs)
 unfolding first
 first_row dialect [] = tt
-first_row dialect (b ∷ bs) = row_cond dialect (b ∷ bs) (begins_blank b) (of_run (b ∷ bs) (blank 0 (b ∷ bs))) _ (λ t. row_run dialect b bs (blank 0 (b ∷ bs)) t refl (run_row 0 (b ∷ bs)))
-    (λ u. row_cond dialect (b ∷ bs) (eqb b 92) (of_escaped (char_at bs)) _ (λ t. row_escaped dialect b bs (char_at bs) (eqb-true b 92 t) refl)
-    (λ v. row_cond dialect (b ∷ bs) (begins_unit dialect b) (of_unit (rest (form_of dialect) [] [] 0 bs)) (of_char dialect (char_at (b ∷ bs))) (λ t. unit_row dialect b bs u v t) (λ w. row_char dialect b bs (char_at (b ∷ bs)) u v w refl)))
+first_row dialect (b ∷ bs) =
+    row_cond dialect (b ∷ bs) (begins_blank b) (of_run (b ∷ bs) (blank 0 (b ∷ bs))) _
+    (λ t. row_run dialect b bs (blank 0 (b ∷ bs)) t refl (run_row 0 (b ∷ bs)))
+    (λ u. row_cond dialect (b ∷ bs) (eqb b 92) (of_escaped (char_at bs)) _
+    (λ t. row_escaped dialect b bs (char_at bs) (eqb-true b 92 t) refl)
+    (λ v. row_cond dialect (b ∷ bs) (begins_unit dialect b)
+    (of_unit (rest (form_of dialect) [] [] 0 bs)) (of_char dialect (char_at (b ∷ bs)))
+    (λ t. unit_row dialect b bs u v t)
+    (λ w. row_char dialect b bs (char_at (b ∷ bs)) u v w refl)))
 
 -- within the limit
-widen : (dialect : Dialect) (k : ℕ) (bs : List ℕ) (f : First) → FirstRow dialect (take k bs) f → FirstRow dialect bs f
+widen : (dialect : Dialect) (k : ℕ) (bs : List ℕ) (f : First) → FirstRow dialect (take k bs) f →
+    FirstRow dialect bs f
 widen dialect k bs Needs h = tt
 widen dialect k bs (Faulty kind) h = tt
 widen dialect k bs (Whole thing n) h =
@@ -253,21 +356,29 @@ widen dialect k bs (Whole thing n) h =
     let same : take n (take k bs) ≡ take n bs = take-take n k bs (omega (arith, l, h.2)) in
     (subst (λ (q : List ℕ). IsRow dialect thing q) same h.0, h.1, omega (arith, l, h.2))
 
-limit_row : (dialect : Dialect) (most : ℕ) (bs : List ℕ) (f : First) → FirstRow dialect bs f → FirstRow dialect bs (at_limit most f)
+limit_row : (dialect : Dialect) (most : ℕ) (bs : List ℕ) (f : First) → FirstRow dialect bs f →
+    FirstRow dialect bs (at_limit most f)
 limit_row dialect most bs Needs h = tt
-limit_row dialect most bs (Whole thing n) h = row_cond dialect bs (leb n most) (Whole thing n) (Faulty (Past ItemTooLong)) (λ _. h) (λ _. tt)
+limit_row dialect most bs (Whole thing n) h =
+    row_cond dialect bs (leb n most) (Whole thing n) (Faulty (Past ItemTooLong)) (λ _. h) (λ _. tt)
 limit_row dialect most bs (Faulty kind) h = tt
 
-past_row : (dialect : Dialect) (most : ℕ) (bs : List ℕ) (f g : First) → FirstRow dialect bs f → FirstRow dialect bs g → FirstRow dialect bs (past most f g)
+past_row : (dialect : Dialect) (most : ℕ) (bs : List ℕ) (f g : First) → FirstRow dialect bs f →
+    FirstRow dialect bs g → FirstRow dialect bs (past most f g)
 past_row dialect most bs Needs g h k = limit_row dialect most bs g k
 past_row dialect most bs (Whole thing n) g h k = h
 past_row dialect most bs (Faulty kind) g h k = tt
 
-limited_row : (dialect : Dialect) (most : ℕ) (bs : List ℕ) → FirstRow dialect bs (limited most dialect bs)
+limited_row : (dialect : Dialect) (most : ℕ) (bs : List ℕ) →
+    FirstRow dialect bs (limited most dialect bs)
 unfolding limited
-limited_row dialect most bs = row_cond dialect bs (leb (length bs) most) (first dialect bs) _ (λ _. first_row dialect bs)
-    (λ _. past_row dialect most bs (first dialect (take most bs)) (first dialect (take (suc most) bs)) (widen dialect most bs (first dialect (take most bs)) (first_row dialect (take most bs)))
-    (widen dialect (suc most) bs (first dialect (take (suc most) bs)) (first_row dialect (take (suc most) bs))))
+limited_row dialect most bs =
+    row_cond dialect bs (leb (length bs) most) (first dialect bs) _ (λ _. first_row dialect bs)
+    (λ _. past_row dialect most bs (first dialect (take most bs))
+    (first dialect (take (suc most) bs))
+    (widen dialect most bs (first dialect (take most bs)) (first_row dialect (take most bs)))
+    (widen dialect (suc most) bs (first dialect (take (suc most) bs))
+    (first_row dialect (take (suc most) bs))))
 
 -- at the end of the text
 abbrev LastRow : Dialect → List ℕ → Last → Type 0
@@ -285,51 +396,79 @@ last_row dialect (b ∷ bs) = by_cond (begins_blank b) (run (blank 0 (b ∷ bs))
     run BadChar h = tt
     run (Done n) h = tt
 
-    by_cond : (v : Bool) → LastRow dialect (b ∷ bs) (last_run (b ∷ bs) (blank 0 (b ∷ bs))) → LastRow dialect (b ∷ bs) (cond v (last_run (b ∷ bs) (blank 0 (b ∷ bs))) (Broken (OfKind Unfinished)))
+    by_cond : (v : Bool) → LastRow dialect (b ∷ bs) (last_run (b ∷ bs) (blank 0 (b ∷ bs))) →
+        LastRow dialect (b ∷ bs)
+        (cond v (last_run (b ∷ bs) (blank 0 (b ∷ bs))) (Broken (OfKind Unfinished)))
     by_cond true h = h
     by_cond false h = tt
 
 -- the text is the bytes of the items, one after another
 abbrev pub Rows : Dialect → List ℕ → List Read → Type 0
 Rows dialect text [] = text ≡ []
-Rows dialect text (read ∷ reads) = (front : List ℕ) × (rest : List ℕ) × IsRow dialect read.item front × Rows dialect rest reads × (text ≡ front ++ rest)
+Rows dialect text (read ∷ reads) = (front : List ℕ) × (rest : List ℕ)
+    × IsRow dialect read.item front × Rows dialect rest reads × (text ≡ front ++ rest)
 
-walk_rows : (dialect : Dialect) (place skip : ℕ) (bs : List ℕ) → (walk dialect place skip bs).stop ≡ None → Rows dialect (drop skip bs) (walk dialect place skip bs).items
+walk_rows : (dialect : Dialect) (place skip : ℕ) (bs : List ℕ) → (walk dialect place skip bs).stop
+    ≡ None → Rows dialect (drop skip bs) (walk dialect place skip bs).items
 unfolding walk
 walk_rows dialect place zero [] h = refl
 walk_rows dialect place (suc skip) [] h = refl
 walk_rows dialect place (suc skip) (b ∷ bs) h = walk_rows dialect place skip bs h
-walk_rows dialect place zero (b ∷ bs) h = by (limited item_max dialect (b ∷ bs)) (limited_row dialect item_max (b ∷ bs)) (λ at k e. walk_rows dialect at k bs e) h
+walk_rows dialect place zero (b ∷ bs) h =
+    by (limited item_max dialect (b ∷ bs)) (limited_row dialect item_max (b ∷ bs))
+    (λ at k e. walk_rows dialect at k bs e) h
   where
-    end : (l : Last) → LastRow dialect (b ∷ bs) l → (at_end place (b ∷ bs) l).stop ≡ None → Rows dialect (b ∷ bs) (at_end place (b ∷ bs) l).items
+    end : (l : Last) → LastRow dialect (b ∷ bs) l → (at_end place (b ∷ bs) l).stop ≡ None →
+        Rows dialect (b ∷ bs) (at_end place (b ∷ bs) l).items
     end (Complete thing) r h = (b ∷ bs, [], r, refl, sym (append-nil (b ∷ bs)))
     end (Broken kind) r h = absurd (cc)
 
-    by : (f : First) → FirstRow dialect (b ∷ bs) f → ((at k : ℕ) → (walk dialect at k bs).stop ≡ None → Rows dialect (drop k bs) (walk dialect at k bs).items)
-        → (walked place (b ∷ bs) f (λ at k. walk dialect at k bs)).stop ≡ None → Rows dialect (b ∷ bs) (walked place (b ∷ bs) f (λ at k. walk dialect at k bs)).items
+    by : (f : First) → FirstRow dialect (b ∷ bs) f →
+        ((at k : ℕ) → (walk dialect at k bs).stop ≡ None →
+        Rows dialect (drop k bs) (walk dialect at k bs).items)
+        → (walked place (b ∷ bs) f (λ at k. walk dialect at k bs)).stop ≡ None →
+        Rows dialect (b ∷ bs) (walked place (b ∷ bs) f (λ at k. walk dialect at k bs)).items
     by Needs r go h = end (last (b ∷ bs)) (last_row dialect (b ∷ bs)) h
     by (Whole thing n) r go h =
-        let same : drop n (b ∷ bs) ≡ drop (pred n) bs = drop_pred n b bs r.1 in
-        (take n (b ∷ bs), drop (pred n) bs, r.0, go (counted (place + n)) (pred n) h, sym (ap (λ (q : List ℕ). take n (b ∷ bs) ++ q) (sym same) ∙ take-append-drop n (b ∷ bs)))
+        let same : drop n (b ∷ bs) ≡ drop (pred n) bs = drop_pred n b bs r.1 in (
+          take n (b ∷ bs),
+          drop (pred n) bs,
+          r.0,
+          go (counted (place + n)) (pred n) h,
+          sym (ap (λ (q : List ℕ). take n (b ∷ bs) ++ q) (sym same)
+              ∙ take-append-drop n (b ∷ bs)),
+        )
     by (Faulty kind) r go h = absurd (cc)
 
-pub reads_rows : (dialect : Dialect) (place : ℕ) (text : List ℕ) → (reads dialect place text).stop ≡ None → Rows dialect text (reads dialect place text).items
+pub reads_rows : (dialect : Dialect) (place : ℕ) (text : List ℕ) → (reads dialect place text).stop
+    ≡ None → Rows dialect text (reads dialect place text).items
 unfolding reads
 reads_rows dialect place text h = walk_rows dialect place 0 text h
 
 -- the superblanks of an item
-pub row_has : (dialect : Dialect) (thing : Item) (bytes : List ℕ) → IsRow dialect thing bytes → HasSuperblanks dialect bytes (item_supers thing)
-row_has dialect (item.Plain c) bytes h = one_piece dialect bytes [] (plain (record { character = c; code = h.0; allowed = h.1; spelled = h.2 }) refl)
-row_has dialect (item.Blank all) bytes h = subst (λ (q : List ℕ). HasSuperblanks dialect bytes (blank_supers 0 q)) (sym h.0) (h.1 dialect)
+pub row_has : (dialect : Dialect) (thing : Item) (bytes : List ℕ) → IsRow dialect thing bytes →
+    HasSuperblanks dialect bytes (item_supers thing)
+row_has dialect (item.Plain c) bytes h =
+    one_piece dialect bytes []
+    (plain (record { character = c; code = h.0; allowed = h.1; spelled = h.2 }) refl)
+row_has dialect (item.Blank all) bytes h =
+    subst (λ (q : List ℕ). HasSuperblanks dialect bytes (blank_supers 0 q)) (sym h.0) (h.1 dialect)
 row_has dialect (item.Unit words) bytes h = one_piece dialect bytes [] (unit h.0 refl)
 row_has dialect (item.Chunk c) bytes h = absurd h
 
-pub rows_have : (dialect : Dialect) (text : List ℕ) (items : List Read) → Rows dialect text items → HasSuperblanks dialect text (supers_of items)
+pub rows_have : (dialect : Dialect) (text : List ℕ) (items : List Read) → Rows dialect text items →
+    HasSuperblanks dialect text (supers_of items)
 rows_have dialect text [] h = nothing h refl
 rows_have dialect text (read ∷ items) h =
-    let all : HasSuperblanks dialect (h.0 ++ h.1) (item_supers read.item ++ supers_of items) = joined dialect h.0 h.1 (item_supers read.item) (supers_of items) (row_has dialect read.item h.0 h.2) (rows_have dialect h.1 items h.3) in
-    let list : supers_of (read ∷ items) ≡ item_supers read.item ++ supers_of items = flat_map-cons (λ (r : Read). item_supers r.item) read items in
-    subst (λ (q : List ℕ). HasSuperblanks dialect q (supers_of (read ∷ items))) (sym h.4) (subst (λ (q : List (List ℕ)). HasSuperblanks dialect (h.0 ++ h.1) q) (sym list) all)
+    let all : HasSuperblanks dialect (h.0 ++ h.1) (item_supers read.item ++ supers_of items) =
+    joined dialect h.0 h.1 (item_supers read.item) (supers_of items)
+    (row_has dialect read.item h.0 h.2) (rows_have dialect h.1 items h.3) in
+    let list : supers_of (read ∷ items) ≡ item_supers read.item ++ supers_of items =
+    flat_map-cons (λ (r : Read). item_supers r.item) read items in
+    subst (λ (q : List ℕ). HasSuperblanks dialect q (supers_of (read ∷ items))) (sym h.4)
+    (subst (λ (q : List (List ℕ)). HasSuperblanks dialect (h.0 ++ h.1) q) (sym list) all)
 
-pub reads_have : (dialect : Dialect) (place : ℕ) (text : List ℕ) → (reads dialect place text).stop ≡ None → HasSuperblanks dialect text (supers_of (reads dialect place text).items)
-reads_have dialect place text h = rows_have dialect text (reads dialect place text).items (reads_rows dialect place text h)
+pub reads_have : (dialect : Dialect) (place : ℕ) (text : List ℕ) → (reads dialect place text).stop
+    ≡ None → HasSuperblanks dialect text (supers_of (reads dialect place text).items)
+reads_have dialect place text h =
+    rows_have dialect text (reads dialect place text).items (reads_rows dialect place text h)

@@ -8,7 +8,8 @@ use Rattle.ap_stream.specs.Chars.{Front, Part, NotChar, Char, char_at, Stays, ch
 abbrev pub is_white : ℕ → Bool
 is_white b = eqb b 32 || (eqb b 9 || (eqb b 10 || eqb b 13))
 
--- how much of the bytes is a superblank behind its bracket: they end within it, or in a bad character, or it has so many bytes
+-- how much of the bytes is a superblank behind its bracket: they end within it, or in a bad
+-- character, or it has so many bytes
 pub data Close : Type 0 where
   Within : Close
   Bad : Close
@@ -30,7 +31,8 @@ escapes escaped c = not escaped && eqb c 92
 abbrev pub closing_by : Bool → Front → (Bool → ℕ → Close) → Close
 closing_by escaped Part more = Within
 closing_by escaped NotChar more = Bad
-closing_by escaped (Char c n) more = cond (closes escaped c) (Closed n) (longer n (more (escapes escaped c) (pred n)))
+closing_by escaped (Char c n) more =
+    cond (closes escaped c) (Closed n) (longer n (more (escapes escaped c) (pred n)))
 
 -- the rest of a superblank behind so many bytes, after a backslash or not
 unfoldable pub closing : Bool → ℕ → List ℕ → Close
@@ -38,7 +40,8 @@ closing escaped skip [] = Within
 closing escaped (suc skip) (b ∷ bs) = closing escaped skip bs
 closing escaped zero (b ∷ bs) = closing_by escaped (char_at (b ∷ bs)) (λ e skip. closing e skip bs)
 
--- how much of the bytes is a blank: all of them and it may go on, or they end within a superblank, or in a bad character, or it has so many bytes and another byte follows
+-- how much of the bytes is a blank: all of them and it may go on, or they end within a superblank,
+-- or in a bad character, or it has so many bytes and another byte follows
 pub data Run : Type 0 where
   Open : Run
   Inside : Run
@@ -60,7 +63,8 @@ behind_close (Closed n) more = further n (more n)
 unfoldable pub blank : ℕ → List ℕ → Run
 blank skip [] = Open
 blank (suc skip) (b ∷ bs) = blank skip bs
-blank zero (b ∷ bs) = cond (is_white b) (further 1 (blank 0 bs)) (cond (eqb b 91) (further 1 (behind_close (closing false 0 bs) (λ n. blank n bs))) (Done 0))
+blank zero (b ∷ bs) = cond (is_white b) (further 1 (blank 0 bs))
+    (cond (eqb b 91) (further 1 (behind_close (closing false 0 bs) (λ n. blank n bs))) (Done 0))
 
 -- the laws that a reader goes by
 
@@ -92,7 +96,8 @@ blank_skip (suc n) (b ∷ bs) = blank_skip n bs
 abbrev pub inside : Bool → List ℕ → Run
 inside e bs = behind_close (closing e 0 bs) (λ n. blank n bs)
 
-pub blank_white : (b : ℕ) (bs : List ℕ) → is_white b ≡ true → blank 0 (b ∷ bs) ≡ further 1 (blank 0 bs)
+pub blank_white : (b : ℕ) (bs : List ℕ) → is_white b ≡ true →
+    blank 0 (b ∷ bs) ≡ further 1 (blank 0 bs)
 unfolding blank
 blank_white b bs h = rw h refl
 
@@ -100,23 +105,28 @@ pub blank_bracket : (bs : List ℕ) → blank 0 (91 ∷ bs) ≡ further 1 (insid
 unfolding blank
 blank_bracket bs = refl
 
-pub blank_done : (b : ℕ) (bs : List ℕ) → is_white b ≡ false → eqb b 91 ≡ false → blank 0 (b ∷ bs) ≡ Done 0
+pub blank_done : (b : ℕ) (bs : List ℕ) → is_white b ≡ false → eqb b 91 ≡ false →
+    blank 0 (b ∷ bs) ≡ Done 0
 unfolding blank
 blank_done b bs h k = rw (h, k) refl
 
-behind_longer : (n : ℕ) (c : Close) (f g : ℕ → Run) → ((k : ℕ) → f (n + k) ≡ g k) → behind_close (longer n c) f ≡ further n (behind_close c g)
+behind_longer : (n : ℕ) (c : Close) (f g : ℕ → Run) → ((k : ℕ) → f (n + k) ≡ g k) →
+    behind_close (longer n c) f ≡ further n (behind_close c g)
 behind_longer n Within f g h = refl
 behind_longer n Bad f g h = refl
 behind_longer n (Closed m) f g h = ap (further (n + m)) (h m) ∙ sym (further_further n m (g m))
 
 blank_past : (p x : List ℕ) (k : ℕ) → blank (length p + k) (p ++ x) ≡ blank k x
-blank_past p x k = blank_skip (length p + k) (p ++ x) ∙ ap (blank 0) (drop-append-add p x k) ∙ sym (blank_skip k x)
+blank_past p x k = blank_skip (length p + k) (p ++ x) ∙ ap (blank 0) (drop-append-add p x k)
+    ∙ sym (blank_skip k x)
 
 pub blank_at : (p x : List ℕ) → blank (length p) (p ++ x) ≡ blank 0 x
 blank_at p x = blank_skip (length p) (p ++ x) ∙ ap (blank 0) (drop-append_seam p x)
 
-behind_by : (b : Bool) (n : ℕ) (k : Close) (f g : ℕ → Run) → ((m : ℕ) → f (n + m) ≡ g m) → (r : Run) → f n ≡ r →
-    behind_close (cond b (Closed n) (longer n k)) f ≡ cond b (further n r) (further n (behind_close k g))
+behind_by : (b : Bool) (n : ℕ) (k : Close) (f g : ℕ → Run) → ((m : ℕ) → f (n + m) ≡ g m) →
+    (r : Run) → f n ≡ r →
+    behind_close (cond b (Closed n) (longer n k)) f
+    ≡ cond b (further n r) (further n (behind_close k g))
 behind_by true n k f g h r e = ap (further n) e
 behind_by false n k f g h r e = behind_longer n k f g h
 
@@ -129,19 +139,28 @@ unfolding char_at
 no_bad h = cc
 
 -- the first character within a superblank
-closing_char : (e : Bool) (a : ℕ) (r x : List ℕ) (c : ℕ) → char_at (a ∷ r) ≡ Char c (length (a ∷ r)) →
-    closing e 0 (a ∷ (r ++ x)) ≡ cond (closes e c) (Closed (length (a ∷ r))) (longer (length (a ∷ r)) (closing (escapes e c) 0 x))
+closing_char : (e : Bool) (a : ℕ) (r x : List ℕ) (c : ℕ) →
+    char_at (a ∷ r) ≡ Char c (length (a ∷ r)) →
+    closing e 0 (a ∷ (r ++ x))
+    ≡ cond (closes e c) (Closed (length (a ∷ r)))
+    (longer (length (a ∷ r)) (closing (escapes e c) 0 x))
 unfolding closing
 closing_char e a r x c h =
     let there : char_at (a ∷ (r ++ x)) ≡ Char c (length (a ∷ r)) = rw h at (char_stays (a ∷ r) x) in
-    let on : closing (escapes e c) (length r) (r ++ x) ≡ closing (escapes e c) 0 x = closing_skip (escapes e c) (length r) (r ++ x) ∙ ap (closing (escapes e c) 0) (drop-append_seam r x) in
+    let on : closing (escapes e c) (length r) (r ++ x) ≡ closing (escapes e c) 0 x =
+    closing_skip (escapes e c) (length r) (r ++ x)
+    ∙ ap (closing (escapes e c) 0) (drop-append_seam r x) in
     rw (there, on) refl
 
 -- a character within a superblank
-pub inside_char : (e : Bool) (p x : List ℕ) (c : ℕ) → char_at p ≡ Char c (length p) → inside e (p ++ x) ≡ cond (closes e c) (further (length p) (blank 0 x)) (further (length p) (inside (escapes e c) x))
+pub inside_char : (e : Bool) (p x : List ℕ) (c : ℕ) → char_at p ≡ Char c (length p) →
+    inside e (p ++ x) ≡ cond (closes e c) (further (length p) (blank 0 x))
+    (further (length p) (inside (escapes e c) x))
 inside_char e [] x c h = absurd (no_char c 0 h)
 inside_char e (a ∷ r) x c h = rw (closing_char e a r x c h)
-    (behind_by (closes e c) (length (a ∷ r)) (closing (escapes e c) 0 x) (λ n. blank n (a ∷ (r ++ x))) (λ n. blank n x) (blank_past (a ∷ r) x) (blank 0 x) (blank_at (a ∷ r) x))
+    (behind_by (closes e c) (length (a ∷ r)) (closing (escapes e c) 0 x)
+    (λ n. blank n (a ∷ (r ++ x))) (λ n. blank n x) (blank_past (a ∷ r) x) (blank 0 x)
+    (blank_at (a ∷ r) x))
 
 pub inside_bad : (e : Bool) (p x : List ℕ) → char_at p ≡ NotChar → inside e (p ++ x) ≡ BadChar
 unfolding closing

@@ -14,7 +14,10 @@ is_tail b = leb 128 b && ltb b 192
 
 -- which second byte may follow a first one
 abbrev pub is_second : ℕ → ℕ → Bool
-is_second a b = is_tail b && (cond (eqb a 224) (leb 160 b) (cond (eqb a 237) (ltb b 160) (cond (eqb a 240) (leb 144 b) (cond (eqb a 244) (ltb b 144) true))))
+is_second a b = is_tail b
+    && (cond (eqb a 224) (leb 160 b)
+    (cond (eqb a 237) (ltb b 160)
+    (cond (eqb a 240) (leb 144 b) (cond (eqb a 244) (ltb b 144) true))))
 
 abbrev pub tail2 : ℕ → List ℕ → Front
 tail2 a [] = Part
@@ -23,18 +26,25 @@ tail2 a (b ∷ bs) = cond (is_tail b) (Char (64 * (a - 192) + (b - 128)) 2) NotC
 abbrev pub tail3 : ℕ → List ℕ → Front
 tail3 a [] = Part
 tail3 a (b ∷ []) = cond (is_second a b) Part NotChar
-tail3 a (b ∷ c ∷ bs) = cond (is_second a b) (cond (is_tail c) (Char (64 * (64 * (a - 224) + (b - 128)) + (c - 128)) 3) NotChar) NotChar
+tail3 a (b ∷ c ∷ bs) = cond (is_second a b)
+    (cond (is_tail c) (Char (64 * (64 * (a - 224) + (b - 128)) + (c - 128)) 3) NotChar) NotChar
 
 abbrev pub tail4 : ℕ → List ℕ → Front
 tail4 a [] = Part
 tail4 a (b ∷ []) = cond (is_second a b) Part NotChar
 tail4 a (b ∷ c ∷ []) = cond (is_second a b) (cond (is_tail c) Part NotChar) NotChar
-tail4 a (b ∷ c ∷ d ∷ bs) = cond (is_second a b) (cond (is_tail c) (cond (is_tail d) (Char (64 * (64 * (64 * (a - 240) + (b - 128)) + (c - 128)) + (d - 128)) 4) NotChar) NotChar) NotChar
+tail4 a (b ∷ c ∷ d ∷ bs) =
+    cond (is_second a b) (cond (is_tail c)
+    (cond (is_tail d) (Char (64 * (64 * (64 * (a - 240) + (b - 128)) + (c - 128)) + (d - 128)) 4)
+    NotChar) NotChar) NotChar
 
 -- a character by its first byte
 unfoldable pub char_at : List ℕ → Front
 char_at [] = Part
-char_at (a ∷ bs) = cond (ltb a 128) (Char a 1) (cond (ltb a 194) NotChar (cond (ltb a 224) (tail2 a bs) (cond (ltb a 240) (tail3 a bs) (cond (ltb a 245) (tail4 a bs) NotChar))))
+char_at (a ∷ bs) = cond (ltb a 128) (Char a 1)
+    (cond (ltb a 194) NotChar
+    (cond (ltb a 224) (tail2 a bs)
+    (cond (ltb a 240) (tail3 a bs) (cond (ltb a 245) (tail4 a bs) NotChar))))
 
 -- what is decided stays so, whatever follows
 abbrev pub Stays : Front → Front → Type 0
@@ -42,7 +52,8 @@ Stays Part g = Unit {0}
 Stays NotChar g = g ≡ NotChar
 Stays (Char c n) g = g ≡ Char c n
 
-stays_cond : (b : Bool) (f g f' g' : Front) → Stays f f' → Stays g g' → Stays (cond b f g) (cond b f' g')
+stays_cond : (b : Bool) (f g f' g' : Front) → Stays f f' → Stays g g' →
+    Stays (cond b f g) (cond b f' g')
 stays_cond true f g f' g' h k = h
 stays_cond false f g f' g' h k = k
 
@@ -70,14 +81,19 @@ stays4 a (b ∷ []) [] = stays_refl _
 stays4 a (b ∷ []) (c ∷ []) = stays_cond (is_second a b) Part NotChar _ NotChar tt refl
 stays4 a (b ∷ []) (c ∷ d ∷ x) = stays_cond (is_second a b) Part NotChar _ NotChar tt refl
 stays4 a (b ∷ c ∷ []) [] = stays_refl _
-stays4 a (b ∷ c ∷ []) (d ∷ x) = stays_cond (is_second a b) _ NotChar _ NotChar (stays_cond (is_tail c) Part NotChar _ NotChar tt refl) refl
+stays4 a (b ∷ c ∷ []) (d ∷ x) =
+    stays_cond (is_second a b) _ NotChar _ NotChar
+    (stays_cond (is_tail c) Part NotChar _ NotChar tt refl) refl
 stays4 a (b ∷ c ∷ d ∷ bs) x = stays_refl _
 
 pub char_stays : (p x : List ℕ) → Stays (char_at p) (char_at (p ++ x))
 unfolding char_at
 char_stays [] x = tt
-char_stays (a ∷ bs) x = stays_cond (ltb a 128) (Char a 1) _ (Char a 1) _ refl (stays_cond (ltb a 194) NotChar _ NotChar _ refl
-    (stays_cond (ltb a 224) _ _ _ _ (stays2 a bs x) (stays_cond (ltb a 240) _ _ _ _ (stays3 a bs x) (stays_cond (ltb a 245) _ NotChar _ NotChar (stays4 a bs x) refl))))
+char_stays (a ∷ bs) x = stays_cond (ltb a 128) (Char a 1) _ (Char a 1) _ refl
+    (stays_cond (ltb a 194) NotChar _ NotChar _ refl
+    (stays_cond (ltb a 224) _ _ _ _ (stays2 a bs x)
+    (stays_cond (ltb a 240) _ _ _ _ (stays3 a bs x)
+    (stays_cond (ltb a 245) _ NotChar _ NotChar (stays4 a bs x) refl))))
 
 -- a character has no more bytes than are there, and at least one
 abbrev pub Fits : Front → ℕ → Type 0
@@ -92,15 +108,37 @@ fits_cond false f g n h k = k
 pub char_fits : (p : List ℕ) → Fits (char_at p) (length p)
 unfolding char_at
 char_fits [] = tt
-char_fits (a ∷ []) = fits_cond (ltb a 128) _ _ _ (omega arith, omega arith) (fits_cond (ltb a 194) NotChar _ _ tt (fits_cond (ltb a 224) Part _ _ tt (fits_cond (ltb a 240) Part _ _ tt (fits_cond (ltb a 245) Part NotChar _ tt tt))))
-char_fits (a ∷ b ∷ []) = fits_cond (ltb a 128) _ _ _ (omega arith, omega arith) (fits_cond (ltb a 194) NotChar _ _ tt (fits_cond (ltb a 224) _ _ _ (fits_cond (is_tail b) _ NotChar _ (omega arith, omega arith) tt)
-    (fits_cond (ltb a 240) _ _ _ (fits_cond (is_second a b) Part NotChar _ tt tt) (fits_cond (ltb a 245) _ NotChar _ (fits_cond (is_second a b) Part NotChar _ tt tt) tt))))
-char_fits (a ∷ b ∷ c ∷ []) = fits_cond (ltb a 128) _ _ _ (omega arith, omega arith) (fits_cond (ltb a 194) NotChar _ _ tt (fits_cond (ltb a 224) _ _ _ (fits_cond (is_tail b) _ NotChar _ (omega arith, omega arith) tt)
-    (fits_cond (ltb a 240) _ _ _ (fits_cond (is_second a b) _ NotChar _ (fits_cond (is_tail c) _ NotChar _ (omega arith, omega arith) tt) tt)
-    (fits_cond (ltb a 245) _ NotChar _ (fits_cond (is_second a b) _ NotChar _ (fits_cond (is_tail c) Part NotChar _ tt tt) tt) tt))))
-char_fits (a ∷ b ∷ c ∷ d ∷ bs) = fits_cond (ltb a 128) _ _ _ (omega arith, omega arith) (fits_cond (ltb a 194) NotChar _ _ tt (fits_cond (ltb a 224) _ _ _ (fits_cond (is_tail b) _ NotChar _ (omega arith, omega arith) tt)
-    (fits_cond (ltb a 240) _ _ _ (fits_cond (is_second a b) _ NotChar _ (fits_cond (is_tail c) _ NotChar _ (omega arith, omega arith) tt) tt)
-    (fits_cond (ltb a 245) _ NotChar _ (fits_cond (is_second a b) _ NotChar _ (fits_cond (is_tail c) _ NotChar _ (fits_cond (is_tail d) _ NotChar _ (omega arith, omega arith) tt) tt) tt) tt))))
+char_fits (a ∷ []) = fits_cond (ltb a 128) _ _ _ (omega arith, omega arith)
+    (fits_cond (ltb a 194) NotChar _ _ tt
+    (fits_cond (ltb a 224) Part _ _ tt
+    (fits_cond (ltb a 240) Part _ _ tt (fits_cond (ltb a 245) Part NotChar _ tt tt))))
+char_fits (a ∷ b ∷ []) =
+    fits_cond (ltb a 128) _ _ _ (omega arith, omega arith)
+    (fits_cond (ltb a 194) NotChar _ _ tt
+    (fits_cond (ltb a 224) _ _ _ (fits_cond (is_tail b) _ NotChar _ (omega arith, omega arith) tt)
+    (fits_cond (ltb a 240) _ _ _ (fits_cond (is_second a b) Part NotChar _ tt tt)
+    (fits_cond (ltb a 245) _ NotChar _ (fits_cond (is_second a b) Part NotChar _ tt tt) tt))))
+char_fits (a ∷ b ∷ c ∷ []) =
+    fits_cond (ltb a 128) _ _ _ (omega arith, omega arith)
+    (fits_cond (ltb a 194) NotChar _ _ tt
+    (fits_cond (ltb a 224) _ _ _ (fits_cond (is_tail b) _ NotChar _ (omega arith, omega arith) tt)
+    (fits_cond (ltb a 240) _ _ _
+    (fits_cond (is_second a b) _ NotChar _
+    (fits_cond (is_tail c) _ NotChar _ (omega arith, omega arith) tt) tt)
+    (fits_cond (ltb a 245) _ NotChar _
+    (fits_cond (is_second a b) _ NotChar _
+    (fits_cond (is_tail c) Part NotChar _ tt tt) tt) tt))))
+char_fits (a ∷ b ∷ c ∷ d ∷ bs) =
+    fits_cond (ltb a 128) _ _ _ (omega arith, omega arith)
+    (fits_cond (ltb a 194) NotChar _ _ tt
+    (fits_cond (ltb a 224) _ _ _ (fits_cond (is_tail b) _ NotChar _ (omega arith, omega arith) tt)
+    (fits_cond (ltb a 240) _ _ _
+    (fits_cond (is_second a b) _ NotChar _
+    (fits_cond (is_tail c) _ NotChar _ (omega arith, omega arith) tt) tt)
+    (fits_cond (ltb a 245) _ NotChar _
+    (fits_cond (is_second a b) _ NotChar _
+    (fits_cond (is_tail c) _ NotChar _
+    (fits_cond (is_tail d) _ NotChar _ (omega arith, omega arith) tt) tt) tt) tt))))
 
 -- a character that wasn't whole before its last byte has all the bytes
 abbrev pub Ends : Front → Front → ℕ → Type 0
@@ -110,7 +148,8 @@ Ends Part (Char c size) n = size ≡ n
 Ends NotChar g n = Unit {0}
 Ends (Char c size) g n = Unit {0}
 
-ends_cond : (b : Bool) (f g f' g' : Front) (n : ℕ) → Ends f f' n → Ends g g' n → Ends (cond b f g) (cond b f' g') n
+ends_cond : (b : Bool) (f g f' g' : Front) (n : ℕ) → Ends f f' n → Ends g g' n →
+    Ends (cond b f g) (cond b f' g') n
 ends_cond true f g f' g' n h k = h
 ends_cond false f g f' g' n h k = k
 
@@ -124,26 +163,47 @@ ends_more : (b : Bool) (g : Front) (n : ℕ) → Ends Part g n → Ends Part (co
 ends_more true g n h = h
 ends_more false g n h = tt
 
-pub char_ends : (p : List ℕ) (b : ℕ) → 0 < length p → Ends (char_at p) (char_at (p ++ b ∷ [])) (length p + 1)
+pub char_ends : (p : List ℕ) (b : ℕ) → 0 < length p →
+    Ends (char_at p) (char_at (p ++ b ∷ [])) (length p + 1)
 unfolding char_at
 char_ends [] b some = absurd (omega arith)
-char_ends (a ∷ []) b some = ends_cond (ltb a 128) _ _ _ _ _ tt (ends_cond (ltb a 194) NotChar _ NotChar _ _ tt (ends_cond (ltb a 224) Part _ _ _ _ (ends_more (is_tail b) (Char _ 2) _ (omega arith))
-    (ends_cond (ltb a 240) Part _ _ _ _ (ends_more (is_second a b) Part _ tt) (ends_cond (ltb a 245) Part NotChar _ NotChar _ (ends_more (is_second a b) Part _ tt) tt))))
-char_ends (a ∷ c ∷ []) b some = ends_cond (ltb a 128) _ _ _ _ _ tt (ends_cond (ltb a 194) NotChar _ NotChar _ _ tt (ends_cond (ltb a 224) _ _ _ _ _ (ends_refl _ _)
-    (ends_cond (ltb a 240) _ _ _ _ _ (ends_cond (is_second a c) Part NotChar _ NotChar _ (ends_more (is_tail b) (Char _ 3) _ (omega arith)) tt)
-    (ends_cond (ltb a 245) _ NotChar _ NotChar _ (ends_cond (is_second a c) Part NotChar _ NotChar _ (ends_more (is_tail b) Part _ tt) tt) tt))))
-char_ends (a ∷ c ∷ d ∷ []) b some = ends_cond (ltb a 128) _ _ _ _ _ tt (ends_cond (ltb a 194) NotChar _ NotChar _ _ tt (ends_cond (ltb a 224) _ _ _ _ _ (ends_refl _ _)
+char_ends (a ∷ []) b some =
+    ends_cond (ltb a 128) _ _ _ _ _ tt
+    (ends_cond (ltb a 194) NotChar _ NotChar _ _ tt
+    (ends_cond (ltb a 224) Part _ _ _ _ (ends_more (is_tail b) (Char _ 2) _ (omega arith))
+    (ends_cond (ltb a 240) Part _ _ _ _ (ends_more (is_second a b) Part _ tt)
+    (ends_cond (ltb a 245) Part NotChar _ NotChar _ (ends_more (is_second a b) Part _ tt) tt))))
+char_ends (a ∷ c ∷ []) b some =
+    ends_cond (ltb a 128) _ _ _ _ _ tt
+    (ends_cond (ltb a 194) NotChar _ NotChar _ _ tt (ends_cond (ltb a 224) _ _ _ _ _ (ends_refl _ _)
+    (ends_cond (ltb a 240) _ _ _ _ _
+    (ends_cond (is_second a c) Part NotChar _ NotChar _
+    (ends_more (is_tail b) (Char _ 3) _ (omega arith)) tt)
+    (ends_cond (ltb a 245) _ NotChar _ NotChar _
+    (ends_cond (is_second a c) Part NotChar _ NotChar _
+    (ends_more (is_tail b) Part _ tt) tt) tt))))
+char_ends (a ∷ c ∷ d ∷ []) b some =
+    ends_cond (ltb a 128) _ _ _ _ _ tt
+    (ends_cond (ltb a 194) NotChar _ NotChar _ _ tt (ends_cond (ltb a 224) _ _ _ _ _ (ends_refl _ _)
     (ends_cond (ltb a 240) _ _ _ _ _ (ends_refl _ _)
-    (ends_cond (ltb a 245) _ NotChar _ NotChar _ (ends_cond (is_second a c) _ NotChar _ NotChar _ (ends_cond (is_tail d) Part NotChar _ NotChar _ (ends_more (is_tail b) (Char _ 4) _ (omega arith)) tt) tt) tt))))
-char_ends (a ∷ c ∷ d ∷ e ∷ p) b some = ends_cond (ltb a 128) _ _ _ _ _ tt (ends_cond (ltb a 194) NotChar _ NotChar _ _ tt (ends_cond (ltb a 224) _ _ _ _ _ (ends_refl _ _)
-    (ends_cond (ltb a 240) _ _ _ _ _ (ends_refl _ _) (ends_cond (ltb a 245) _ NotChar _ NotChar _ (ends_refl _ _) tt))))
+    (ends_cond (ltb a 245) _ NotChar _ NotChar _
+    (ends_cond (is_second a c) _ NotChar _ NotChar _
+    (ends_cond (is_tail d) Part NotChar _ NotChar _
+    (ends_more (is_tail b) (Char _ 4) _ (omega arith)) tt) tt) tt))))
+char_ends (a ∷ c ∷ d ∷ e ∷ p) b some =
+    ends_cond (ltb a 128) _ _ _ _ _ tt
+    (ends_cond (ltb a 194) NotChar _ NotChar _ _ tt (ends_cond (ltb a 224) _ _ _ _ _ (ends_refl _ _)
+    (ends_cond (ltb a 240) _ _ _ _ _ (ends_refl _ _)
+    (ends_cond (ltb a 245) _ NotChar _ NotChar _ (ends_refl _ _) tt))))
 
 -- one byte is a character by itself, or the start of one, or none
 pub one_ends : (b c n : ℕ) → char_at (b ∷ []) ≡ Char c n → n ≡ 1
 one_ends b c n h = let k : Fits (Char c n) 1 = rw h at (char_fits (b ∷ [])) in omega (arith, k)
 
 -- the last byte of a character is its last
-pub char_length : (p : List ℕ) (b c n : ℕ) → char_at p ≡ Part → char_at (p ++ b ∷ []) ≡ Char c n → n ≡ length (p ++ b ∷ [])
+pub char_length : (p : List ℕ) (b c n : ℕ) → char_at p ≡ Part → char_at (p ++ b ∷ []) ≡ Char c n →
+    n ≡ length (p ++ b ∷ [])
 char_length [] b c n h k = one_ends b c n k
 char_length (a ∷ p) b c n h k =
-    let e : Ends Part (Char c n) (length (a ∷ p) + 1) = rw (h, k) at (char_ends (a ∷ p) b (omega arith)) in e ∙ rw length-append refl
+    let e : Ends Part (Char c n) (length (a ∷ p) + 1) =
+    rw (h, k) at (char_ends (a ∷ p) b (omega arith)) in e ∙ rw length-append refl

@@ -19,7 +19,10 @@ AllGoOn n bytes = (k : ℕ) → k < n → GoesOn (slice_index bytes k)
 
 -- \ / $ < > ^ { } [ ] @
 abbrev pub stops_word : ℕ → Bool
-stops_word b = eqb b 92 || (eqb b 47 || (eqb b 36 || (eqb b 60 || (eqb b 62 || (eqb b 94 || (eqb b 123 || (eqb b 125 || (eqb b 91 || (eqb b 93 || eqb b 64)))))))))
+stops_word b = eqb b 92 || (eqb b 47
+    || (eqb b 36 || (eqb b 60
+    || (eqb b 62 || (eqb b 94
+    || (eqb b 123 || (eqb b 125 || (eqb b 91 || (eqb b 93 || eqb b 64)))))))))
 
 -- a byte that is a character by itself, and a symbol of any word
 abbrev pub is_lone : ℕ → Bool
@@ -29,13 +32,15 @@ is_lone b = nat_lt b 128 && not (stops_word b)
 abbrev pub is_named : ℕ → Bool
 is_named b = nat_lt b 128 && not (is_reserved_lem b)
 
--- the mode behind one more byte of a unit, where the byte is a character by itself that neither ends a word nor escapes: a
--- symbol of a word, the start of a tag, one of its name, or its end
+-- the mode behind one more byte of a unit, where the byte is a character by itself that neither
+-- ends a word nor escapes: a symbol of a word, the start of a tag, one of its name, or its end
 abbrev pub word_crossed : Dialect → Spot → ℕ → Option Mode
-word_crossed dialect at b = if is_lone b then Some (mode.Word (grown_spot at)) else (if eqb b 60 && not (surface_at dialect at) then Some (mode.Tag at false) else None)
+word_crossed dialect at b = if is_lone b then Some (mode.Word (grown_spot at))
+    else (if eqb b 60 && not (surface_at dialect at) then Some (mode.Tag at false) else None)
 
 abbrev pub tag_crossed : Spot → Bool → ℕ → Option Mode
-tag_crossed at some b = if is_named b then Some (mode.Tag at true) else (if eqb b 62 && some then Some (mode.Word (grown_spot at)) else None)
+tag_crossed at some b = if is_named b then Some (mode.Tag at true)
+    else (if eqb b 62 && some then Some (mode.Word (grown_spot at)) else None)
 
 abbrev pub crossed_by : Dialect → Mode → ℕ → Option Mode
 crossed_by dialect (mode.Word at) b = word_crossed dialect at b
@@ -54,15 +59,19 @@ and_on (Some at) more = more at
 -- the mode behind these bytes, where each is such a byte
 unfoldable pub crossing : Dialect → Mode → List ℕ → Option Mode
 crossing dialect at [] = Some at
-crossing dialect at (b ∷ bytes) = and_on (crossed_by dialect at b) (λ next. crossing dialect next bytes)
+crossing dialect at (b ∷ bytes) =
+    and_on (crossed_by dialect at b) (λ next. crossing dialect next bytes)
 
--- each of the first bytes only goes on with what the mode stands in, and behind them the reader stands there
+-- each of the first bytes only goes on with what the mode stands in, and behind them the reader
+-- stands there
 abbrev pub AllCross : Dialect → Mode → Mode → ℕ → List ℕ → Type 0
 AllCross dialect mode.Start to n bytes = n ≡ 0
 AllCross dialect mode.Escape to n bytes = n ≡ 0
 AllCross dialect mode.Blank to n bytes = n ≡ 0
 AllCross dialect mode.Inside to n bytes = (to ≡ mode.Inside) × AllGoOn n bytes
 AllCross dialect mode.InsideEscape to n bytes = n ≡ 0
-AllCross dialect (mode.Word at) to n bytes = crossing dialect (mode.Word at) (take n bytes) ≡ Some to
+AllCross dialect (mode.Word at) to n bytes =
+    crossing dialect (mode.Word at) (take n bytes) ≡ Some to
 AllCross dialect (mode.WordEscape at) to n bytes = n ≡ 0
-AllCross dialect (mode.Tag at some) to n bytes = crossing dialect (mode.Tag at some) (take n bytes) ≡ Some to
+AllCross dialect (mode.Tag at some) to n bytes =
+    crossing dialect (mode.Tag at some) (take n bytes) ≡ Some to

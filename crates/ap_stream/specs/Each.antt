@@ -1,4 +1,5 @@
--- A tool that handles each item by itself: a unit gives a text, and every other item is copied as it is spelled.
+-- A tool that handles each item by itself: a unit gives a text, and every other item is copied as
+-- it is spelled.
 use Rattle.std.proofs.Common.{arith, refl, ◌≡◌}
 use Rattle.std.specs.Prelude.{ℕ, ◌+◌, nat_lt, Bool, true, false, ◌&&◌, List, [], ◌∷◌, ◌++◌, length, Option, Some, None, if◌then◌else◌}
 use Rattle.ap_stream.specs.Limits.{unit_max}
@@ -33,7 +34,9 @@ is_over given thing = is_worded thing && nat_lt unit_max (length (item_text give
 -- each item by itself
 abbrev pub each : (List (List Symbol) → List ℕ) → List Read → Told
 each given [] = silent
-each given (read ∷ reads) = if is_over given read.item then ends_in [] (Limit UnitTooLong read.place) else behind (item_text given read.item) (each given reads)
+each given (read ∷ reads) = if is_over given read.item
+    then ends_in [] (Limit UnitTooLong read.place)
+    else behind (item_text given read.item) (each given reads)
 
 -- such a tool at work: its writer, its dialect, the item that it holds, and whether it is the last
 pub record Single (W : Type 0) : Type 0 where

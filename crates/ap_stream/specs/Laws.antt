@@ -36,18 +36,23 @@ abbrev pub AreAsMany : Bool → List (List Symbol) → Type 0
 AreAsMany several [] = several ≡ false
 AreAsMany several (word ∷ words) = several ≡ true
 
--- the words of a unit of the dialect: a first one that isn't empty, and then as many as the dialect says
+-- the words of a unit of the dialect: a first one that isn't empty, and then as many as the dialect
+-- says
 abbrev pub AreWords : Dialect → List (List Symbol) → Type 0
 AreWords dialect [] = ⊥
-AreWords dialect (word ∷ words) = (has_words dialect ≡ true) × (0 < length word) × AreSpelt (form_of dialect).surface word × EachSpelt words × AreAsMany (form_of dialect).several words
+AreWords dialect (word ∷ words) = (has_words dialect ≡ true) × (0 < length word)
+    × AreSpelt (form_of dialect).surface word × EachSpelt words
+    × AreAsMany (form_of dialect).several words
 
 -- what is written of the words of a unit is read back as these words, whatever follows
 abbrev pub ReadsBack : Type 0
-ReadsBack = (dialect : Dialect) (words : List (List Symbol)) (x : List ℕ) → AreWords dialect words → first dialect (unit_bytes words ++ x) ≡ Whole (item.Unit words) (length (unit_bytes words))
+ReadsBack = (dialect : Dialect) (words : List (List Symbol)) (x : List ℕ) → AreWords dialect words →
+    first dialect (unit_bytes words ++ x) ≡ Whole (item.Unit words) (length (unit_bytes words))
 
 -- the words of a unit that is read are words of a unit of the dialect
 abbrev pub ReadsWords : Type 0
-ReadsWords = (dialect : Dialect) (text : List ℕ) (words : List (List Symbol)) (n : ℕ) → first dialect text ≡ Whole (item.Unit words) n → AreWords dialect words
+ReadsWords = (dialect : Dialect) (text : List ℕ) (words : List (List Symbol)) (n : ℕ) →
+    first dialect text ≡ Whole (item.Unit words) n → AreWords dialect words
 
 -- every word of the program can be written in a unit
 abbrev pub WordsAreSpelt : Type 0

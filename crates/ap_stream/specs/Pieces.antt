@@ -1,5 +1,5 @@
--- The superblanks of a text, by its pieces: a text is a row of plain characters, white space, whole superblanks and
--- whole units, each of any size.
+-- The superblanks of a text, by its pieces: a text is a row of plain characters, white space, whole
+-- superblanks and whole units, each of any size.
 use Rattle.std.specs.Prelude.{◌≡◌, ◌≢◌, ℕ, Bool, true, false, not, ◌||◌, eqb, List, [], ◌∷◌, ◌++◌, length, None, encode_utf8}
 use Rattle.std.specs.List.{flat_map}
 use Rattle.ap_symbol.specs.Coded.{IsCode}
@@ -16,8 +16,8 @@ use Rattle.ap_stream.specs.declared.item.Character.{Character}
 use Rattle.ap_stream.specs.declared.item.Item.TheVariants as item
 use Rattle.ap_stream.specs.declared.item.Read.{Read}
 
--- what stands behind the bracket of a superblank: characters other than a bare backslash and ], and each backslash with
--- any one character, up to a bare ]
+-- what stands behind the bracket of a superblank: characters other than a bare backslash and ], and
+-- each backslash with any one character, up to a bare ]
 pub data IsToBracket : List ℕ → Type 0 where
   closed : {bytes : List ℕ} → bytes ≡ 93 ∷ [] → IsToBracket bytes
   bare : {bytes : List ℕ} (c : ℕ) (rest : List ℕ) → IsCode c → c ≢ 92 → c ≢ 93 → IsToBracket rest
@@ -31,10 +31,11 @@ pub record IsSuperblank (bytes : List ℕ) : Type 0 where
   pub begins : bytes ≡ 91 ∷ rest
   pub goes_on : IsToBracket rest
 
--- the characters that stand bare outside units and blanks: all but white space, [, a backslash, the ^ where units begin,
--- and those that the dialect refuses
+-- the characters that stand bare outside units and blanks: all but white space, [, a backslash, the
+-- ^ where units begin, and those that the dialect refuses
 abbrev pub is_bare : Dialect → ℕ → Bool
-is_bare dialect c = not (begins_blank c || (eqb c 92 || (begins_unit dialect c || is_refused dialect c)))
+is_bare dialect c = not (begins_blank c
+    || (eqb c 92 || (begins_unit dialect c || is_refused dialect c)))
 
 -- a plain character: a backslash and any one character, or one that may stand bare
 pub record IsPlain (dialect : Dialect) (bytes : List ℕ) : Type 0 where
@@ -52,7 +53,8 @@ pub record IsUnit (dialect : Dialect) (bytes : List ℕ) : Type 0 where
 pub data IsPiece (dialect : Dialect) (bytes : List ℕ) : List (List ℕ) → Type 0 where
   plain : {superblanks : List (List ℕ)} → IsPlain dialect bytes → superblanks ≡ []
       → IsPiece dialect bytes superblanks
-  white : {superblanks : List (List ℕ)} (b : ℕ) → bytes ≡ b ∷ [] → is_white b ≡ true → superblanks ≡ []
+  white : {superblanks : List (List ℕ)} (b : ℕ) → bytes ≡ b ∷ [] → is_white b ≡ true →
+      superblanks ≡ []
       → IsPiece dialect bytes superblanks
   superblank : {superblanks : List (List ℕ)} → IsSuperblank bytes → superblanks ≡ bytes ∷ []
       → IsPiece dialect bytes superblanks
@@ -63,7 +65,8 @@ pub data IsPiece (dialect : Dialect) (bytes : List ℕ) : List (List ℕ) → Ty
 pub data HasSuperblanks (dialect : Dialect) : List ℕ → List (List ℕ) → Type 0 where
   nothing : {text : List ℕ} {superblanks : List (List ℕ)} → text ≡ [] → superblanks ≡ []
       → HasSuperblanks dialect text superblanks
-  piece : {text : List ℕ} {superblanks : List (List ℕ)} (front rest : List ℕ) (own more : List (List ℕ))
+  piece : {text : List ℕ} {superblanks : List (List ℕ)} (front rest : List ℕ)
+      (own more : List (List ℕ))
       → IsPiece dialect front own → HasSuperblanks dialect rest more
       → text ≡ front ++ rest → superblanks ≡ own ++ more → HasSuperblanks dialect text superblanks
 
@@ -78,7 +81,8 @@ pub record HaveSameSuperblanks (from to : Dialect) (text made : List ℕ) : Type
 -- one text behind another has the superblanks of both
 abbrev pub TextsJoin : Type 0
 TextsJoin = (dialect : Dialect) (front back : List ℕ) (own more : List (List ℕ))
-    → HasSuperblanks dialect front own → HasSuperblanks dialect back more → HasSuperblanks dialect (front ++ back) (own ++ more)
+    → HasSuperblanks dialect front own → HasSuperblanks dialect back more →
+    HasSuperblanks dialect (front ++ back) (own ++ more)
 
 -- a text has no two lists of superblanks
 abbrev pub OneList : Type 0
@@ -96,7 +100,8 @@ supers_of items = flat_map (λ read. item_supers read.item) items
 
 -- a text that is read to its end has the superblanks of its items
 abbrev pub ReadTextsHave : Type 0
-ReadTextsHave = (dialect : Dialect) (place : ℕ) (text : List ℕ) → (reads dialect place text).stop ≡ None
+ReadTextsHave = (dialect : Dialect) (place : ℕ) (text : List ℕ) →
+    (reads dialect place text).stop ≡ None
     → HasSuperblanks dialect text (supers_of (reads dialect place text).items)
 
 -- characters that stand bare in one dialect do so in the other
@@ -108,7 +113,8 @@ abbrev pub MakesNone : Dialect → Dialect → (List (List Symbol) → List ℕ)
 MakesNone from to given = (words : List (List Symbol)) → AreWords from words
     → HasSuperblanks to (given words) []
 
--- a tool that takes each item by itself, and makes no superblank of a unit, keeps the superblanks of a text
+-- a tool that takes each item by itself, and makes no superblank of a unit, keeps the superblanks
+-- of a text
 abbrev pub EachKeeps : Type 0
 EachKeeps = (from to : Dialect) (given : List (List Symbol) → List ℕ) (place : ℕ) (text : List ℕ)
     → StayBare from to → MakesNone from to given
@@ -118,4 +124,5 @@ EachKeeps = (from to : Dialect) (given : List (List Symbol) → List ℕ) (place
 -- what two tools keep one after the other is kept
 abbrev pub KeptTwice : Type 0
 KeptTwice = (first second third : Dialect) (text made last : List ℕ)
-    → HaveSameSuperblanks first second text made → HaveSameSuperblanks second third made last → HaveSameSuperblanks first third text last
+    → HaveSameSuperblanks first second text made → HaveSameSuperblanks second third made last →
+    HaveSameSuperblanks first third text last

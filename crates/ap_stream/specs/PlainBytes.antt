@@ -4,7 +4,8 @@ use Rattle.ap_symbol.specs.declared.symbol.Symbol.{Symbol}
 use Rattle.ap_symbol.specs.Rendering.{rendering}
 use Rattle.ap_symbol.specs.Words.{AreProper}
 
--- what begins another spelling than the one that is written: a backslash, or white space but the space
+-- what begins another spelling than the one that is written: a backslash, or white space but the
+-- space
 abbrev pub is_odd : ℕ → Bool
 is_odd b = eqb b 92 || (eqb b 9 || (eqb b 10 || eqb b 13))
 

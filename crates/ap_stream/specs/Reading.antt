@@ -1,5 +1,6 @@
--- The items of a text, and what stops it, by the Apertium stream format. A text is cut item by item. Places and sizes
--- are in bytes. Chunks aren't among the items yet: this is the whole of reading in a dialect that has none.
+-- The items of a text, and what stops it, by the Apertium stream format. A text is cut item by
+-- item. Places and sizes are in bytes. Chunks aren't among the items yet: this is the whole of
+-- reading in a dialect that has none.
 use Rattle.std.specs.Prelude.{◌≡◌, ◌≢◌, ℕ, zero, suc, ◌+◌, ◌-◌, ◌^◌, ◌<◌, ◌≤◌, pred, min, List, [], ◌∷◌, ◌++◌, drop, take, length, Option, Some, None, Bool, true, false, cond, eqb, leb, ◌||◌, ◌&&◌, refl}
 use Rattle.std.proofs.Common.{arith, ap, sym, ◌∙◌}
 use Rattle.ap_stream.specs.Limits.{item_max, unit_max}
@@ -32,8 +33,8 @@ abbrev pub fault_at : Kind → ℕ → StreamFault
 fault_at (Bad kind) place = Malformed kind place
 fault_at (Past kind) place = Limit kind place
 
--- what the bytes so far say of the item at their front, where bytes may follow: more are needed, or it is whole and has
--- so many bytes, or no whole item can follow
+-- what the bytes so far say of the item at their front, where bytes may follow: more are needed, or
+-- it is whole and has so many bytes, or no whole item can follow
 pub data First : Type 0 where
   Needs : First
   Whole : Item → ℕ → First
@@ -66,7 +67,8 @@ of_escaped (Char c n) = Whole (plain c true) (1 + n)
 abbrev pub of_char : Dialect → Front → First
 of_char dialect Part = Needs
 of_char dialect NotChar = Faulty (Bad NotUtf8)
-of_char dialect (Char c n) = cond (is_refused dialect c) (Faulty (Bad Stray)) (Whole (plain c false) n)
+of_char dialect (Char c n) =
+    cond (is_refused dialect c) (Faulty (Bad Stray)) (Whole (plain c false) n)
 
 -- behind ^ a unit goes on to its $
 abbrev pub of_unit : Rest → First
@@ -77,11 +79,15 @@ of_unit (Ends words n) = Whole (item.Unit words) (1 + n)
 abbrev pub begins_unit : Dialect → ℕ → Bool
 begins_unit dialect b = has_words dialect && eqb b 94
 
--- the item at the front: a blank where a blank begins, a unit where a unit begins, and else an escaped or a bare character
+-- the item at the front: a blank where a blank begins, a unit where a unit begins, and else an
+-- escaped or a bare character
 unfoldable pub first : Dialect → List ℕ → First
 first dialect [] = Needs
-first dialect (b ∷ bs) = cond (begins_blank b) (of_run (b ∷ bs) (blank 0 (b ∷ bs))) (cond (eqb b 92) (of_escaped (char_at bs))
-    (cond (begins_unit dialect b) (of_unit (rest (form_of dialect) [] [] 0 bs)) (of_char dialect (char_at (b ∷ bs)))))
+first dialect (b ∷ bs) =
+    cond (begins_blank b) (of_run (b ∷ bs) (blank 0 (b ∷ bs)))
+    (cond (eqb b 92) (of_escaped (char_at bs))
+    (cond (begins_unit dialect b) (of_unit (rest (form_of dialect) [] [] 0 bs))
+    (of_char dialect (char_at (b ∷ bs)))))
 
 abbrev pub last_run : List ℕ → Run → Last
 last_run bytes Open = Complete (item.Blank bytes)
@@ -92,10 +98,11 @@ last_run bytes (Done n) = Broken (Bad Unfinished)
 -- where the text ends, a blank may be whole, and nothing else that needs more is
 unfoldable pub last : List ℕ → Last
 last [] = Broken (Bad Unfinished)
-last (b ∷ bs) = cond (begins_blank b) (last_run (b ∷ bs) (blank 0 (b ∷ bs))) (Broken (Bad Unfinished))
+last (b ∷ bs) = cond (begins_blank b) (last_run (b ∷ bs) (blank 0 (b ∷ bs)))
+    (Broken (Bad Unfinished))
 
--- what one byte more than the limit shows: an item of just so many bytes that this byte ends is whole, and all else is
--- too long
+-- what one byte more than the limit shows: an item of just so many bytes that this byte ends is
+-- whole, and all else is too long
 abbrev pub at_limit : ℕ → First → First
 at_limit most Needs = Faulty (Past ItemTooLong)
 at_limit most (Whole thing n) = cond (leb n most) (Whole thing n) (Faulty (Past ItemTooLong))
@@ -109,7 +116,9 @@ past most (Faulty kind) next = Faulty kind
 
 -- the item at the front, where it may have so many bytes
 unfoldable pub limited : ℕ → Dialect → List ℕ → First
-limited most dialect bs = cond (leb (length bs) most) (first dialect bs) (past most (first dialect (take most bs)) (first dialect (take (suc most) bs)))
+limited most dialect bs =
+    cond (leb (length bs) most) (first dialect bs)
+    (past most (first dialect (take most bs)) (first dialect (take (suc most) bs)))
 
 -- a place, or the greatest that is counted
 abbrev pub counted : ℕ → ℕ
@@ -139,14 +148,16 @@ at_end place bytes (Broken kind) = stopped (fault_at kind place)
 -- goes on behind the item at the front
 abbrev pub walked : ℕ → List ℕ → First → (ℕ → ℕ → Reads) → Reads
 walked place bytes Needs more = at_end place bytes (last bytes)
-walked place bytes (Whole thing size) more = followed (Some (read_at place thing size)) (more (counted (place + size)) (pred size))
+walked place bytes (Whole thing size) more =
+    followed (Some (read_at place thing size)) (more (counted (place + size)) (pred size))
 walked place bytes (Faulty kind) more = stopped (fault_at kind place)
 
 -- reads behind so many bytes
 unfoldable pub walk : Dialect → ℕ → ℕ → List ℕ → Reads
 walk dialect place skip [] = nothing
 walk dialect place (suc skip) (b ∷ bs) = walk dialect place skip bs
-walk dialect place zero (b ∷ bs) = walked place (b ∷ bs) (limited item_max dialect (b ∷ bs)) (λ at skip. walk dialect at skip bs)
+walk dialect place zero (b ∷ bs) =
+    walked place (b ∷ bs) (limited item_max dialect (b ∷ bs)) (λ at skip. walk dialect at skip bs)
 
 -- the items of a text whose first byte has this place, and what stops it
 unfoldable pub reads : Dialect → ℕ → List ℕ → Reads
@@ -165,7 +176,8 @@ pub first_nil : (dialect : Dialect) → first dialect [] ≡ Needs
 unfolding first
 first_nil dialect = refl
 
-walk_skip : (dialect : Dialect) (place n : ℕ) (bs : List ℕ) → walk dialect place n bs ≡ walk dialect place 0 (drop n bs)
+walk_skip : (dialect : Dialect) (place n : ℕ) (bs : List ℕ) →
+    walk dialect place n bs ≡ walk dialect place 0 (drop n bs)
 unfolding walk
 walk_skip dialect place zero bs = refl
 walk_skip dialect place (suc n) [] = refl
@@ -176,19 +188,26 @@ unfolding reads walk
 reads_nil dialect place = refl
 
 -- behind a whole item the text goes on
-pub reads_whole : (dialect : Dialect) (place : ℕ) (bs : List ℕ) (thing : Item) (n : ℕ) → limited item_max dialect bs ≡ Whole thing n → 0 < n → 0 < length bs →
-    reads dialect place bs ≡ followed (Some (read_at place thing n)) (reads dialect (counted (place + n)) (drop n bs))
+pub reads_whole : (dialect : Dialect) (place : ℕ) (bs : List ℕ) (thing : Item) (n : ℕ) →
+    limited item_max dialect bs ≡ Whole thing n → 0 < n → 0 < length bs →
+    reads dialect place bs ≡ followed (Some (read_at place thing n))
+    (reads dialect (counted (place + n)) (drop n bs))
 unfolding reads walk
 reads_whole dialect place [] thing n h some more = absurd (omega arith)
 reads_whole dialect place (b ∷ bs) thing zero h some more = absurd (omega arith)
-reads_whole dialect place (b ∷ bs) thing (suc n) h some more = rw h (ap (followed (Some (read_at place thing (suc n)))) (walk_skip dialect (counted (place + suc n)) n bs))
+reads_whole dialect place (b ∷ bs) thing (suc n) h some more =
+    rw h (ap (followed (Some (read_at place thing (suc n))))
+    (walk_skip dialect (counted (place + suc n)) n bs))
 
-pub reads_faulty : (dialect : Dialect) (place : ℕ) (bs : List ℕ) (kind : Kind) → limited item_max dialect bs ≡ Faulty kind → 0 < length bs → reads dialect place bs ≡ stopped (fault_at kind place)
+pub reads_faulty : (dialect : Dialect) (place : ℕ) (bs : List ℕ) (kind : Kind) →
+    limited item_max dialect bs ≡ Faulty kind → 0 < length bs →
+    reads dialect place bs ≡ stopped (fault_at kind place)
 unfolding reads walk
 reads_faulty dialect place [] kind h more = absurd (omega arith)
 reads_faulty dialect place (b ∷ bs) kind h more = rw h refl
 
-pub reads_needs : (dialect : Dialect) (place : ℕ) (bs : List ℕ) → limited item_max dialect bs ≡ Needs → 0 < length bs → reads dialect place bs ≡ at_end place bs (last bs)
+pub reads_needs : (dialect : Dialect) (place : ℕ) (bs : List ℕ) → limited item_max dialect bs
+    ≡ Needs → 0 < length bs → reads dialect place bs ≡ at_end place bs (last bs)
 unfolding reads walk
 reads_needs dialect place [] h more = absurd (omega arith)
 reads_needs dialect place (b ∷ bs) h more = rw h refl

@@ -12,11 +12,19 @@ use Rattle.ap_stream.specs.Seat.{Seat}
 
 -- the items are worked on, and then comes the stop
 abbrev pub worked : {H : Type 0} → (H → List Read → Told) → H → Reads → Ending → Told
-worked work handler read ending = record { text = (work handler read.items).text; fault = or_else (work handler read.items).fault (stop_at ending read.stop) }
+worked work handler read ending =
+    record {
+      text = (work handler read.items).text;
+      fault =
+          or_else (work handler read.items).fault (stop_at ending read.stop);
+    }
 
-abbrev pub rest_from : {H : Type 0} → Option StreamFault → (H → List Read → Told) → Seat H → List ℕ → Ending → Told
+abbrev pub rest_from : {H : Type 0} → Option StreamFault → (H → List Read → Told) → Seat H →
+    List ℕ → Ending → Told
 rest_from (Some fault) work seat x ending = ends_in seat.pending fault
-rest_from None work seat x ending = behind seat.pending (worked work seat.handler (reads seat.dialect seat.place (seat.begun ++ x)) ending)
+rest_from None work seat x ending =
+    behind seat.pending (worked work seat.handler
+    (reads seat.dialect seat.place (seat.begun ++ x)) ending)
 
 abbrev pub rest_of : {H : Type 0} → (H → List Read → Told) → Seat H → List ℕ → Ending → Told
 rest_of work seat x ending = rest_from seat.fault work seat x ending
@@ -30,17 +38,20 @@ abbrev pub held_of : {H : Type 0} → (H → ℕ) → Seat H → ℕ
 held_of held seat = held_from seat.fault held seat
 
 -- a stage that has answered a fault gives what is pending, and then that fault
-pub rest_at_fault : {H : Type 0} (work : H → List Read → Told) (seat : Seat H) (fault : StreamFault) (x : List ℕ) (ending : Ending) →
+pub rest_at_fault : {H : Type 0} (work : H → List Read → Told) (seat : Seat H) (fault : StreamFault)
+    (x : List ℕ) (ending : Ending) →
     seat.fault ≡ Some fault → rest_of work seat x ending ≡ ends_in seat.pending fault
 rest_at_fault work seat fault x ending h = rw h refl
 
-pending_first_at : {H : Type 0} (fault : Option StreamFault) (work : H → List Read → Told) (seat : Seat H) (x : List ℕ) (ending : Ending) →
+pending_first_at : {H : Type 0} (fault : Option StreamFault) (work : H → List Read → Told)
+    (seat : Seat H) (x : List ℕ) (ending : Ending) →
     Begins seat.pending (rest_from fault work seat x ending).text
 pending_first_at None work seat x ending = (_, refl)
 pending_first_at (Some fault) work seat x ending = ([], sym (append-nil seat.pending))
 
 -- what is pending comes first
-pub rest_pending_first : {H : Type 0} (work : H → List Read → Told) (seat : Seat H) (x : List ℕ) (ending : Ending) →
+pub rest_pending_first : {H : Type 0} (work : H → List Read → Told) (seat : Seat H) (x : List ℕ)
+    (ending : Ending) →
     Begins seat.pending (rest_of work seat x ending).text
 rest_pending_first work seat x ending = pending_first_at seat.fault work seat x ending
 
@@ -53,16 +64,27 @@ cut_twice (Malformed EmptyWord place) = refl
 cut_twice (Limit kind place) = refl
 cut_twice Memory = refl
 
-cut_stop : (own stop : Option StreamFault) → cut_option (or_else own (stop_at Cut stop)) ≡ cut_option (or_else own (stop_at Clean stop))
+cut_stop : (own stop : Option StreamFault) → cut_option (or_else own (stop_at Cut stop))
+    ≡ cut_option (or_else own (stop_at Clean stop))
 cut_stop (Some fault) stop = refl
 cut_stop None None = refl
 cut_stop None (Some fault) = cut_twice fault
 
-cut_at : {H : Type 0} (fault : Option StreamFault) (work : H → List Read → Told) (seat : Seat H) (x : List ℕ) →
-    cut_told Cut (rest_from fault work seat x Cut) ≡ cut_told Cut (rest_from fault work seat x Clean)
+cut_at : {H : Type 0} (fault : Option StreamFault) (work : H → List Read → Told) (seat : Seat H)
+    (x : List ℕ) →
+    cut_told Cut (rest_from fault work seat x Cut)
+    ≡ cut_told Cut (rest_from fault work seat x Clean)
 cut_at (Some fault) work seat x = refl
-cut_at None work seat x = ap (λ f. record { text = seat.pending ++ (work seat.handler (reads seat.dialect seat.place (seat.begun ++ x)).items).text; fault = f }) (cut_stop _ (reads seat.dialect seat.place (seat.begun ++ x)).stop)
+cut_at None work seat x =
+    ap (λ f. record {
+      text =
+          seat.pending ++ (work seat.handler
+          (reads seat.dialect seat.place (seat.begun ++ x)).items).text;
+      fault = f;
+    })
+    (cut_stop _ (reads seat.dialect seat.place (seat.begun ++ x)).stop)
 
 -- where the text was cut, an unfinished item is no fault, and nothing else differs
-pub rest_at_cut : {H : Type 0} (work : H → List Read → Told) (seat : Seat H) (x : List ℕ) → cut_told Cut (rest_of work seat x Cut) ≡ cut_told Cut (rest_of work seat x Clean)
+pub rest_at_cut : {H : Type 0} (work : H → List Read → Told) (seat : Seat H) (x : List ℕ) →
+    cut_told Cut (rest_of work seat x Cut) ≡ cut_told Cut (rest_of work seat x Clean)
 rest_at_cut work seat x = cut_at seat.fault work seat x

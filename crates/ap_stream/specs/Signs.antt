@@ -18,7 +18,9 @@ bare_of_test = bare_of
 abbrev pub IsName : List ℕ → Named → Type 0
 IsName bytes named.Runs = name 0 bytes ≡ Runs
 IsName bytes named.Breaks = name 0 bytes ≡ Breaks
-IsName bytes (named.Stops text letter) = (n : ℕ) × (string_bytes text ≡ take n bytes) × (n < length bytes) × (list_any is_reserved_lem (take n bytes) ≡ false) × (name 0 bytes ≡ Stops n letter)
+IsName bytes (named.Stops text letter) = (n : ℕ) × (string_bytes text ≡ take n bytes)
+    × (n < length bytes) × (list_any is_reserved_lem (take n bytes) ≡ false)
+    × (name 0 bytes ≡ Stops n letter)
 
 -- the bytes begin with the name of a tag and >
 abbrev pub Heads : List ℕ → List ℕ → Type 0
@@ -34,7 +36,8 @@ Barren Dollar = ⊥
 
 -- the symbol takes some of so many bytes
 abbrev pub Signs : Sign → ℕ → Signed → Type 0
-Signs s most (signed.Reads symbol n) = (s ≡ Reads symbol n) × IsTrue (is_word_symbol symbol) × (0 < n) × (n ≤ most)
+Signs s most (signed.Reads symbol n) = (s ≡ Reads symbol n) × IsTrue (is_word_symbol symbol)
+    × (0 < n) × (n ≤ most)
 Signs s most signed.Slash = s ≡ Slash
 Signs s most signed.Dollar = s ≡ Dollar
 Signs s most signed.Nothing = Barren s

@@ -1,4 +1,5 @@
--- The bytes of an item, by the Apertium stream format. A unit or a chunk is written by the rendering of its words.
+-- The bytes of an item, by the Apertium stream format. A unit or a chunk is written by the
+-- rendering of its words.
 use Rattle.std.specs.Prelude.{ℕ, Bool, true, false, List, [], ◌∷◌, ◌++◌, cond, encode_utf8}
 use Rattle.std.specs.List.{flat_map}
 use Rattle.ap_symbol.specs.declared.symbol.Symbol.{Symbol}
@@ -29,7 +30,8 @@ inner_bytes (inner.Unit words) = unit_bytes words
 inner_bytes (inner.Blank bytes) = bytes
 
 abbrev pub chunk_bytes : List Symbol → List Inner → List ℕ
-chunk_bytes name content = 94 ∷ (rendering name ++ (123 ∷ (flat_map inner_bytes content ++ 125 ∷ 36 ∷ [])))
+chunk_bytes name content =
+    94 ∷ (rendering name ++ (123 ∷ (flat_map inner_bytes content ++ 125 ∷ 36 ∷ [])))
 
 abbrev pub spelled : Item → List ℕ
 spelled (Plain c) = character_bytes c

@@ -1,4 +1,5 @@
--- Tools that go over the items of a text from left to right, step by step; the bytes of items, and their symbols.
+-- Tools that go over the items of a text from left to right, step by step; the bytes of items, and
+-- their symbols.
 use Rattle.std.specs.Prelude.{ℕ, zero, suc, ◌+◌, pred, List, [], ◌∷◌, Option, Some, None}
 use Rattle.ap_symbol.specs.declared.symbol.Symbol.{Symbol}
 use Rattle.ap_stream.specs.declared.fault.LimitKind.{LimitKind}
@@ -17,11 +18,13 @@ abbrev pub goes_on : ℕ → Step → (ℕ → Told) → Told
 goes_on place (Gives n text) more = behind text (more (pred n))
 goes_on place (Stops kind) more = ends_in [] (Limit kind place)
 
--- the steps from left to right, by the first step of some items, where so many items are used already
+-- the steps from left to right, by the first step of some items, where so many items are used
+-- already
 unfoldable pub steps : (List Read → Step) → ℕ → List Read → Told
 steps first skip [] = silent
 steps first (suc skip) (read ∷ reads) = steps first skip reads
-steps first zero (read ∷ reads) = goes_on read.place (first (read ∷ reads)) (λ n. steps first n reads)
+steps first zero (read ∷ reads) =
+    goes_on read.place (first (read ∷ reads)) (λ n. steps first n reads)
 
 -- the bytes of the items
 abbrev pub bytes_of : List Read → ℕ

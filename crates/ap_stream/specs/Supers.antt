@@ -1,4 +1,5 @@
--- The superblanks of a text, in order. The text is cut as a reader cuts it, but an item may have any number of bytes.
+-- The superblanks of a text, in order. The text is cut as a reader cuts it, but an item may have
+-- any number of bytes.
 use Rattle.std.specs.Prelude.{ℕ, zero, suc, pred, List, [], ◌∷◌, take, cond, eqb, false}
 use Rattle.std.specs.List.{flat_map}
 use Rattle.ap_stream.specs.declared.dialect.Dialect.{Dialect}
@@ -18,7 +19,9 @@ closed_super bytes (Closed n) more = (91 ∷ take n bytes) ∷ more n
 unfoldable pub blank_supers : ℕ → List ℕ → List (List ℕ)
 blank_supers skip [] = []
 blank_supers (suc skip) (b ∷ bs) = blank_supers skip bs
-blank_supers zero (b ∷ bs) = cond (eqb b 91) (closed_super bs (closing false 0 bs) (λ n. blank_supers n bs)) (blank_supers 0 bs)
+blank_supers zero (b ∷ bs) =
+    cond (eqb b 91) (closed_super bs (closing false 0 bs) (λ n. blank_supers n bs))
+    (blank_supers 0 bs)
 
 abbrev pub inner_supers : Inner → List (List ℕ)
 inner_supers (inner.Unit words) = []
@@ -44,7 +47,8 @@ cut_by bytes (Faulty kind) more = []
 unfoldable pub items_of : Dialect → ℕ → List ℕ → List Item
 items_of dialect skip [] = []
 items_of dialect (suc skip) (b ∷ bs) = items_of dialect skip bs
-items_of dialect zero (b ∷ bs) = cut_by (b ∷ bs) (first dialect (b ∷ bs)) (λ n. items_of dialect n bs)
+items_of dialect zero (b ∷ bs) =
+    cut_by (b ∷ bs) (first dialect (b ∷ bs)) (λ n. items_of dialect n bs)
 
 abbrev pub supers : Dialect → List ℕ → List (List ℕ)
 supers dialect text = flat_map item_supers (items_of dialect 0 text)

@@ -8,7 +8,8 @@ use memchr::memchr2;
 /// How many bytes stand before the first `]` or backslash.
 fn bare_run(bytes: &[u8]) -> usize
     ensures most { result ≤ length bytes.now }
-    ensures bare { (k : ℕ) → k < result → (slice_index bytes.now k == 93 || slice_index bytes.now k == 92) ≡ true → ⊥ }
+    ensures bare { (k : ℕ) → k < result →
+        (slice_index bytes.now k == 93 || slice_index bytes.now k == 92) ≡ true → ⊥ }
 {
     match memchr2(b']', b'\\', bytes) {
         Some(at) => at,
@@ -75,8 +76,8 @@ fn is_named(byte: u8) -> bool
         )
 }
 
-/// The mode behind one more byte within a unit, where the byte is a character by itself that neither
-/// ends a word nor escapes.
+/// The mode behind one more byte within a unit, where the byte is a character by itself that
+/// neither ends a word nor escapes.
 fn crossed_by(dialect: Dialect, mode: Mode, byte: u8) -> Option<Mode>
     ensures { result ≡ crossed_by dialect mode byte }
 {

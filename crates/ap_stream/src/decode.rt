@@ -3,8 +3,8 @@ ghost use Rattle.std.specs.Char.{InScalarRange};
 ghost use Rattle.ap_stream.specs.Chars.{char_at, tail2, tail3, tail4, is_tail as tail_test, is_second as second_test};
 ghost use Rattle.ap_stream.specs.Seen.{front_of};
 
-/// What bytes that may go on begin with: the start of a character, or nothing that begins one, or a character and the
-/// number of its bytes.
+/// What bytes that may go on begin with: the start of a character, or nothing that begins one, or a
+/// character and the number of its bytes.
 #[derive(Clone, Copy, Debug, PartialEq, Eq)]
 pub(crate) enum Decoded {
     Part,
@@ -136,7 +136,8 @@ fn decode4(a: u8, bytes: &[u8]) -> Decoded
     }
 }
 
-/// The character at the front of bytes that may go on, by the table of well-formed sequences of the Unicode Standard.
+/// The character at the front of bytes that may go on, by the table of well-formed sequences of the
+/// Unicode Standard.
 #[tactic(auto, unfolding(crate::specs::Chars::char_at))]
 pub(crate) fn decode(bytes: &[u8]) -> Decoded
     ensures { front_of result ≡ char_at bytes.now }

@@ -37,8 +37,8 @@ pub enum LimitKind {
     InputTooLong,
 }
 
-/// Why reading a stream stopped. The place is the offset, in bytes, of the first byte of the item or match in the
-/// input of that reader; a place above 2^64 - 1 is given as 2^64 - 1.
+/// Why reading a stream stopped. The place is the offset, in bytes, of the first byte of the item
+/// or match in the input of that reader; a place above 2^64 - 1 is given as 2^64 - 1.
 #[derive(Clone, Copy, Debug, PartialEq, Eq, Error)]
 pub enum StreamFault {
     /// The text isn't of its dialect.

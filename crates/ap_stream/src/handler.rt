@@ -22,7 +22,8 @@ pub enum Turn {
     Over,
 }
 
-/// The part of a stage that works on whole items. It holds the items that it was given until it has seen enough.
+/// The part of a stage that works on whole items. It holds the items that it was given until it has
+/// seen enough.
 pub trait Handler {
     /// What is still to come where these are the items that still come.
     ghost work: { Self → List Read → Told };
@@ -36,7 +37,8 @@ pub trait Handler {
     /// The number of bytes of the items that are held.
     ghost held: { Self → ℕ };
 
-    /// The number of held items that the tool must see together, from the first one on: the span of its definition.
+    /// The number of held items that the tool must see together, from the first one on: the span of
+    /// its definition.
     ghost span: { Self → ℕ };
 
     /// No item comes any more.
@@ -45,12 +47,14 @@ pub trait Handler {
     /// Nothing is held, or the last turn wanted an item.
     ghost wants: { Self → Type 0 };
 
-    /// Adds an item to those that are held. After a refusal, which means want of memory, the handler isn't called again.
+    /// Adds an item to those that are held. After a refusal, which means want of memory, the
+    /// handler isn't called again.
     fn push(&mut self, read: Read) -> Result<(), Memory>
         requires is_read { IsRead (dialect self.old) read }
         requires open { finished self.old ≡ false }
         requires wanted { wants self.old }
-        ensures work { OnOk result ((xs : List Read) → work self.old (read ∷ xs) ≡ work self.new xs) }
+        ensures work { OnOk result ((xs : List Read) → work self.old (read ∷ xs)
+            ≡ work self.new xs) }
         ensures dialect { OnOk result (dialect self.new ≡ dialect self.old) }
         ensures count { OnOk result (count self.new ≡ count self.old + 1) }
         ensures held { OnOk result (held self.new ≡ held self.old + read.size) }
@@ -65,20 +69,29 @@ pub trait Handler {
         ensures held { held self.new ≡ held self.old }
         ensures finished { finished self.new ≡ true };
 
-    /// Works on the held items. A limit is answered where it is the fault however the items go on, and no text comes
-    /// before it; `Memory` means want of memory. After an error nothing was written, and the handler isn't called again.
+    /// Works on the held items. A limit is answered where it is the fault however the items go on,
+    /// and no text comes before it; `Memory` means want of memory. After an error nothing was
+    /// written, and the handler isn't called again.
     fn turn(&mut self, into: &mut Bytes) -> Result<Turn, StageFault>
-        ensures wants { result ≡ Ok Turn.Wants → (self.new ≡ self.old) × (into.new ≡ into.old) × wants self.old
-            × (finished self.old ≡ false) × (held self.old ≤ SPAN_MAX) × ((count self.old ≡ 0) ⊎ (span self.old ≡ count self.old)) }
-        ensures wrote { result ≡ Ok Turn.Wrote → (given : List ℕ) × (into.new ≡ into.old ++ given) × (length given ≤ SPAN_MAX + UNIT_MAX + 2)
-            × (count self.new < count self.old) × (held self.new < held self.old) × (dialect self.new ≡ dialect self.old) × (finished self.new ≡ finished self.old)
-            × ((xs : List Read) → (finished self.old ≡ true → xs ≡ []) → behind given (work self.new xs) ≡ work self.old xs) }
+        ensures wants { result ≡ Ok Turn.Wants → (self.new ≡ self.old) × (into.new ≡ into.old)
+            × wants self.old
+            × (finished self.old ≡ false) × (held self.old ≤ SPAN_MAX)
+            × ((count self.old ≡ 0) ⊎ (span self.old ≡ count self.old)) }
+        ensures wrote { result ≡ Ok Turn.Wrote → (given : List ℕ) × (into.new ≡ into.old ++ given)
+            × (length given ≤ SPAN_MAX + UNIT_MAX + 2)
+            × (count self.new < count self.old) × (held self.new < held self.old)
+            × (dialect self.new ≡ dialect self.old) × (finished self.new ≡ finished self.old)
+            × ((xs : List Read) → (finished self.old ≡ true → xs ≡ []) →
+            behind given (work self.new xs) ≡ work self.old xs) }
         ensures over { result ≡ Ok Turn.Over → (self.new ≡ self.old) × (into.new ≡ into.old)
-            × (finished self.old ≡ true) × (count self.old ≡ 0) × (held self.old ≡ 0) × (work self.old [] ≡ silent) }
+            × (finished self.old ≡ true) × (count self.old ≡ 0) × (held self.old ≡ 0)
+            × (work self.old [] ≡ silent) }
         ensures err { OnErr result (into.new ≡ into.old) }
         ensures limit { IfErr result (λ f. f ≢ StreamFault.Memory →
-            (xs : List Read) → (finished self.old ≡ true → xs ≡ []) → work self.old xs ≡ ends_in [] f) }
-        ensures never { IfErr result (λ f. (kind : MalformedKind) (place : ℕ) → f ≢ StreamFault.Malformed kind place) };
+            (xs : List Read) → (finished self.old ≡ true → xs ≡ []) →
+            work self.old xs ≡ ends_in [] f) }
+        ensures never { IfErr result (λ f. (kind : MalformedKind) (place : ℕ) →
+            f ≢ StreamFault.Malformed kind place) };
 
     /// A handler that holds nothing takes an item.
     ghost wants_first: { (h : Self) → count h ≡ 0 → wants h };

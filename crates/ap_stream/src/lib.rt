@@ -1,4 +1,5 @@
-//! The stream between the stages: its items, a reader for each dialect, pipes, and stages over bytes.
+//! The stream between the stages: its items, a reader for each dialect, pipes, and stages over
+//! bytes.
 #![tactic(auto)]
 
 mod blank;

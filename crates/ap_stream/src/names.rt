@@ -5,8 +5,8 @@ ghost use Rattle.ap_stream.specs.Signs.{Heads};
 use ap_symbol::{Memory, TagName};
 use std::alloc::Global;
 
-/// The names of tags that were read last, each at a place that its bytes tell: at most 64. They are a
-/// hint alone: a name that is read again shares the text of the one before, and takes no memory.
+/// The names of tags that were read last, each at a place that its bytes tell: at most 64. They are
+/// a hint alone: a name that is read again shares the text of the one before, and takes no memory.
 #[derive(Drop)]
 pub struct Names {
     places: Vec<Option<TagName>>,

@@ -5,8 +5,8 @@ use ap_symbol::Memory;
 use std::alloc::Global;
 use std::marker::Model;
 
-/// Bytes that come in behind and go out in front. What is left isn't moved at a drain; behind a whole room of bytes
-/// it is moved once.
+/// Bytes that come in behind and go out in front. What is left isn't moved at a drain; behind a
+/// whole room of bytes it is moved once.
 #[derive(Drop)]
 pub struct Pipe {
     bytes: Vec<u8>,
@@ -23,7 +23,8 @@ impl Model for Pipe {
 
     ghost view = { λ p. record { bytes = drop p.from p.bytes.items; room = p.room } };
 
-    ghost invariant = { λ p. (p.from ≤ vec_len p.bytes) × (vec_len p.bytes ≤ p.room + p.from) × (2 * p.room ≤ vec_capacity p.bytes) × (p.room ≤ room_max) };
+    ghost invariant = { λ p. (p.from ≤ vec_len p.bytes) × (vec_len p.bytes ≤ p.room + p.from)
+        × (2 * p.room ≤ vec_capacity p.bytes) × (p.room ≤ room_max) };
 }
 
 /// Drops the first bytes.

@@ -8,9 +8,9 @@ use ap_symbol::Memory;
 use std::alloc::Global;
 use std::marker::Model;
 
-/// The items that a handler holds, in their order, and the number of their bytes. Those that were let
-/// go stay at the front of the vector until they are half of it, so that no item moves more than once
-/// for each that was let go.
+/// The items that a handler holds, in their order, and the number of their bytes. Those that were
+/// let go stay at the front of the vector until they are half of it, so that no item moves more
+/// than once for each that was let go.
 #[derive(Drop)]
 pub struct Queue {
     items: Vec<Read>,
@@ -27,14 +27,15 @@ impl Model for Queue {
 
     ghost view = { λ q. drop q.from q.items.items };
 
-    ghost invariant = { λ q. (q.from ≤ length q.items.items) × (q.bytes ≡ bytes_of (drop q.from q.items.items)) };
+    ghost invariant = { λ q. (q.from ≤ length q.items.items)
+        × (q.bytes ≡ bytes_of (drop q.from q.items.items)) };
 }
 
 /// So many items that were let go are worth moving those behind them.
 const BEHIND: usize = 64;
 
-/// Whether the items that were let go are so many that the others are moved to the front: at least as many as those, and
-/// either all or a good number.
+/// Whether the items that were let go are so many that the others are moved to the front: at least
+/// as many as those, and either all or a good number.
 fn is_worth_moving(from: usize, left: usize) -> bool {
     from >= left && (from >= BEHIND || left == 0)
 }
@@ -72,8 +73,8 @@ impl Queue {
         }
     }
 
-    /// Adds an item behind the others. After a refusal, which means want of memory, the same items are
-    /// held.
+    /// Adds an item behind the others. After a refusal, which means want of memory, the same items
+    /// are held.
     pub fn push(&mut self, read: Read) -> Result<(), Memory>
         requires { bytes_of self.old + read.size < 2 ^ 64 }
         ensures ok { OnOk result (self.new ≡ self.old ++ read ∷ []) }
@@ -106,8 +107,8 @@ impl Queue {
         self.bytes
     }
 
-    /// Whether so many items at the front have more bytes than may be held for one match. It looks at
-    /// them only where all together have more.
+    /// Whether so many items at the front have more bytes than may be held for one match. It looks
+    /// at them only where all together have more.
     pub fn is_over(&self, count: usize) -> bool
         requires { count ≤ length self.now }
         ensures { result ≡ nat_lt SPAN_MAX (bytes_of (take count self.now)) }

@@ -25,7 +25,8 @@ pub struct Fed {
     pub item: Option<Read>,
 }
 
-/// Reads the items of a text in any pieces. It holds the bytes of no whole item alone, and looks at no byte twice.
+/// Reads the items of a text in any pieces. It holds the bytes of no whole item alone, and looks at
+/// no byte twice.
 #[derive(Drop)]
 pub struct Reader {
     alloc: Global,
@@ -48,9 +49,17 @@ impl Model for Reader {
 
     ghost Value = { Begun };
 
-    ghost view = { λ r. record { dialect = r.dialect; held = r.held.items; place = r.place; looked = r.looked; fault = r.fault } };
+    ghost view = { λ r. record {
+      dialect = r.dialect;
+      held = r.held.items;
+      place = r.place;
+      looked =
+          r.looked;
+      fault = r.fault;
+    } };
 
-    ghost invariant = { λ r. (length r.held.items ≤ begun_max) × (r.fault ≡ None → Standing r.dialect r.looked r.mode r.done r.held.items) };
+    ghost invariant = { λ r. (length r.held.items ≤ begun_max)
+        × (r.fault ≡ None → Standing r.dialect r.looked r.mode r.done r.held.items) };
 }
 
 /// How far ahead the next byte of a superblank or a word that needs a look is sought at once.
@@ -106,7 +115,8 @@ fn all_out(alloc: Global, held: &mut Vec<u8>) -> Result<Vec<u8>, Memory>
 }
 
 impl Reader {
-    /// A reader at the start of a text. Chunks aren't read yet, so the dialect is one that has none.
+    /// A reader at the start of a text. Chunks aren't read yet, so the dialect is one that has
+    /// none.
     pub fn new(alloc: Global, dialect: Dialect) -> Reader
         requires { chunks_test dialect ≡ false }
         ensures dialect { result.dialect ≡ dialect }
@@ -139,7 +149,8 @@ impl Reader {
     fn push(&mut self, byte: u8) -> Result<(), StreamFault>
         requires going { self.old.fault ≡ None }
         requires looked { self.old.looked ≡ true }
-        ensures ok { OnOk result ((self.new.held ≡ self.old.held ++ byte ∷ []) × (self.new.looked ≡ false) × (self.new.fault ≡ None)) }
+        ensures ok { OnOk result ((self.new.held ≡ self.old.held ++ byte ∷ [])
+            × (self.new.looked ≡ false) × (self.new.fault ≡ None)) }
         ensures dialect { self.new.dialect ≡ self.old.dialect }
         ensures place { self.new.place ≡ self.old.place }
         ensures holds { length self.new.held ≤ UNIT_MAX + 1 }
@@ -163,7 +174,8 @@ impl Reader {
         requires going { self.old.fault ≡ None }
         requires looked { self.old.looked ≡ true }
         ensures count { IfOk result (λ n. n ≤ length piece.now) }
-        ensures ok { IfOk result (λ n. (self.new.held ≡ self.old.held ++ take n piece.now) × (self.new.looked ≡ true) × (self.new.fault ≡ None)) }
+        ensures ok { IfOk result (λ n. (self.new.held ≡ self.old.held ++ take n piece.now)
+            × (self.new.looked ≡ true) × (self.new.fault ≡ None)) }
         ensures dialect { self.new.dialect ≡ self.old.dialect }
         ensures place { self.new.place ≡ self.old.place }
         ensures holds { length self.new.held ≤ UNIT_MAX + 1 }
@@ -200,7 +212,8 @@ impl Reader {
         requires looked { self.old.looked ≡ true }
         requires some { 0 < length piece.now }
         ensures count { IfOk result (λ n. (0 < n) × (n ≤ length piece.now)) }
-        ensures ok { IfOk result (λ n. (self.new.held ≡ self.old.held ++ take n piece.now) × (self.new.fault ≡ None)) }
+        ensures ok { IfOk result (λ n. (self.new.held ≡ self.old.held ++ take n piece.now)
+            × (self.new.fault ≡ None)) }
         ensures dialect { self.new.dialect ≡ self.old.dialect }
         ensures place { self.new.place ≡ self.old.place }
         ensures holds { length self.new.held ≤ UNIT_MAX + 1 }
@@ -230,9 +243,13 @@ impl Reader {
         ensures looked { IfOk result (λ item. item ≡ None → self.new.looked ≡ true) }
         ensures short { IfOk result (λ item. OnSome item (length self.new.held ≤ 1)) }
         ensures holds { length self.new.held ≤ UNIT_MAX + 1 }
-        ensures held { IfOk result (λ item. item ≡ None → (self.new.held ≡ self.old.held) × (self.new.place ≡ self.old.place) × CanGoOn self.new) }
+        ensures held { IfOk result (λ item. item ≡ None → (self.new.held ≡ self.old.held)
+            × (self.new.place ≡ self.old.place) × CanGoOn self.new) }
         ensures fault { IfErr result (λ f. self.new.fault ≡ Some f) }
-        ensures shown { IfErr result (λ f. f ≢ StreamFault.Memory → (self.new.held ≡ self.old.held) × (self.new.place ≡ self.old.place) × Stopped f self.new × ((place : ℕ) → f ≢ StreamFault.Malformed MalformedKind.Unfinished place) × NeededMore self.new) }
+        ensures shown { IfErr result (λ f. f ≢ StreamFault.Memory → (self.new.held ≡ self.old.held)
+            × (self.new.place ≡ self.old.place) × Stopped f self.new
+            × ((place : ℕ) → f ≢ StreamFault.Malformed MalformedKind.Unfinished place)
+            × NeededMore self.new) }
     {
         if self.looked {
             return Ok(None);
@@ -318,12 +335,14 @@ impl Reader {
         }
     }
 
-    /// Uses bytes of the piece until an item is whole or the piece is used up. An item that is whole is given with its
-    /// place and size, and at most one byte is held behind it. A fault is that of the items in the Apertium stream
-    /// format, and comes once it is certain however the text goes on; `Memory` means want of memory. After a fault it
-    /// answers that fault from then on, and uses nothing more.
+    /// Uses bytes of the piece until an item is whole or the piece is used up. An item that is
+    /// whole is given with its place and size, and at most one byte is held behind it. A fault is
+    /// that of the items in the Apertium stream format, and comes once it is certain however the
+    /// text goes on; `Memory` means want of memory. After a fault it answers that fault from then
+    /// on, and uses nothing more.
     pub fn feed(&mut self, piece: &[u8]) -> Result<Fed, StreamFault>
-        ensures given { IfOk result (λ fed. Feeds self.old (take fed.used piece.now) fed.item self.new) }
+        ensures given { IfOk result
+            (λ fed. Feeds self.old (take fed.used piece.now) fed.item self.new) }
         ensures used { IfOk result (λ fed. fed.used ≤ length piece.now) }
         ensures all_used { IfOk result (λ fed. fed.item ≡ None → fed.used ≡ length piece.now) }
         ensures begun { IfOk result (λ fed. fed.item ≡ None → CanGoOn self.new) }
@@ -333,8 +352,10 @@ impl Reader {
         ensures holds { length self.new.held ≤ UNIT_MAX + 1 }
         ensures going { OnOk result (self.new.fault ≡ None) }
         ensures fault { IfErr result (λ f. self.new.fault ≡ Some f) }
-        ensures shown { IfErr result (λ f. self.old.fault ≡ None → f ≢ StreamFault.Memory → Shows f self.old piece.now self.new) }
-        ensures stays { (f : StreamFault) → self.old.fault ≡ Some f → (result ≡ Err f) × (self.new ≡ self.old) }
+        ensures shown { IfErr result (λ f. self.old.fault ≡ None → f ≢ StreamFault.Memory →
+            Shows f self.old piece.now self.new) }
+        ensures stays { (f : StreamFault) → self.old.fault ≡ Some f →
+            (result ≡ Err f) × (self.new ≡ self.old) }
     {
         if let Some(fault) = self.fault {
             return Err(fault);
@@ -381,7 +402,9 @@ impl Reader {
         ensures holds { length self.new.held ≤ UNIT_MAX + 1 }
         ensures going { OnOk result (self.new.fault ≡ None) }
         ensures fault { IfErr result (λ f. self.new.fault ≡ Some f) }
-        ensures shown { IfErr result (λ f. f ≢ StreamFault.Memory → (self.new.held ≡ self.old.held) × (self.new.place ≡ self.old.place) × (reads self.new.dialect self.new.place self.new.held ≡ stopped f)) }
+        ensures shown { IfErr result (λ f. f ≢ StreamFault.Memory → (self.new.held ≡ self.old.held)
+            × (self.new.place ≡ self.old.place)
+            × (reads self.new.dialect self.new.place self.new.held ≡ stopped f)) }
     {
         if self.held.is_empty() {
             return Ok(None);
@@ -408,20 +431,25 @@ impl Reader {
     }
 
     #[tactic(auto, using(crate::specs::Reading::reads_nil))]
-    /// Gives the last item, and then none, once the text has ended. The faults are those of `feed`, and `Unfinished`
-    /// where the text ends inside an item.
+    /// Gives the last item, and then none, once the text has ended. The faults are those of `feed`,
+    /// and `Unfinished` where the text ends inside an item.
     pub fn end(&mut self) -> Result<Option<Read>, StreamFault>
         ensures given { IfOk result (λ item. Ends self.old item self.new) }
         ensures item { IfOk result (λ item. IfSome item (IsRead self.old.dialect)) }
         ensures none { result ≡ Ok None → (self.new.held ≡ []) × (self.old.held ≡ []) }
-        ensures over { result ≡ Ok None → (reads self.old.dialect self.old.place self.old.held ≡ nothing) × (reads self.new.dialect self.new.place self.new.held ≡ nothing) }
+        ensures over { result ≡ Ok None →
+            (reads self.old.dialect self.old.place self.old.held ≡ nothing)
+            × (reads self.new.dialect self.new.place self.new.held ≡ nothing) }
         ensures dialect { self.new.dialect ≡ self.old.dialect }
         ensures short { IfOk result (λ item. OnSome item (length self.new.held ≤ 1)) }
         ensures holds { length self.new.held ≤ UNIT_MAX + 1 }
         ensures going { OnOk result (self.new.fault ≡ None) }
         ensures fault { IfErr result (λ f. self.new.fault ≡ Some f) }
-        ensures shown { IfErr result (λ f. self.old.fault ≡ None → f ≢ StreamFault.Memory → (self.new.held ≡ self.old.held) × (self.new.place ≡ self.old.place) × (reads self.new.dialect self.new.place self.new.held ≡ stopped f)) }
-        ensures stays { (f : StreamFault) → self.old.fault ≡ Some f → (result ≡ Err f) × (self.new ≡ self.old) }
+        ensures shown { IfErr result (λ f. self.old.fault ≡ None → f ≢ StreamFault.Memory →
+            (self.new.held ≡ self.old.held) × (self.new.place ≡ self.old.place)
+            × (reads self.new.dialect self.new.place self.new.held ≡ stopped f)) }
+        ensures stays { (f : StreamFault) → self.old.fault ≡ Some f →
+            (result ≡ Err f) × (self.new ≡ self.old) }
     {
         if let Some(fault) = self.fault {
             return Err(fault);

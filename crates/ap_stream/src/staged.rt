@@ -17,8 +17,8 @@ use ap_symbol::Bytes;
 use std::alloc::Global;
 use std::marker::Model;
 
-/// A stage over bytes, made of a handler over whole items. It reads by a reader of its dialect, and lets the handler
-/// work only while nothing is pending.
+/// A stage over bytes, made of a handler over whole items. It reads by a reader of its dialect, and
+/// lets the handler work only while nothing is pending.
 #[derive(Drop)]
 pub struct Staged<H: Handler + Drop> {
     reader: Reader,
@@ -41,13 +41,26 @@ impl<H: Handler + Drop> Model for Staged<H> {
 
     ghost Value = { Seat H };
 
-    ghost view = { λ s. record { handler = s.handler; dialect = s.reader.dialect; begun = s.reader.held; place = s.reader.place; pending = drop s.from s.out; ended = s.ended; fault = s.fault } };
+    ghost view = { λ s. record {
+      handler = s.handler;
+      dialect = s.reader.dialect;
+      begun =
+          s.reader.held;
+      place = s.reader.place;
+      pending = drop s.from s.out;
+      ended =
+          s.ended;
+      fault = s.fault;
+    } };
 
-    ghost invariant = { λ s. (s.fault ≡ None → Sound H.finished H.held H.dialect s.handler s.reader s.finished s.stop s.ended) × (s.from ≤ length s.out) × (length s.out ≤ stage_max) };
+    ghost invariant = { λ s. (s.fault ≡ None →
+        Sound H.finished H.held H.dialect s.handler s.reader s.finished s.stop s.ended)
+        × (s.from ≤ length s.out) × (length s.out ≤ stage_max) };
 }
 
 impl<H: Handler + Drop> Staged<H> {
-    /// A new stage over a handler that holds nothing and isn't finished, and whose dialect is this one. It takes no memory.
+    /// A new stage over a handler that holds nothing and isn't finished, and whose dialect is this
+    /// one. It takes no memory.
     pub fn new(alloc: Global, dialect: Dialect, handler: H) -> Staged<H>
         requires known { chunks_test dialect ≡ false }
         requires dialect { H.dialect handler ≡ dialect }
@@ -77,7 +90,8 @@ impl<H: Handler + Drop> Staged<H> {
     fn is_idle(&self) -> bool
         ensures idle { result ≡ true → self.now.pending ≡ [] }
         ensures busy { result ≡ false → 0 < length self.now.pending }
-        ensures bounded { (held_of H.held self.now ≤ SPAN_MAX + UNIT_MAX + 2) × (length self.now.pending ≤ SPAN_MAX + UNIT_MAX + 2) }
+        ensures bounded { (held_of H.held self.now ≤ SPAN_MAX + UNIT_MAX + 2)
+            × (length self.now.pending ≤ SPAN_MAX + UNIT_MAX + 2) }
     {
         self.from == self.out.as_slice().len()
     }
@@ -87,15 +101,21 @@ impl<H: Handler + Drop> Staged<H> {
         requires going { self.old.fault ≡ None }
         requires empty { self.old.pending ≡ [] }
         ensures ended { self.new.ended ≡ self.old.ended }
-        ensures wants { result ≡ Ok Turn.Wants → (self.new ≡ self.old) × H.wants self.new.handler × (H.finished self.new.handler ≡ false) × (H.held self.new.handler ≤ SPAN_MAX) }
-        ensures wrote { result ≡ Ok Turn.Wrote → (H.held self.new.handler < H.held self.old.handler) × (H.finished self.new.handler ≡ H.finished self.old.handler)
+        ensures wants { result ≡ Ok Turn.Wants → (self.new ≡ self.old) × H.wants self.new.handler
+            × (H.finished self.new.handler ≡ false) × (H.held self.new.handler ≤ SPAN_MAX) }
+        ensures wrote { result ≡ Ok Turn.Wrote → (H.held self.new.handler < H.held self.old.handler)
+            × (H.finished self.new.handler ≡ H.finished self.old.handler)
             × (self.new.begun ≡ self.old.begun) }
-        ensures over { result ≡ Ok Turn.Over → (self.new ≡ self.old) × (self.old.ended ≡ true) × (rest_of H.work self.old [] Clean ≡ silent) }
+        ensures over { result ≡ Ok Turn.Over → (self.new ≡ self.old) × (self.old.ended ≡ true)
+            × (rest_of H.work self.old [] Clean ≡ silent) }
         ensures going { OnOk result (self.new.fault ≡ None) }
-        ensures rest { OnOk result ((x : List ℕ) (e : Ending) → May self.old x e → rest_of H.work self.old x e ≡ rest_of H.work self.new x e) }
+        ensures rest { OnOk result ((x : List ℕ) (e : Ending) → May self.old x e →
+            rest_of H.work self.old x e ≡ rest_of H.work self.new x e) }
         ensures err { IfErr result (λ f. (self.new.fault ≡ Some f) × (self.new.pending ≡ [])) }
-        ensures whole { IfErr result (λ f. self.old.ended ≡ false → (place : ℕ) → f ≢ StreamFault.Malformed MalformedKind.Unfinished place) }
-        ensures cause { IfErr result (λ f. f ≢ StreamFault.Memory → (x : List ℕ) (e : Ending) → May self.old x e → rest_of H.work self.old x e ≡ ends_in [] f) }
+        ensures whole { IfErr result (λ f. self.old.ended ≡ false → (place : ℕ) →
+            f ≢ StreamFault.Malformed MalformedKind.Unfinished place) }
+        ensures cause { IfErr result (λ f. f ≢ StreamFault.Memory → (x : List ℕ) (e : Ending) →
+            May self.old x e → rest_of H.work self.old x e ≡ ends_in [] f) }
     {
         self.out.clear();
         self.from = 0;
@@ -116,7 +136,8 @@ impl<H: Handler + Drop> Staged<H> {
         }
     }
 
-    /// Gives the piece to the reader, until an item is whole or the piece is used up. Answers how many bytes were used.
+    /// Gives the piece to the reader, until an item is whole or the piece is used up. Answers how
+    /// many bytes were used.
     fn read(&mut self, piece: &[u8]) -> Result<usize, StageFault>
         requires going { self.old.fault ≡ None }
         requires empty { self.old.pending ≡ [] }
@@ -129,9 +150,13 @@ impl<H: Handler + Drop> Staged<H> {
         ensures pending { self.new.pending ≡ [] }
         ensures going { OnOk result (self.new.fault ≡ None) }
         ensures count { IfOk result (λ n. n ≤ length piece.now) }
-        ensures rest { IfOk result (λ n. (x : List ℕ) (e : Ending) → rest_of H.work self.old (take n piece.now ++ x) e ≡ rest_of H.work self.new x e) }
-        ensures held { IfOk result (λ n. H.held self.new.handler + length self.new.begun ≡ H.held self.old.handler + length self.old.begun + n) }
-        ensures falls { IfOk result (λ n. measure H.finished H.held self.new (length piece.now - n) < measure H.finished H.held self.old (length piece.now)) }
+        ensures rest { IfOk result (λ n. (x : List ℕ) (e : Ending) →
+            rest_of H.work self.old (take n piece.now ++ x) e ≡ rest_of H.work self.new x e) }
+        ensures held { IfOk result (λ n. H.held self.new.handler + length self.new.begun
+            ≡ H.held self.old.handler + length self.old.begun + n) }
+        ensures falls { IfOk result
+            (λ n. measure H.finished H.held self.new (length piece.now - n) < measure H.finished
+            H.held self.old (length piece.now)) }
         ensures err { IfErr result (λ f. (f ≡ StreamFault.Memory) × (self.new.fault ≡ Some f)) }
     {
         let before = self.reader.begun();
@@ -175,9 +200,12 @@ impl<H: Handler + Drop> Staged<H> {
         ensures ended { self.new.ended ≡ true }
         ensures pending { self.new.pending ≡ [] }
         ensures going { OnOk result (self.new.fault ≡ None) }
-        ensures rest { OnOk result (rest_of H.work self.old [] Clean ≡ rest_of H.work self.new [] Clean) }
-        ensures held { OnOk result (H.held self.new.handler + length self.new.begun ≡ H.held self.old.handler + length self.old.begun) }
-        ensures falls { OnOk result (measure H.finished H.held self.new 0 < measure H.finished H.held self.old 0) }
+        ensures rest { OnOk result (rest_of H.work self.old [] Clean
+            ≡ rest_of H.work self.new [] Clean) }
+        ensures held { OnOk result (H.held self.new.handler + length self.new.begun
+            ≡ H.held self.old.handler + length self.old.begun) }
+        ensures falls { OnOk result
+            (measure H.finished H.held self.new 0 < measure H.finished H.held self.old 0) }
         ensures err { IfErr result (λ f. (f ≡ StreamFault.Memory) × (self.new.fault ≡ Some f)) }
     {
         match self.reader.end() {

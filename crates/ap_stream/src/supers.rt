@@ -19,7 +19,8 @@ fn is_escaping(escaped: bool, letter: char) -> bool
     !escaped && letter == '\\'
 }
 
-/// How many of the bytes behind its bracket a superblank has, the closing bracket included, if it is closed.
+/// How many of the bytes behind its bracket a superblank has, the closing bracket included, if it
+/// is closed.
 fn closed_size(bytes: &[u8]) -> Option<usize>
     ensures closed { IfSome result (λ n. closing false 0 bytes.now ≡ Closed n) }
     ensures within { IfSome result (λ n. n ≤ length bytes.now) }
@@ -64,7 +65,8 @@ fn push_blank(bytes: &[u8], into: &mut Bytes) -> Result<(), Memory>
 }
 
 fn push_inner(parts: &[Inner], into: &mut Bytes) -> Result<(), Memory>
-    ensures { OnOk result (into.new ≡ into.old ++ flat_map (λ x. x) (flat_map inner_supers parts.now)) }
+    ensures { OnOk result (into.new ≡ into.old
+        ++ flat_map (λ x. x) (flat_map inner_supers parts.now)) }
 {
     for part in parts {
         if let Inner::Blank(blank) = part {
@@ -74,9 +76,9 @@ fn push_inner(parts: &[Inner], into: &mut Bytes) -> Result<(), Memory>
     Ok(())
 }
 
-/// Appends the superblanks of an item, `[` and `]` and all between them, without the white space beside them (the
-/// Apertium stream format); also those inside a chunk. After a refusal, which means want of memory, some of them may
-/// stand there.
+/// Appends the superblanks of an item, `[` and `]` and all between them, without the white space
+/// beside them (the Apertium stream format); also those inside a chunk. After a refusal, which
+/// means want of memory, some of them may stand there.
 pub fn push_superblanks(item: &Item, into: &mut Bytes) -> Result<(), Memory>
     ensures { OnOk result (into.new ≡ into.old ++ flat_map (λ x. x) (item_supers item.now)) }
 {

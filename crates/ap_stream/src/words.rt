@@ -17,14 +17,16 @@ use ap_symbol::{
 use std::alloc::Global;
 use std::mem;
 
-/// What the bytes of a tag's name go up to: their end within it, no character, or a character that no name holds.
+/// What the bytes of a tag's name go up to: their end within it, no character, or a character that
+/// no name holds.
 pub(crate) enum Named {
     Runs,
     Breaks,
     Stops { text: String, letter: char },
 }
 
-/// What stands at the front of a word's bytes: a symbol of so many bytes, the end of the word, or neither.
+/// What stands at the front of a word's bytes: a symbol of so many bytes, the end of the word, or
+/// neither.
 pub(crate) enum Signed {
     Reads(Symbol, usize),
     Slash,

@@ -94,9 +94,9 @@ fn append_chunk(alloc: Global, chunk: &Chunk, text: &mut Bytes) -> Result<(), Me
     text.extend(b"}$")
 }
 
-/// Appends the bytes of the item: a blank as it is, a character behind `\` if it is escaped, a unit as its words joined
-/// by `/` between `^` and `$`, and a chunk as `^name{content}$` (the Apertium stream format). After a refusal, which
-/// means want of memory, nothing is appended.
+/// Appends the bytes of the item: a blank as it is, a character behind `\` if it is escaped, a unit
+/// as its words joined by `/` between `^` and `$`, and a chunk as `^name{content}$` (the Apertium
+/// stream format). After a refusal, which means want of memory, nothing is appended.
 pub fn write_item(alloc: Global, item: &Item, into: &mut Bytes) -> Result<(), Memory>
     ensures ok { OnOk result (into.new ≡ into.old ++ spelled item.now) }
     ensures err { OnErr result (into.new ≡ into.old) }

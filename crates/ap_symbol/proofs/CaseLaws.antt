@@ -23,7 +23,10 @@ pub not_both : NoLetterIsBoth
 not_both c t l = both t (not_upper_of l.0 c l.1.1)
 
 pub upper_moves : UpperLettersMove
-upper_moves c = (λ t e. both t (not_upper_of c c e), λ n. elim (lower_stays_or c) [ inl t ↦ t | inr e ↦ absurd (n e) ])
+upper_moves c = (
+  λ t e. both t (not_upper_of c c e),
+  λ n. elim (lower_stays_or c) [ inl t ↦ t | inr e ↦ absurd (n e) ],
+)
 
 pub lower_moves : LowerLettersMove
 lower_moves c = (
@@ -32,7 +35,12 @@ lower_moves c = (
 )
 
 pub settles : CaseSettles
-settles c = (lower_upper c, upper_lower c, lower_stays (lower_lem c) (lower_is_not_upper c), upper_twice c)
+settles c = (
+  lower_upper c,
+  upper_lower c,
+  lower_stays (lower_lem c) (lower_is_not_upper c),
+  upper_twice c,
+)
 
 pub comes_back : ComesBackUnlessUpper
 comes_back c = (λ e. not_upper_of (upper_lem c) c e, λ f. lower_upper c ∙ lower_stays c f)

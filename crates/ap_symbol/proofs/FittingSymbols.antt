@@ -11,13 +11,15 @@ same_text : (s t : List ℕ) → bytes_eq s t ≡ true → s ≡ t
 same_text [] [] h = refl
 same_text [] (c ∷ t) h = absurd (false≢true h)
 same_text (c ∷ s) [] h = absurd (false≢true h)
-same_text (c ∷ s) (d ∷ t) h = ap (λ x. x ∷ s) (eqb_is c d (and_left _ _ h)) ∙ ap (λ l. d ∷ l) (same_text s t (and_right _ _ h))
+same_text (c ∷ s) (d ∷ t) h = ap (λ x. x ∷ s) (eqb_is c d (and_left _ _ h))
+    ∙ ap (λ l. d ∷ l) (same_text s t (and_right _ _ h))
 
 itself : (s : List ℕ) → bytes_eq s s ≡ true
 itself [] = refl
 itself (c ∷ s) = and_both _ _ (eqb_eq c c refl) (itself s)
 
-to_fits : (sensitive : Bool) (symbol input : Symbol) → fits_lem sensitive symbol input ≡ true → Fits sensitive symbol input
+to_fits : (sensitive : Bool) (symbol input : Symbol) → fits_lem sensitive symbol input ≡ true →
+    Fits sensitive symbol input
 to_fits sensitive (Letter s) (Letter c) h = elim (or_cases _ _ h) [
   | inl e ↦ inl (ap Letter (eqb_is _ _ e))
   | inr k ↦ inr (not_true (and_left _ _ k), (c, (refl, ap Letter (eqb_is _ _ (and_right _ _ k)))))
@@ -44,9 +46,15 @@ fits_itself sensitive At = refl
 fits_partner : (c : ℕ) → fits_lem false (Letter (lower_lem c)) (Letter c) ≡ true
 fits_partner c = or_right _ _ (eqb_eq (lower_lem c) (lower_lem c) refl)
 
-from_fits : (sensitive : Bool) (symbol input : Symbol) → Fits sensitive symbol input → fits_lem sensitive symbol input ≡ true
-from_fits sensitive symbol input (inl e) = ap (λ s. fits_lem sensitive s input) e ∙ fits_itself sensitive input
-from_fits sensitive symbol input (inr h) = ap (λ b. fits_lem b symbol input) h.0 ∙ ap (λ s. fits_lem false s input) h.1.1.1 ∙ ap (λ s. fits_lem false (Letter (lower_lem h.1.0)) s) h.1.1.0 ∙ fits_partner h.1.0
+from_fits : (sensitive : Bool) (symbol input : Symbol) → Fits sensitive symbol input →
+    fits_lem sensitive symbol input ≡ true
+from_fits sensitive symbol input (inl e) = ap (λ s. fits_lem sensitive s input) e
+    ∙ fits_itself sensitive input
+from_fits sensitive symbol input (inr h) = ap (λ b. fits_lem b symbol input) h.0
+    ∙ ap (λ s. fits_lem false s input) h.1.1.1
+    ∙ ap (λ s. fits_lem false (Letter (lower_lem h.1.0)) s) h.1.1.0 ∙ fits_partner h.1.0
 
-pub fits_is : (sensitive : Bool) (symbol input : Symbol) → (fits_lem sensitive symbol input ≡ true → Fits sensitive symbol input) × (Fits sensitive symbol input → fits_lem sensitive symbol input ≡ true)
+pub fits_is : (sensitive : Bool) (symbol input : Symbol) →
+    (fits_lem sensitive symbol input ≡ true → Fits sensitive symbol input)
+    × (Fits sensitive symbol input → fits_lem sensitive symbol input ≡ true)
 fits_is sensitive symbol input = (to_fits sensitive symbol input, from_fits sensitive symbol input)

@@ -6,7 +6,8 @@ use Rattle.ap_symbol.specs.Case.{partner_lem}
 abbrev pub has_letter : List ℕ → ℕ → Bool
 has_letter alphabet c = list_any (λ a. a == c) alphabet
 
--- the closure of an alphabet under case partners holds a character exactly where it or its partner stands in the alphabet
+-- the closure of an alphabet under case partners holds a character exactly where it or its partner
+-- stands in the alphabet
 abbrev pub is_in_closure : List ℕ → ℕ → Bool
 is_in_closure alphabet c = has_letter alphabet c || has_letter alphabet (partner_lem c)
 

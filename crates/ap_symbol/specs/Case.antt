@@ -6,11 +6,13 @@ spans first last c = nat_le first c && nat_le c last
 
 -- upper letters whose partners lie 32 above them: A to Z, À to Þ without ×, Α to Ρ, Σ to Ϋ, А to Я
 abbrev pub is_upper_by_32 : ℕ → Bool
-is_upper_by_32 c = spans 0x41 0x5A c || (spans 0xC0 0xDE c && not (c == 0xD7)) || spans 0x391 0x3A1 c || spans 0x3A3 0x3AB c || spans 0x410 0x42F c
+is_upper_by_32 c = spans 0x41 0x5A c || (spans 0xC0 0xDE c && not (c == 0xD7))
+    || spans 0x391 0x3A1 c || spans 0x3A3 0x3AB c || spans 0x410 0x42F c
 
 -- upper letters at even code points, with their partners next to them: Ā to Į, Ĳ to Ķ, Ŋ to Ŷ
 abbrev pub is_upper_even : ℕ → Bool
-is_upper_even c = (c % 2 == 0) && (spans 0x100 0x12F c || spans 0x132 0x137 c || spans 0x14A 0x177 c)
+is_upper_even c = (c % 2 == 0)
+    && (spans 0x100 0x12F c || spans 0x132 0x137 c || spans 0x14A 0x177 c)
 
 -- upper letters at odd code points, with their partners next to them: Ĺ to Ň, Ź to Ž
 abbrev pub is_upper_odd : ℕ → Bool
@@ -46,7 +48,9 @@ upper_lem c =
 
 -- whether the character is an upper letter of the table
 abbrev pub is_upper_lem : ℕ → Bool
-is_upper_lem c = is_upper_by_32 c || is_upper_even c || is_upper_odd c || (c == 0x178) || (c == 0x386) || spans 0x388 0x38A c || (c == 0x38C) || spans 0x38E 0x38F c || spans 0x400 0x40F c
+is_upper_lem c = is_upper_by_32 c || is_upper_even c || is_upper_odd c || (c == 0x178)
+    || (c == 0x386) || spans 0x388 0x38A c || (c == 0x38C) || spans 0x38E 0x38F c
+    || spans 0x400 0x40F c
 
 -- the other letter of its pair, and a character without a pair itself
 abbrev pub partner_lem : ℕ → ℕ

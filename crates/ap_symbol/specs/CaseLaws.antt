@@ -31,7 +31,9 @@ LowerLettersMove = (c : ℕ) → IsLower c ↔ (¬ (upper_lem c ≡ c))
 
 -- what the last change of case was is all that counts
 abbrev pub CaseSettles : Type 0
-CaseSettles = (c : ℕ) → (lower_lem (upper_lem c) ≡ lower_lem c) × (upper_lem (lower_lem c) ≡ upper_lem c) × (lower_lem (lower_lem c) ≡ lower_lem c) × (upper_lem (upper_lem c) ≡ upper_lem c)
+CaseSettles = (c : ℕ) → (lower_lem (upper_lem c) ≡ lower_lem c)
+    × (upper_lem (lower_lem c) ≡ upper_lem c) × (lower_lem (lower_lem c) ≡ lower_lem c)
+    × (upper_lem (upper_lem c) ≡ upper_lem c)
 
 abbrev pub LowerIsNeverUpper : Type 0
 LowerIsNeverUpper = (c : ℕ) → is_upper_lem (lower_lem c) ≡ false
@@ -42,19 +44,24 @@ ComesBackUnlessUpper = (c : ℕ) → (lower_lem (upper_lem c) ≡ c) ↔ (is_upp
 
 -- white space stays itself, and no letter becomes white space
 abbrev pub WhiteSpaceStays : Type 0
-WhiteSpaceStays = (c : ℕ) → (is_white (lower_lem c) ≡ is_white c) × (is_white (upper_lem c) ≡ is_white c)
+WhiteSpaceStays = (c : ℕ) → (is_white (lower_lem c) ≡ is_white c)
+    × (is_white (upper_lem c) ≡ is_white c)
 
 abbrev pub PartnerOfPartner : Type 0
 PartnerOfPartner = (c : ℕ) → partner_lem (partner_lem c) ≡ c
 
 -- a change of case keeps words proper
 abbrev pub StaysProper : Type 0
-StaysProper = (case : Case) (word : List Symbol) → AreProper word → AreProper (carry_lem case word) × AreProper (recase_lem case word)
+StaysProper = (case : Case) (word : List Symbol) → AreProper word → AreProper (carry_lem case word)
+    × AreProper (recase_lem case word)
 
 -- and coded
 abbrev pub StaysCoded : Type 0
-StaysCoded = (case : Case) (word : List Symbol) → AreCoded word → AreCoded (carry_lem case word) × AreCoded (recase_lem case word)
+StaysCoded = (case : Case) (word : List Symbol) → AreCoded word → AreCoded (carry_lem case word)
+    × AreCoded (recase_lem case word)
 
 -- and it keeps the number of bytes
 abbrev pub KeepsBytes : Type 0
-KeepsBytes = (case : Case) (word : List Symbol) → (length (rendering (carry_lem case word)) ≡ length (rendering word)) × (length (rendering (recase_lem case word)) ≡ length (rendering word))
+KeepsBytes = (case : Case) (word : List Symbol) →
+    (length (rendering (carry_lem case word)) ≡ length (rendering word))
+    × (length (rendering (recase_lem case word)) ≡ length (rendering word))

@@ -19,4 +19,5 @@ change_after change symbol rest = change
 
 abbrev pub changed_lem : Change → Change → List Symbol → List Symbol
 changed_lem first rest [] = []
-changed_lem first rest (symbol ∷ word) = change_letter (change_lem first) symbol ∷ changed_lem (change_after first symbol rest) rest word
+changed_lem first rest (symbol ∷ word) = change_letter (change_lem first) symbol
+    ∷ changed_lem (change_after first symbol rest) rest word

@@ -22,7 +22,8 @@ passes_at test cs k = nat_lt k (length cs) && test (slice_index cs k)
 abbrev pub is_upper_at : List ℕ → ℕ → Bool
 is_upper_at cs k = passes_at is_upper_lem cs k
 
--- All: at least two letters, and the first and the last are upper; First: otherwise, the first is upper; Low: else
+-- All: at least two letters, and the first and the last are upper; First: otherwise, the first is
+-- upper; Low: else
 abbrev pub case_by : ℕ → Bool → Bool → Case
 case_by count first last =
     if nat_le 2 count && first && last then All
@@ -51,13 +52,15 @@ first_letter f [] = []
 first_letter f (Letter c ∷ rest) = Letter (f c) ∷ rest
 first_letter f (symbol ∷ rest) = symbol ∷ first_letter f rest
 
--- a case carried to a word: Low leaves it as it is, First puts the first letter in upper case, All every letter
+-- a case carried to a word: Low leaves it as it is, First puts the first letter in upper case, All
+-- every letter
 abbrev pub carry_lem : Case → List Symbol → List Symbol
 carry_lem Low word = word
 carry_lem First word = first_letter upper_lem word
 carry_lem All word = each_letter upper_lem word
 
--- a word put into a case: Low puts every letter in lower case, First does so and then puts the first letter in upper case, All puts every letter in upper case
+-- a word put into a case: Low puts every letter in lower case, First does so and then puts the
+-- first letter in upper case, All puts every letter in upper case
 abbrev pub recase_lem : Case → List Symbol → List Symbol
 recase_lem Low word = each_letter lower_lem word
 recase_lem First word = first_letter upper_lem (each_letter lower_lem word)

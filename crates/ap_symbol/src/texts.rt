@@ -74,7 +74,8 @@ fn encoded(alloc: Global, text: &[char]) -> Result<String, Memory>
 
 /// The tag name that the characters begin with, before a `>`.
 fn name_at(alloc: Global, text: &[char]) -> Result<Option<TagName>, Memory>
-    ensures { IfOk result (λ found. SomeIff found (IsTrue (begins_with_name text.now)) (name_at text.now)) }
+    ensures { IfOk result (λ found. SomeIff found (IsTrue (begins_with_name text.now))
+        (name_at text.now)) }
 {
     let len = name_len(text);
     if len >= text.len() || text[len] != '>' {
@@ -87,7 +88,8 @@ fn name_at(alloc: Global, text: &[char]) -> Result<Option<TagName>, Memory>
 /// The tag that the characters begin with.
 fn tag_at(alloc: Global, text: &[char]) -> Result<Option<TagName>, Memory>
     requires { 0 < length text.now }
-    ensures { IfOk result (λ found. SomeIff found (IsTrue (begins_with_tag text.now)) (name_at (drop 1 text.now))) }
+    ensures { IfOk result (λ found. SomeIff found (IsTrue (begins_with_tag text.now))
+        (name_at (drop 1 text.now))) }
 {
     if text[0] == '<' {
         name_at(alloc, &text[1..])

@@ -1,4 +1,5 @@
-//! A row gathers nothing: bytes are put before the source ends, and a failed put leaves most of the input in the source.
+//! A row gathers nothing: bytes are put before the source ends, and a failed put leaves most of the
+//! input in the source.
 ghost use Rattle.std.specs.Prelude.{None};
 
 use crate::pipeline::Pipeline;
@@ -8,8 +9,8 @@ use ap_outside::{Failed, MemSource, Sink, Source};
 use std::cell::Cell;
 use std::test::Fail;
 
-/// A source over bytes in memory that counts what it gave, and notes how many bytes were put when it
-/// gave its end.
+/// A source over bytes in memory that counts what it gave, and notes how many bytes were put when
+/// it gave its end.
 #[derive(Drop)]
 struct Watching<'a> {
     source: MemSource,

@@ -8,8 +8,8 @@ use std::alloc::{AllocError, Global};
 use std::cell::Cell;
 use std::test::Fail;
 
-/// A source over bytes in memory that counts what it gave, and notes how many bytes were put when it
-/// gave its end.
+/// A source over bytes in memory that counts what it gave, and notes how many bytes were put when
+/// it gave its end.
 #[derive(Drop)]
 struct Watching<'a> {
     source: MemSource,
@@ -69,8 +69,8 @@ fn long_text(alloc: Global) -> Result<Vec<u8>, AllocError> {
     Ok(text)
 }
 
-/// The bytes are put before the source ends, and where the first put fails most of the input stays in
-/// the source.
+/// The bytes are put before the source ends, and where the first put fails most of the input stays
+/// in the source.
 #[test]
 fn a_stream_is_not_gathered(rt: HostRuntime) -> Result<(), Fail> {
     let alloc = rt.alloc();

@@ -87,8 +87,9 @@ const C2: &str =
 
 const C3: &str = "LTC9\n";
 
-/// A row: the words with a space between, the input, which load or store, which take and which put fails
-/// (numbered from 1, 0 for none), and the status, the output and the message that it must give.
+/// A row: the words with a space between, the input, which load or store, which take and which put
+/// fails (numbered from 1, 0 for none), and the status, the output and the message that it must
+/// give.
 #[derive(Clone, Copy)]
 pub(super) struct Row<'a> {
     pub(super) words: &'a str,

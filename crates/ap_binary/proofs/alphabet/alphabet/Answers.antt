@@ -7,5 +7,7 @@ use Rattle.ap_binary.proofs.alphabet.alphabet.Goals as goal
 pub is_closed-requires : goal.is_closed-requires
 is_closed-requires c =
     let bytes = c.in_ok-rest.rest.now in
-    let are : AreLetters 0 c.in_ok-letters.letters = letters_are (length bytes) 0 bytes c.in_ok-letters.letters c.in_ok-letters.rest.now c.in_ok-letters.ensures.gives in
+    let are : AreLetters 0 c.in_ok-letters.letters =
+    letters_are (length bytes) 0 bytes c.in_ok-letters.letters c.in_ok-letters.rest.now
+    c.in_ok-letters.ensures.gives in
     subst (λ (z : List ℕ). Ascends nat_cmp z) (sym c.as_slice.ensures) are.ascend

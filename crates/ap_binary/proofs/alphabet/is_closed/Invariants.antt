@@ -5,4 +5,5 @@ use Rattle.ap_symbol.specs.Case.{partner_lem}
 use Rattle.ap_binary.proofs.alphabet.is_closed.Given as goal
 
 abbrev pub invariant-letters : goal.invariant-letters
-invariant-letters l = list_all (λ a. has_letter l.letters (partner_lem a)) (take l.letter-index l.letters) ≡ true
+invariant-letters l = list_all (λ a. has_letter l.letters (partner_lem a))
+    (take l.letter-index l.letters) ≡ true

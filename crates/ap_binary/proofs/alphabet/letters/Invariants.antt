@@ -6,7 +6,8 @@ abbrev pub invariant-letters : goal.invariant-letters
 invariant-letters l = record {
   shrinks : length l.rest ≤ length l.bytes;
   few : length l.found + length l.rest ≤ length l.bytes;
-  meaning : with_letters l.found (letters_in (length l.bytes - length l.found) l.least l.rest) ≡ letters_in (length l.bytes) 0 l.bytes;
+  meaning : with_letters l.found (letters_in (length l.bytes - length l.found) l.least l.rest)
+      ≡ letters_in (length l.bytes) 0 l.bytes;
 }
 
 abbrev pub decreases-letters : goal.decreases-letters

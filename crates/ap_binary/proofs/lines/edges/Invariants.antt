@@ -6,5 +6,7 @@ use Rattle.ap_binary.proofs.lines.edges.Given as goal
 abbrev pub invariant-edges : goal.invariant-edges
 invariant-edges l = record {
   room : l.k + length l.rest ≤ length l.bytes;
-  meaning : with_edges l.found (edges_in (l.count - l.k) l.states (last_of l.found) (l.line + l.k) l.rest) ≡ edges_in l.count l.states None l.line l.bytes;
+  meaning : with_edges l.found
+      (edges_in (l.count - l.k) l.states (last_of l.found) (l.line + l.k) l.rest)
+      ≡ edges_in l.count l.states None l.line l.bytes;
 }

@@ -5,5 +5,8 @@ use Rattle.ap_binary.proofs.pieces.text_of.Goals as goal
 
 pub returns-in-Ok : goal.returns-in-Ok
 returns-in-Ok c =
-    let bytes = c.args.bytes.now in
-    (c.in-Ok.ensures.cases.0, eq-eqb (utf8_valid_len bytes) (length bytes) (utf8_valid_len-IsUtf8 bytes c.in-Ok.ensures.cases.1))
+    let bytes = c.args.bytes.now in (
+      c.in-Ok.ensures.cases.0,
+      eq-eqb (utf8_valid_len bytes) (length bytes)
+          (utf8_valid_len-IsUtf8 bytes c.in-Ok.ensures.cases.1),
+    )

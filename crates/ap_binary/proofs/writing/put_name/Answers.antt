@@ -8,5 +8,7 @@ pub returns-clause-held : goal.returns-clause-held
 returns-clause-held c =
     let text : List ℕ = c.text.result.now in
     let same : text ≡ c.args.name.now = c.text.ensures.text in
-    let valid : is_utf8 c.args.name.now ≡ true = ap is_utf8 (sym same) ∙ eq-eqb (utf8_valid_len text) (length text) (utf8_valid_len-IsUtf8 text c.text.utf8) in
+    let valid : is_utf8 c.args.name.now ≡ true =
+    ap is_utf8 (sym same) ∙ eq-eqb (utf8_valid_len text) (length text)
+    (utf8_valid_len-IsUtf8 text c.text.utf8) in
     rw (valid, c.text.ensures.named) refl

@@ -11,5 +11,13 @@ unfolding compiled_text
 returns-clause-reads c =
     let p : Parts = c.args.compiled.now in
     let front : List ℕ = header_text p.way ++ alphabet_text p.alphabet in
-    let e : c.put_rest.new.into ≡ compiled_text p = c.in_ok-put_rest.ensures.text ∙ ap (λ z. z ++ (sections_text p ++ codes "end\n")) (c.in_ok-put_front.ensures.text ∙ ap (λ z. z ++ front) c.new-text.ensures) in
-    subst (λ (z : List ℕ). Spells z p) (sym e) (reads_back p c.in_ok-put_front.ensures.sound (record { letters = c.in_ok-put_front.ensures.held; sections = c.in_ok-put_rest.ensures.held }))
+    let e : c.put_rest.new.into ≡ compiled_text p = c.in_ok-put_rest.ensures.text
+    ∙ ap (λ z. z ++ (sections_text p ++ codes "end\n")) (c.in_ok-put_front.ensures.text
+    ∙ ap (λ z. z ++ front) c.new-text.ensures) in
+    subst (λ (z : List ℕ). Spells z p) (sym e)
+    (reads_back p c.in_ok-put_front.ensures.sound
+    (record {
+      letters = c.in_ok-put_front.ensures.held;
+      sections =
+          c.in_ok-put_rest.ensures.held;
+    }))

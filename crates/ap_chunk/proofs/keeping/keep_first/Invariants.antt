@@ -5,5 +5,6 @@ use Rattle.ap_chunk.proofs.keeping.keep_first.Given as goal
 abbrev pub invariant-categories : goal.invariant-categories
 invariant-categories l = record {
   kept : AreBegun (unit_of l.unit) l.category l.patterns l.kept.items;
-  over : IsLeast (begun (unit_of l.unit) l.category l.patterns (finishes l.patterns 0 (unit_of l.unit))) l.least;
+  over : IsLeast (begun (unit_of l.unit) l.category l.patterns
+      (finishes l.patterns 0 (unit_of l.unit))) l.least;
 }

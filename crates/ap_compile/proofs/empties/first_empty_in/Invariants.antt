@@ -4,4 +4,5 @@ use Rattle.ap_compile.specs.Empties.{HasEmptyEntry, AreEmpties, section_entries}
 use Rattle.ap_compile.proofs.empties.first_empty_in.Given as goal
 
 abbrev pub invariant-loop-section : goal.invariant-loop-section
-invariant-loop-section l = (d : Dictionary) → AreEmpties d l.direction l.empties → HasEmptyEntry d l.direction (section_entries (take l.section-index l.sections)) → ⊥
+invariant-loop-section l = (d : Dictionary) → AreEmpties d l.direction l.empties →
+    HasEmptyEntry d l.direction (section_entries (take l.section-index l.sections)) → ⊥

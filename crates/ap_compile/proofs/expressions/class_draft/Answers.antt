@@ -8,5 +8,8 @@ use Rattle.ap_compile.proofs.Spanning.{class_same}
 use Rattle.ap_compile.proofs.expressions.class_draft.Goals as goal
 
 pub returns : goal.returns
-returns c = if_ok_more c.ranges_draft.result _ _ (λ made h. class_same c.as_slice.result.now c.args.ranges.now made
-    (subst (λ (z : List Range). (k : ℕ) → IsTrue (list_any (spans k) z) ↔ IsTrue (list_any (spans k) c.args.ranges.now)) (sym c.as_slice.ensures.value) c.in_ok-sorted.ensures.same) h) c.ranges_draft.ensures
+returns c = if_ok_more c.ranges_draft.result _ _
+    (λ made h. class_same c.as_slice.result.now c.args.ranges.now made
+    (subst (λ (z : List Range). (k : ℕ) → IsTrue (list_any (spans k) z)
+    ↔ IsTrue (list_any (spans k) c.args.ranges.now)) (sym c.as_slice.ensures.value)
+    c.in_ok-sorted.ensures.same) h) c.ranges_draft.ensures

@@ -7,5 +7,7 @@ use Rattle.ap_compile.proofs.gathering.gathered.Given as goal
 abbrev pub invariant-loop-place : goal.invariant-loop-place
 invariant-loop-place l = record {
   sound : AreSoundParts (length l.drafts) (endings l.gathering.levels.items);
-  strings : (d : Dictionary) → AreDrafts d l.direction l.drafts → IsGatheringOf d l.direction (Any (SpellsFrom d l.direction l.entries) (take l.place-index l.places)) l.gathering;
+  strings : (d : Dictionary) → AreDrafts d l.direction l.drafts →
+      IsGatheringOf d l.direction
+      (Any (SpellsFrom d l.direction l.entries) (take l.place-index l.places)) l.gathering;
 }

@@ -9,5 +9,6 @@ abbrev pub invariant-loop-at : goal.invariant-loop-at
 invariant-loop-at l = record {
   some : (front : List EntryPart) × (l.tail ≡ front ++ shared [] (endings l.all.levels.items));
   size : length (endings l.all.levels.items) ≡ l.at;
-  same : (d : Dictionary) (direction : Direction) → IsPlainGathering l.fn.gathering → IsGatheringOf d direction (Gathers d direction l.fn.gathering) l.all;
+  same : (d : Dictionary) (direction : Direction) → IsPlainGathering l.fn.gathering →
+      IsGatheringOf d direction (Gathers d direction l.fn.gathering) l.all;
 }

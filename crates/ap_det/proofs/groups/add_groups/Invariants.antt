@@ -5,7 +5,8 @@ use Rattle.ap_det.proofs.groups.add_groups.Given as goal
 abbrev pub invariant-groups : goal.invariant-groups
 invariant-groups l = record {
   bound : l.low ≤ length l.places;
-  outs : AddsOuts (edge_at l.edges l.places) l.from l.low l.initial.sets l.sets l.initial.made l.made;
+  outs : AddsOuts (edge_at l.edges l.places) l.from l.low l.initial.sets l.sets
+      l.initial.made l.made;
 }
 
 abbrev pub decreases-groups : goal.decreases-groups

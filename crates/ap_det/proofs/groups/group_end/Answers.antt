@@ -14,5 +14,6 @@ pub group-preserved : goal.group-preserved
 group-preserved c = record {
   reaches = omega arith;
   bound = omega arith;
-  same = group_on (edge_at c.args.edges.now c.args.places.now) c.args.label.now c.args.low c.group.high c.group.invariant.same (c.has_label.ensures.0 c.if-not-has_label.false);
+  same = group_on (edge_at c.args.edges.now c.args.places.now) c.args.label.now c.args.low
+      c.group.high c.group.invariant.same (c.has_label.ensures.0 c.if-not-has_label.false);
 }

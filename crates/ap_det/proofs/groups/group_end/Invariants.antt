@@ -7,7 +7,8 @@ abbrev pub invariant-group : goal.invariant-group
 invariant-group l = record {
   reaches : l.low ≤ l.high;
   bound : l.high ≤ length l.places;
-  same : (k : ℕ) (d : Edge) → l.low ≤ k → k < l.high → edge_at l.edges l.places k ≡ Some d → d.label ≡ l.label;
+  same : (k : ℕ) (d : Edge) → l.low ≤ k → k < l.high → edge_at l.edges l.places k ≡ Some d →
+      d.label ≡ l.label;
 }
 
 abbrev pub decreases-group : goal.decreases-group

@@ -5,7 +5,11 @@ use Rattle.ap_det.proofs.Sorting.{sorted_members}
 use Rattle.ap_det.proofs.places.places_from.Goals as goal
 
 pub returns-clause-exactly : goal.returns-clause-exactly
-returns-clause-exactly c = sorted_members c.args.fst.now.edges c.args.set.now c.in_ok-places.places.items c.sort_places.new.places.items c.sort_places.ensures.permutation c.in_ok-places.ensures
+returns-clause-exactly c =
+    sorted_members c.args.fst.now.edges c.args.set.now c.in_ok-places.places.items
+    c.sort_places.new.places.items c.sort_places.ensures.permutation c.in_ok-places.ensures
 
 pub returns-clause-rises : goal.returns-clause-rises
-returns-clause-rises c = subst (λ (z : List Edge). RisesByLabel (edge_at z c.sort_places.new.places.items)) c.edges.ensures.value c.sort_places.ensures.rises
+returns-clause-rises c =
+    subst (λ (z : List Edge). RisesByLabel (edge_at z c.sort_places.new.places.items))
+    c.edges.ensures.value c.sort_places.ensures.rises

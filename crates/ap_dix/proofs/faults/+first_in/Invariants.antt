@@ -8,6 +8,8 @@ decreases-first_in l = goal.size-first_in l
 
 abbrev pub invariant-parts : goal.invariant-parts
 invariant-parts l = record {
-  first : first_in l.declared l.defined (parts_of (drop l.part-index l.parts)) ≡ first_in l.declared l.fn.defined (parts_of l.parts);
-  after : defined_in l.defined (parts_of (drop l.part-index l.parts)) ≡ defined_in l.fn.defined (parts_of l.parts);
+  first : first_in l.declared l.defined (parts_of (drop l.part-index l.parts))
+      ≡ first_in l.declared l.fn.defined (parts_of l.parts);
+  after : defined_in l.defined (parts_of (drop l.part-index l.parts))
+      ≡ defined_in l.fn.defined (parts_of l.parts);
 }

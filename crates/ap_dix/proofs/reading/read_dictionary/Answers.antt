@@ -12,5 +12,7 @@ pub returns-in-Err-Fault : goal.returns-in-Err-Fault
 returns-in-Err-Fault c = record {
   spells = tt;
   sound = tt;
-  fault = refused c.args.text.now c.in-Err-Fault.fault c.mark_of.result c.refusal.result (rw c.in-Err-Fault.field-0-is at c.in-Err-Fault.ensures) (rw c.in-Err-Fault.field-0-is at c.mark_of.ensures) c.refusal.ensures;
+  fault = refused c.args.text.now c.in-Err-Fault.fault c.mark_of.result c.refusal.result
+      (rw c.in-Err-Fault.field-0-is at c.in-Err-Fault.ensures)
+      (rw c.in-Err-Fault.field-0-is at c.mark_of.ensures) c.refusal.ensures;
 }

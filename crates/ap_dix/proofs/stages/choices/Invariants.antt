@@ -5,4 +5,5 @@ use Rattle.ap_dix.specs.Views.{stack_of}
 use Rattle.ap_dix.proofs.stages.choices.Given as goal
 
 abbrev pub invariant-loop-token : goal.invariant-loop-token
-invariant-loop-token l = run stack_step (Some (stack_of l.stack)) (into_iter_items l.token-iterator) ≡ run stack_step (Some (stack (stage [] [] None) [])) l.fn.tokens.items
+invariant-loop-token l = run stack_step (Some (stack_of l.stack)) (into_iter_items l.token-iterator)
+    ≡ run stack_step (Some (stack (stage [] [] None) [])) l.fn.tokens.items

@@ -15,30 +15,73 @@ use Rattle.ap_exec.proofs.acting.run_rule.Goals as goal
 
 pub returns-in_err-run_body : goal.returns-in_err-run_body
 returns-in_err-run_body c =
-    let p = err_from_is_err_and c.from_residual-in_err-run_body.result c.from_residual-in_err-run_body.ensures.1 in
+    let p = err_from_is_err_and c.from_residual-in_err-run_body.result
+    c.from_residual-in_err-run_body.ensures.1 in
     let r = plain_rules c.args.rules.now in
     let m = c.args.matched.now in
     let w = c.world_of-world.result in
-    let s = now w (record { units = c.in_ok-units.units; fresh = c.new.result; pieces = c.new-2.result; room = 16777216 }) in
-    let macros : length w.macros.now ≡ length r.macros = ap (λ (ms : List DefMacro). length ms) c.world_of-world.ensures.macros ∙ length_macros c.args.rules.now.macros.items in
-    let count : c.len.result ≡ length (units_in m.chunk m.units) = c.len.ensures ∙ c.in_ok-units.units.ok.0 ∙ ap (λ (us : List Shown). length us) c.in_ok-units.ensures in
+    let s = now w (record {
+      units = c.in_ok-units.units;
+      fresh = c.new.result;
+      pieces =
+          c.new-2.result;
+      room = 16777216;
+    }) in
+    let macros : length w.macros.now ≡ length r.macros =
+    ap (λ (ms : List DefMacro). length ms) c.world_of-world.ensures.macros
+    ∙ length_macros c.args.rules.now.macros.items in
+    let count : c.len.result ≡ length (units_in m.chunk m.units) =
+    c.len.ensures ∙ c.in_ok-units.units.ok.0
+    ∙ ap (λ (us : List Shown). length us) c.in_ok-units.ensures in
     let here : c.in_ok-here.here.items ≡ here_in m.chunk (length m.units) =
-    c.in_ok-here.ensures ∙ ap (λ (b : Bool). lead_in b ++ from_first c.len.result) c.is_some.ensures ∙ ap (λ (n : ℕ). lead_in (is_some m.chunk) ++ from_first n) count ∙ here_is m.chunk m.units in
-    let start = now_is m c.args.vars.now w.vars.now c.in_ok-units.units.items c.new.result.items c.new-2.result c.in_ok-units.ensures c.world_of-world.ensures.vars c.new.ensures.items c.new-2.ensures in
-    let whole = act_is r c.args.rule m c.args.vars.now (still w) (length w.macros.now) c.in_ok-here.here.items (body_of c.action_of.result.now) s c.world_of-world.ensures.still macros here c.action_of.ensures start in
-    rw (p.1, p.2) (ends_badly c.in_err-run_body.field-0.0 (run_all (still w) (called (still w) (length w.macros.now)) c.in_ok-here.here.items (body_of c.action_of.result.now) s) (act_of r c.args.rule m c.args.vars.now) whole c.in_err-run_body.ensures)
+    c.in_ok-here.ensures ∙ ap (λ (b : Bool). lead_in b ++ from_first c.len.result) c.is_some.ensures
+    ∙ ap (λ (n : ℕ). lead_in (is_some m.chunk) ++ from_first n) count
+    ∙ here_is m.chunk m.units in
+    let start = now_is m c.args.vars.now w.vars.now c.in_ok-units.units.items c.new.result.items
+    c.new-2.result c.in_ok-units.ensures c.world_of-world.ensures.vars c.new.ensures.items
+    c.new-2.ensures in
+    let whole = act_is r c.args.rule m c.args.vars.now (still w) (length w.macros.now)
+    c.in_ok-here.here.items (body_of c.action_of.result.now) s c.world_of-world.ensures.still
+    macros here c.action_of.ensures start in
+    rw (p.1, p.2) (ends_badly c.in_err-run_body.field-0.0
+    (run_all (still w) (called (still w) (length w.macros.now)) c.in_ok-here.here.items
+    (body_of c.action_of.result.now) s) (act_of r c.args.rule m c.args.vars.now) whole
+    c.in_err-run_body.ensures)
 
 pub returns : goal.returns
 returns c =
     let r = plain_rules c.args.rules.now in
     let m = c.args.matched.now in
     let w = c.world_of-world.result in
-    let s = now w (record { units = c.in_ok-units.units; fresh = c.new.result; pieces = c.new-2.result; room = 16777216 }) in
-    let macros : length w.macros.now ≡ length r.macros = ap (λ (ms : List DefMacro). length ms) c.world_of-world.ensures.macros ∙ length_macros c.args.rules.now.macros.items in
-    let count : c.len.result ≡ length (units_in m.chunk m.units) = c.len.ensures ∙ c.in_ok-units.units.ok.0 ∙ ap (λ (us : List Shown). length us) c.in_ok-units.ensures in
+    let s = now w (record {
+      units = c.in_ok-units.units;
+      fresh = c.new.result;
+      pieces =
+          c.new-2.result;
+      room = 16777216;
+    }) in
+    let macros : length w.macros.now ≡ length r.macros =
+    ap (λ (ms : List DefMacro). length ms) c.world_of-world.ensures.macros
+    ∙ length_macros c.args.rules.now.macros.items in
+    let count : c.len.result ≡ length (units_in m.chunk m.units) =
+    c.len.ensures ∙ c.in_ok-units.units.ok.0
+    ∙ ap (λ (us : List Shown). length us) c.in_ok-units.ensures in
     let here : c.in_ok-here.here.items ≡ here_in m.chunk (length m.units) =
-    c.in_ok-here.ensures ∙ ap (λ (b : Bool). lead_in b ++ from_first c.len.result) c.is_some.ensures ∙ ap (λ (n : ℕ). lead_in (is_some m.chunk) ++ from_first n) count ∙ here_is m.chunk m.units in
-    let start = now_is m c.args.vars.now w.vars.now c.in_ok-units.units.items c.new.result.items c.new-2.result c.in_ok-units.ensures c.world_of-world.ensures.vars c.new.ensures.items c.new-2.ensures in
-    let whole = act_is r c.args.rule m c.args.vars.now (still w) (length w.macros.now) c.in_ok-here.here.items (body_of c.action_of.result.now) s c.world_of-world.ensures.still macros here c.action_of.ensures start in
-    ends_well (run_all (still w) (called (still w) (length w.macros.now)) c.in_ok-here.here.items (body_of c.action_of.result.now) s) (now w c.run_body.new.state) (act_of r c.args.rule m c.args.vars.now) whole c.in_ok-run_body.ensures
-    ∙ ap (λ (vars : List (List Symbol)). let x : Ran Outcome = Ok (record { pieces = c.run_body.new.state.pieces; vars = overlaid vars c.run_body.new.state.fresh.items }) in x) c.world_of-world.ensures.vars
+    c.in_ok-here.ensures ∙ ap (λ (b : Bool). lead_in b ++ from_first c.len.result) c.is_some.ensures
+    ∙ ap (λ (n : ℕ). lead_in (is_some m.chunk) ++ from_first n) count
+    ∙ here_is m.chunk m.units in
+    let start = now_is m c.args.vars.now w.vars.now c.in_ok-units.units.items c.new.result.items
+    c.new-2.result c.in_ok-units.ensures c.world_of-world.ensures.vars c.new.ensures.items
+    c.new-2.ensures in
+    let whole = act_is r c.args.rule m c.args.vars.now (still w) (length w.macros.now)
+    c.in_ok-here.here.items (body_of c.action_of.result.now) s c.world_of-world.ensures.still
+    macros here c.action_of.ensures start in
+    ends_well (run_all (still w) (called (still w) (length w.macros.now)) c.in_ok-here.here.items
+    (body_of c.action_of.result.now) s) (now w c.run_body.new.state)
+    (act_of r c.args.rule m c.args.vars.now) whole c.in_ok-run_body.ensures
+    ∙ ap (λ (vars : List (List Symbol)). let x : Ran Outcome =
+    Ok (record {
+      pieces = c.run_body.new.state.pieces;
+      vars =
+          overlaid vars c.run_body.new.state.fresh.items;
+    }) in x) c.world_of-world.ensures.vars

@@ -5,4 +5,6 @@ use Rattle.ap_exec.specs.States.{now, still}
 use Rattle.ap_exec.proofs.changes.put_pieces.Given as goal
 
 abbrev pub invariant-pieces : goal.invariant-pieces
-invariant-pieces l = outs (still l.world) l.here (map plain_piece (drop l.piece-index l.pieces)) (now l.world l.state) ≡ outs (still l.world) l.here (map plain_piece l.pieces) (now l.world l.initial.state)
+invariant-pieces l = outs (still l.world) l.here (map plain_piece (drop l.piece-index l.pieces))
+    (now l.world l.state) ≡ outs (still l.world) l.here (map plain_piece l.pieces)
+    (now l.world l.initial.state)

@@ -4,7 +4,8 @@ use Rattle.ap_exec.specs.States.{overlaid}
 use Rattle.ap_exec.proofs.changes.reach.Given as goal
 
 abbrev pub invariant-fresh : goal.invariant-fresh
-invariant-fresh l = (base : List (List Symbol)) → overlaid base l.fresh.items ≡ overlaid base l.initial.fresh.items
+invariant-fresh l = (base : List (List Symbol)) → overlaid base l.fresh.items
+    ≡ overlaid base l.initial.fresh.items
 
 abbrev pub decreases-fresh : goal.decreases-fresh
 decreases-fresh l = l.n + 1 - length l.fresh.items

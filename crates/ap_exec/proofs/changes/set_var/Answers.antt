@@ -7,11 +7,16 @@ use Rattle.ap_exec.proofs.changes.set_var.Goals as goal
 
 pub returns-then-n-world : goal.returns-then-n-world
 returns-then-n-world c =
-    let f : List (List Symbol) → Now = λ vs. record (now c.args.world c.args.state.now) { vars = vs } in
-    ap f (set_nothing c.args.world.vars.now c.args.state.now.fresh.items c.args.n c.args.word (omega (arith, c.if-n-world.true)))
+    let f : List (List Symbol) → Now =
+    λ vs. record (now c.args.world c.args.state.now) { vars = vs } in
+    ap f (set_nothing c.args.world.vars.now c.args.state.now.fresh.items c.args.n c.args.word
+    (omega (arith, c.if-n-world.true)))
 
 pub returns : goal.returns
 returns c =
-    let f : List (List Symbol) → Now = λ vs. record (now c.args.world c.args.state.now) { vars = vs } in
-    ap f (set_fresh c.args.world.vars.now c.reach.new.fresh.items c.args.n c.args.word c.in_ok-reach.ensures.reached
-    ∙ ap (λ (vs : List (List Symbol)). set vs c.args.n c.args.word) (c.in_ok-reach.ensures.same c.args.world.vars.now))
+    let f : List (List Symbol) → Now =
+    λ vs. record (now c.args.world c.args.state.now) { vars = vs } in
+    ap f (set_fresh c.args.world.vars.now c.reach.new.fresh.items c.args.n c.args.word
+    c.in_ok-reach.ensures.reached
+    ∙ ap (λ (vs : List (List Symbol)). set vs c.args.n c.args.word)
+    (c.in_ok-reach.ensures.same c.args.world.vars.now))

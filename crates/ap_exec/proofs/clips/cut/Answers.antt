@@ -6,4 +6,6 @@ pub returns-clause-proper : goal.returns-clause-proper
 returns-clause-proper c =
     let word = c.args.word.now in
     let rest = drop c.min-start.result word in
-    proper_take c.min-count.result (take (length word - c.min-start.result) rest) (proper_take (length word - c.min-start.result) rest (proper_drop c.min-start.result word c.requires))
+    proper_take c.min-count.result (take (length word - c.min-start.result) rest)
+    (proper_take (length word - c.min-start.result) rest
+    (proper_drop c.min-start.result word c.requires))

@@ -4,4 +4,6 @@ use Rattle.ap_exec.specs.Conditions.{word_in}
 use Rattle.ap_exec.proofs.comparing.compared_some.Given as goal
 
 abbrev pub invariant-loop-item : goal.invariant-loop-item
-invariant-loop-item l = compared_some l.way l.caseless l.word (map word_in (drop l.item-index l.items)) ≡ compared_some l.way l.caseless l.word (map word_in l.items)
+invariant-loop-item l = compared_some l.way l.caseless l.word
+    (map word_in (drop l.item-index l.items))
+    ≡ compared_some l.way l.caseless l.word (map word_in l.items)

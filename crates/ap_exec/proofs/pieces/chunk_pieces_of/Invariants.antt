@@ -7,4 +7,6 @@ use Rattle.ap_exec.specs.States.{sight}
 use Rattle.ap_exec.proofs.pieces.chunk_pieces_of.Given as goal
 
 abbrev pub invariant-pieces : goal.invariant-pieces
-invariant-pieces l = seen (λ (w : List Atom). l.made ++ w) (chunk_pieces_of (sight l.view) (map plain_chunk_piece (drop l.piece-index l.pieces))) ≡ chunk_pieces_of (sight l.view) (map plain_chunk_piece l.pieces)
+invariant-pieces l = seen (λ (w : List Atom). l.made ++ w)
+    (chunk_pieces_of (sight l.view) (map plain_chunk_piece (drop l.piece-index l.pieces)))
+    ≡ chunk_pieces_of (sight l.view) (map plain_chunk_piece l.pieces)

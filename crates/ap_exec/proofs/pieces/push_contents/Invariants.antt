@@ -5,4 +5,6 @@ use Rattle.ap_exec.specs.States.{sight}
 use Rattle.ap_exec.proofs.pieces.push_contents.Given as goal
 
 abbrev pub invariant-values : goal.invariant-values
-invariant-values l = l.into ++ contents_of (sight l.view) (plain_values (drop l.value-index l.values)) ≡ l.initial.into ++ contents_of (sight l.view) (plain_values l.values)
+invariant-values l = l.into
+    ++ contents_of (sight l.view) (plain_values (drop l.value-index l.values)) ≡ l.initial.into
+    ++ contents_of (sight l.view) (plain_values l.values)

@@ -7,4 +7,6 @@ use Rattle.ap_exec.specs.States.{sight}
 use Rattle.ap_exec.proofs.pieces.push_tags.Given as goal
 
 abbrev pub invariant-tags : goal.invariant-tags
-invariant-tags l = seen (λ (w : List Symbol). l.name ++ w) (tags_of (sight l.view) (map tag_in (drop l.tag-index l.tags))) ≡ seen (λ (w : List Symbol). l.initial.name ++ w) (tags_of (sight l.view) (map tag_in l.tags))
+invariant-tags l = seen (λ (w : List Symbol). l.name ++ w)
+    (tags_of (sight l.view) (map tag_in (drop l.tag-index l.tags)))
+    ≡ seen (λ (w : List Symbol). l.initial.name ++ w) (tags_of (sight l.view) (map tag_in l.tags))

@@ -6,4 +6,5 @@ use Rattle.ap_exec.proofs.running.push_places.Given as goal
 abbrev pub invariant-params : goal.invariant-params
 invariant-params l =
     let here = between l.scope.from l.scope.to l.fn.positions.items in
-    l.positions.items ≡ take l.scope.to l.fn.positions.items ++ (number_at here 0 ∷ map (number_at here) (take l.param-index l.params))
+    l.positions.items ≡ take l.scope.to l.fn.positions.items
+    ++ (number_at here 0 ∷ map (number_at here) (take l.param-index l.params))

@@ -18,35 +18,58 @@ returns-in_err-taken-clause-leads c =
     let w = still c.args.world in
     let here = here_of c.args.stack.now.positions.items c.args.scope in
     let s = now c.args.world c.args.state.now in
-    let given = chosen (sight c.view_in-view.result) (whens_of (map plain_when c.deref-2.result.now)) (body_of c.deref-3.result.now) in
-    let is : given ≡ chosen (sight_of w here s) (whens_in c.args.held.now) (others_in c.args.held.now) =
-    ap (λ (x : Sight). chosen x (whens_of (map plain_when c.deref-2.result.now)) (body_of c.deref-3.result.now)) (c.view_in-view.ensures ∙ ap (λ (ps : List (Option ℕ)). sight_of w (between c.args.scope.from c.args.scope.to ps) s) c.deref.ensures.value)
-    ∙ ap (λ (ws : List When). chosen (sight_of w here s) (whens_of (map plain_when ws)) (body_of c.deref-3.result.now)) c.deref-2.ensures.value
-    ∙ ap (λ (ss : List Statement). chosen (sight_of w here s) (whens_in c.args.held.now) (body_of ss)) c.deref-3.ensures.value in
+    let given = chosen (sight c.view_in-view.result)
+    (whens_of (map plain_when c.deref-2.result.now)) (body_of c.deref-3.result.now) in
+    let is : given ≡ chosen (sight_of w here s) (whens_in c.args.held.now)
+    (others_in c.args.held.now) =
+    ap (λ (x : Sight). chosen x (whens_of (map plain_when c.deref-2.result.now))
+    (body_of c.deref-3.result.now))
+    (c.view_in-view.ensures ∙
+    ap (λ (ps : List (Option ℕ)). sight_of w (between c.args.scope.from c.args.scope.to ps) s)
+    c.deref.ensures.value)
+    ∙ ap (λ (ws : List When). chosen (sight_of w here s) (whens_of (map plain_when ws))
+    (body_of c.deref-3.result.now)) c.deref-2.ensures.value
+    ∙ ap (λ (ss : List Statement). chosen (sight_of w here s) (whens_in c.args.held.now)
+    (body_of ss)) c.deref-3.ensures.value in
     let p = err_from_is_err_and c.from_residual.result c.from_residual.ensures.1 in
-    rw (p.1, p.2) (choose_fails w (called w c.args.scope.visible) here s c.args.held.now (left w c.args.stack.now) given is c.in_err-taken.field-0.0 c.in_err-taken.ensures)
+    rw (p.1, p.2) (choose_fails w (called w c.args.scope.visible) here s c.args.held.now
+    (left w c.args.stack.now) given is c.in_err-taken.field-0.0 c.in_err-taken.ensures)
 
 pub returns-clause-leads : goal.returns-clause-leads
 returns-clause-leads c =
     let w = still c.args.world in
     let here = here_of c.args.stack.now.positions.items c.args.scope in
     let s = now c.args.world c.args.state.now in
-    let given = chosen (sight c.view_in-view.result) (whens_of (map plain_when c.deref-2.result.now)) (body_of c.deref-3.result.now) in
-    let is : given ≡ chosen (sight_of w here s) (whens_in c.args.held.now) (others_in c.args.held.now) =
-    ap (λ (x : Sight). chosen x (whens_of (map plain_when c.deref-2.result.now)) (body_of c.deref-3.result.now)) (c.view_in-view.ensures ∙ ap (λ (ps : List (Option ℕ)). sight_of w (between c.args.scope.from c.args.scope.to ps) s) c.deref.ensures.value)
-    ∙ ap (λ (ws : List When). chosen (sight_of w here s) (whens_of (map plain_when ws)) (body_of c.deref-3.result.now)) c.deref-2.ensures.value
-    ∙ ap (λ (ss : List Statement). chosen (sight_of w here s) (whens_in c.args.held.now) (body_of ss)) c.deref-3.ensures.value in
+    let given = chosen (sight c.view_in-view.result)
+    (whens_of (map plain_when c.deref-2.result.now)) (body_of c.deref-3.result.now) in
+    let is : given ≡ chosen (sight_of w here s) (whens_in c.args.held.now)
+    (others_in c.args.held.now) =
+    ap (λ (x : Sight). chosen x (whens_of (map plain_when c.deref-2.result.now))
+    (body_of c.deref-3.result.now))
+    (c.view_in-view.ensures ∙
+    ap (λ (ps : List (Option ℕ)). sight_of w (between c.args.scope.from c.args.scope.to ps) s)
+    c.deref.ensures.value)
+    ∙ ap (λ (ws : List When). chosen (sight_of w here s) (whens_of (map plain_when ws))
+    (body_of c.deref-3.result.now)) c.deref-2.ensures.value
+    ∙ ap (λ (ss : List Statement). chosen (sight_of w here s) (whens_in c.args.held.now)
+    (body_of ss)) c.deref-3.ensures.value in
     c.in_ok-push.ensures.left w s
-    ∙ choose_leads w (called w c.args.scope.visible) here s c.args.held.now (left w c.args.stack.now) given is (body_of c.in_ok-taken.taken.now) c.in_ok-taken.ensures
+    ∙ choose_leads w (called w c.args.scope.visible) here s c.args.held.now
+    (left w c.args.stack.now) given is (body_of c.in_ok-taken.taken.now) c.in_ok-taken.ensures
 
 pub returns-clause-cost : goal.returns-clause-cost
 returns-clause-cost c =
     let w = still c.args.world in
     let here = here_of c.args.stack.now.positions.items c.args.scope in
     let s = now c.args.world c.args.state.now in
-    let given = chosen (sight c.view_in-view.result) (whens_of (map plain_when c.deref-2.result.now)) (body_of c.deref-3.result.now) in
-    let is : given ≡ chosen (sight c.view_in-view.result) (whens_in c.args.held.now) (others_in c.args.held.now) =
-    ap (λ (ws : List When). chosen (sight c.view_in-view.result) (whens_of (map plain_when ws)) (body_of c.deref-3.result.now)) c.deref-2.ensures.value
-    ∙ ap (λ (ss : List Statement). chosen (sight c.view_in-view.result) (whens_in c.args.held.now) (body_of ss)) c.deref-3.ensures.value in
-    let most = choose_costs (macro_cost w c.args.scope.visible) (sight c.view_in-view.result) c.args.held.now given (body_of c.in_ok-taken.taken.now) is c.in_ok-taken.ensures in
+    let given = chosen (sight c.view_in-view.result)
+    (whens_of (map plain_when c.deref-2.result.now)) (body_of c.deref-3.result.now) in
+    let is : given ≡ chosen (sight c.view_in-view.result) (whens_in c.args.held.now)
+    (others_in c.args.held.now) =
+    ap (λ (ws : List When). chosen (sight c.view_in-view.result) (whens_of (map plain_when ws))
+    (body_of c.deref-3.result.now)) c.deref-2.ensures.value
+    ∙ ap (λ (ss : List Statement). chosen (sight c.view_in-view.result) (whens_in c.args.held.now)
+    (body_of ss)) c.deref-3.ensures.value in
+    let most = choose_costs (macro_cost w c.args.scope.visible) (sight c.view_in-view.result)
+    c.args.held.now given (body_of c.in_ok-taken.taken.now) is c.in_ok-taken.ensures in
     omega (arith, most, c.in_ok-push.ensures.cost w)

@@ -5,4 +5,7 @@ use Rattle.ap_fst.proofs.PlaceLaws.{held_searched}
 use Rattle.ap_fst.proofs.compiled.is_listed.Goals as goal
 
 pub returns : goal.returns
-returns c = subst (λ (b : Bool). IsTrue b ↔ IsIn c.args.c c.args.letters.now) (sym c.is_ok.ensures.value) (held_searched c.args.letters.now c.args.c c.binary_search.result c.requires c.binary_search.ensures.position)
+returns c = subst (λ (b : Bool). IsTrue b ↔ IsIn c.args.c c.args.letters.now)
+    (sym c.is_ok.ensures.value)
+    (held_searched c.args.letters.now c.args.c c.binary_search.result c.requires
+    c.binary_search.ensures.position)

@@ -13,7 +13,14 @@ loop-edge-preserved c = λ e i h.
     let at : ℕ = c.loop-edge.edge-index in
     let x : Edge = c.edge-item.result in
     let fits : IsTrue c.edge_keeps_up.result = search rules in
-    elim (in_either e (take at xs) (x ∷ []) (subst (λ (z : List Edge). IsIn e z) (take_more xs at x c.loop-edge-test.true ∙ ap (λ y. take at xs ++ y ∷ []) (sym c.edge-item.is)) i)) [
+    elim (in_either e (take at xs) (x ∷ [])
+    (subst (λ (z : List Edge). IsIn e z) (take_more xs at x c.loop-edge-test.true
+    ∙ ap (λ y. take at xs ++ y ∷ []) (sym c.edge-item.is)) i)) [
       | inl k ↦ c.loop-edge.invariant e k h
-      | inr k ↦ elim k [ inl f ↦ subst (λ (z : Edge). KeepsUp (get nat_eq c.args.numbers.now) z) (sym f) (c.edge_keeps_up.ensures fits (ap is_silent (sym f) ∙ h)) | inr n ↦ elim n [ ] ]
+      | inr k ↦ elim k [
+        | inl f ↦
+            subst (λ (z : Edge). KeepsUp (get nat_eq c.args.numbers.now) z) (sym f)
+            (c.edge_keeps_up.ensures fits (ap is_silent (sym f) ∙ h))
+        | inr n ↦ elim n [ ]
+      ]
     ]

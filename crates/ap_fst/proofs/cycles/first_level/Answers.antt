@@ -17,7 +17,9 @@ loop-at-preserved c = λ i e lt there h.
       | inl below ↦ c.loop-at.invariant i e below there h
       | inr le ↦
           let same : c.loop-at.at ≡ i = omega arith in
-          let one : x ≡ e = c.index-edges-at.is ∙ ap (λ k. get_or xs k x) same ∙ get_or_from_slice_get xs i e x there in
+          let one : x ≡ e = c.index-edges-at.is ∙ ap (λ k. get_or xs k x) same
+          ∙ get_or_from_slice_get xs i e x there in
           let fits : IsTrue c.edge_rises.result = search rules in
-          subst (λ (z : Edge). Rises (get nat_eq c.args.numbers.now) z) one (c.edge_rises.ensures fits (ap is_silent one ∙ h))
+          subst (λ (z : Edge). Rises (get nat_eq c.args.numbers.now) z) one
+          (c.edge_rises.ensures fits (ap is_silent one ∙ h))
     ]

@@ -6,4 +6,6 @@ use Rattle.ap_fst.proofs.Growing.{grows_then}
 use Rattle.ap_fst.proofs.graph.add_targets.Goals as goal
 
 pub loop-arc-preserved : goal.loop-arc-preserved
-loop-arc-preserved c = grows_then _ _ _ _ _ _ (ap (map arc_to) (take_more c.args.arcs.now c.loop-arc.arc-index _ c.loop-arc-test.true) ∙ map_push arc_to _ _) c.loop-arc.invariant c.in_ok-add.ensures
+loop-arc-preserved c = grows_then _ _ _ _ _ _
+    (ap (map arc_to) (take_more c.args.arcs.now c.loop-arc.arc-index _ c.loop-arc-test.true)
+    ∙ map_push arc_to _ _) c.loop-arc.invariant c.in_ok-add.ensures

@@ -4,4 +4,5 @@ use Rattle.ap_fst.proofs.MarkLaws.{below_next}
 use Rattle.ap_fst.proofs.graph.high_by.Goals as goal
 
 pub returns-clause-point : goal.returns-clause-point
-returns-clause-point c = below_next arc_from c.args.state _ c.args.arcs.now c.low_by.result refl c.low_by.ensures.point
+returns-clause-point c =
+    below_next arc_from c.args.state _ c.args.arcs.now c.low_by.result refl c.low_by.ensures.point

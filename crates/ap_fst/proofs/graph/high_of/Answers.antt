@@ -4,4 +4,8 @@ use Rattle.ap_fst.specs.Graphs.{arc_from}
 use Rattle.ap_fst.proofs.graph.high_of.Goals as goal
 
 pub returns-clause-point : goal.returns-clause-point
-returns-clause-point c = IsPartitionPoint-from_clause (λ a. leb (arc_from a) c.args.state) c.args.arcs.now c.partition_point.result c.partition_point.ensures.partitioned (IsPartitionedBy-leb arc_from c.args.arcs.now c.args.state c.requires) (λ a r f' h. search rules)
+returns-clause-point c =
+    IsPartitionPoint-from_clause (λ a. leb (arc_from a) c.args.state) c.args.arcs.now
+    c.partition_point.result c.partition_point.ensures.partitioned
+    (IsPartitionedBy-leb arc_from c.args.arcs.now c.args.state c.requires)
+    (λ a r f' h. search rules)

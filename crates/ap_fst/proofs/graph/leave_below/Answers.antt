@@ -5,4 +5,6 @@ use Rattle.ap_fst.proofs.MarkLaws.{all_below}
 use Rattle.ap_fst.proofs.graph.leave_below.Goals as goal
 
 pub returns-clause-below : goal.returns-clause-below
-returns-clause-below c = λ t. all_below arc_from c.args.state c.args.arcs.now c.args.count (record { from = 0; to = 0 }) c.requires (omega arith) (omega arith) (grind (arith, nat_tests))
+returns-clause-below c =
+    λ t. all_below arc_from c.args.state c.args.arcs.now c.args.count (record { from = 0; to = 0 })
+    c.requires (omega arith) (omega arith) (grind (arith, nat_tests))

@@ -9,9 +9,16 @@ use Rattle.ap_fst.proofs.removal.sort_edges.Goals as goal
 
 pub returns-clause-ascend : goal.returns-clause-ascend
 returns-clause-ascend c = sorted_ascends c.sort_unstable_by.new.self.items c.dedup_by.new.self.items
-    (c.sort_unstable_by.ensures.sorted (λ a b. is_lt (edge_cmp a b)) (ranks_by edge_total (λ (e : Edge). e)) (answers_always _ (λ a r. is_lt r ≡ is_lt (edge_cmp a.0.now a.1.0.now)) _ (λ f a r f' h. search rules)))
-    (dedup_same _ (eq_by_cmp edge_cmp) _ (λ x y b f' x' y' k. search rules) c.sort_unstable_by.new.self.items c.dedup_by.new.self.items c.dedup_by.ensures.filtered)
+    (c.sort_unstable_by.ensures.sorted (λ a b. is_lt (edge_cmp a b))
+    (ranks_by edge_total (λ (e : Edge). e))
+    (answers_always _ (λ a r. is_lt r ≡ is_lt (edge_cmp a.0.now a.1.0.now)) _
+    (λ f a r f' h. search rules)))
+    (dedup_same _ (eq_by_cmp edge_cmp) _ (λ x y b f' x' y' k. search rules)
+    c.sort_unstable_by.new.self.items c.dedup_by.new.self.items c.dedup_by.ensures.filtered)
 
 pub returns-clause-members : goal.returns-clause-members
-returns-clause-members c = sorted_members c.args.edges.now.items c.sort_unstable_by.new.self.items c.dedup_by.new.self.items c.sort_unstable_by.ensures.permutation
-    (dedup_same _ (eq_by_cmp edge_cmp) _ (λ x y b f' x' y' k. search rules) c.sort_unstable_by.new.self.items c.dedup_by.new.self.items c.dedup_by.ensures.filtered)
+returns-clause-members c =
+    sorted_members c.args.edges.now.items c.sort_unstable_by.new.self.items
+    c.dedup_by.new.self.items c.sort_unstable_by.ensures.permutation
+    (dedup_same _ (eq_by_cmp edge_cmp) _ (λ x y b f' x' y' k. search rules)
+    c.sort_unstable_by.new.self.items c.dedup_by.new.self.items c.dedup_by.ensures.filtered)

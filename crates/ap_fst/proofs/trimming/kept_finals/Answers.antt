@@ -9,4 +9,6 @@ loop-state-preserved c =
     let xs : List ℕ = c.args.finals.now in
     let i : ℕ = c.loop-state.state-index in
     let f : ℕ → List ℕ = kept_state c.args.states.now in
-    c.in_ok-add_final.ensures ∙ ap (λ z. z ++ f (get_or xs i 0)) c.loop-state.invariant ∙ flat_map_more f [] (take i xs) (get_or xs i 0) ∙ sym (ap (flat_map f) (take_more xs i 0 c.loop-state-test.true))
+    c.in_ok-add_final.ensures ∙ ap (λ z. z ++ f (get_or xs i 0)) c.loop-state.invariant
+    ∙ flat_map_more f [] (take i xs) (get_or xs i 0)
+    ∙ sym (ap (flat_map f) (take_more xs i 0 c.loop-state-test.true))

@@ -6,9 +6,13 @@ use Rattle.ap_live.proofs.arrivals.sort_arrivals.Goals as goal
 
 pub returns-clause-members : goal.returns-clause-members
 returns-clause-members c = λ a. (
-  (λ i. from_permutation a c.args.arrivals.now.items c.sort_unstable_by_key.new.self.items c.sort_unstable_by_key.ensures.permutation i),
-  (λ i. in_permutation a c.args.arrivals.now.items c.sort_unstable_by_key.new.self.items c.sort_unstable_by_key.ensures.permutation i),
+  (λ i. from_permutation a c.args.arrivals.now.items c.sort_unstable_by_key.new.self.items
+      c.sort_unstable_by_key.ensures.permutation i),
+  (λ i. in_permutation a c.args.arrivals.now.items c.sort_unstable_by_key.new.self.items
+      c.sort_unstable_by_key.ensures.permutation i),
 )
 
 pub returns-clause-order : goal.returns-clause-order
-returns-clause-order c = IsNonDecreasingBy-from_sort_by_key arrival_to _ c.sort_unstable_by_key.ensures.sorted (λ a r q k. search rules)
+returns-clause-order c =
+    IsNonDecreasingBy-from_sort_by_key arrival_to _ c.sort_unstable_by_key.ensures.sorted
+    (λ a r q k. search rules)

@@ -7,5 +7,8 @@ pub loop-link-init : goal.loop-link-init
 loop-link-init c = adds_no_link _ _ _ _
 
 pub loop-link-preserved : goal.loop-link-preserved
-loop-link-preserved c = adds_link c.args.fst.now.edges false c.args.links.now (c.args.item.now ∷ []) c.loop-link.link-index (get_or c.args.links.now c.loop-link.link-index (arrival 0 0)) (arrival 0 0) c.args.found.now
-    c.loop-link.found c.add_link.new.found c.loop-link-test.true refl c.loop-link.invariant c.in_ok-add_link.ensures
+loop-link-preserved c = adds_link c.args.fst.now.edges false c.args.links.now (c.args.item.now ∷ [])
+    c.loop-link.link-index (get_or c.args.links.now c.loop-link.link-index (arrival 0 0))
+    (arrival 0 0) c.args.found.now
+    c.loop-link.found c.add_link.new.found c.loop-link-test.true refl c.loop-link.invariant
+    c.in_ok-add_link.ensures

@@ -8,6 +8,8 @@ use Rattle.ap_live.proofs.backward.at_start.Given as goal
 
 abbrev pub invariant-loop-item : goal.invariant-loop-item
 invariant-loop-item l = record {
-  found : (back : List Symbol) → IsIn back l.backs.items ↔ IsIn (let item : Item = record { state = 0; back = back } in item) l.yielded;
+  found : (back : List Symbol) →
+      IsIn back l.backs.items ↔ IsIn (let item : Item = record { state = 0; back = back } in
+      item) l.yielded;
   rest : l.fn.items.items ≡ l.yielded ++ into_iter_items l.item-iterator;
 }

@@ -10,7 +10,8 @@ use Rattle.ap_live.proofs.backward.outputs_back.Given as goal
 abbrev pub invariant-loop-at : goal.invariant-loop-at
 invariant-loop-at l = record {
   in_range : l.at < length l.rows;
-  items : (seen : List Input) → AreRows l.fst.edges seen l.rows → AreItems l.fst (take l.at seen) (drop l.at seen) l.items;
+  items : (seen : List Input) → AreRows l.fst.edges seen l.rows →
+      AreItems l.fst (take l.at seen) (drop l.at seen) l.items;
   empty : l.found ≡ [];
   clean : (x : Item) → IsIn x l.items → IsClean x;
 }

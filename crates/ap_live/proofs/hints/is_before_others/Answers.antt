@@ -7,6 +7,9 @@ use Rattle.ap_live.proofs.hints.is_before_others.Goals as goal
 pub returns : goal.returns
 returns c = λ t.
     let within : c.args.place < length c.args.edges.now = omega (arith, c.if-edges-place.false) in
-    let at : slice_get c.args.edges.now c.args.place ≡ Some c.index-edges-place.result = slice_get_read c.args.edges.now (length c.args.edges.now) c.args.place c.index-edges-place.result refl within c.index-edges-place.is in
+    let at : slice_get c.args.edges.now c.args.place ≡ Some c.index-edges-place.result =
+    slice_get_read c.args.edges.now (length c.args.edges.now) c.args.place
+    c.index-edges-place.result refl within c.index-edges-place.is in
     let more : c.args.from ≤ c.index-edges-place.result.from = grind (arith, nat_tests) in
-    none_smaller c.args.edges.now c.args.place c.args.from c.index-edges-place.result c.requires at more
+    none_smaller c.args.edges.now c.args.place c.args.from c.index-edges-place.result
+    c.requires at more

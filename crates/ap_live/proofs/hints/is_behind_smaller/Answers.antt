@@ -7,7 +7,11 @@ use Rattle.ap_live.proofs.hints.is_behind_smaller.Goals as goal
 pub returns : goal.returns
 returns c = λ t.
     let some : 0 < c.args.place = omega (arith, c.if-place-eq0.false) in
-    let within : c.args.place - 1 < length c.args.edges.now = omega (arith, c.if-edges-place.false) in
-    let at : slice_get c.args.edges.now (c.args.place - 1) ≡ Some c.index-edges-place.result = slice_get_read c.args.edges.now (length c.args.edges.now) (c.args.place - 1) c.index-edges-place.result refl within c.index-edges-place.is in
+    let within : c.args.place - 1 < length c.args.edges.now =
+    omega (arith, c.if-edges-place.false) in
+    let at : slice_get c.args.edges.now (c.args.place - 1) ≡ Some c.index-edges-place.result =
+    slice_get_read c.args.edges.now (length c.args.edges.now) (c.args.place - 1)
+    c.index-edges-place.result refl within c.index-edges-place.is in
     let less : c.index-edges-place.result.from < c.args.from = grind (arith, nat_tests) in
-    all_smaller c.args.edges.now c.args.place c.args.from c.index-edges-place.result c.requires some at less
+    all_smaller c.args.edges.now c.args.place c.args.from c.index-edges-place.result
+    c.requires some at less

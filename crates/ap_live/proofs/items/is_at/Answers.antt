@@ -7,4 +7,5 @@ use Rattle.ap_live.proofs.items.is_at.Goals as goal
 pub returns-in-Some : goal.returns-in-Some
 returns-in-Some c = λ same.
     let there = c.in-Some.ensures.lookup in
-    subst (λ (z : Item). IsIn z c.args.items.now) (sym there.1 ∙ c.is_same.ensures same) (in_at c.args.items.now c.args.at c.in-Some.other.now there.3.0)
+    subst (λ (z : Item). IsIn z c.args.items.now) (sym there.1 ∙ c.is_same.ensures same)
+    (in_at c.args.items.now c.args.at c.in-Some.other.now there.3.0)

@@ -19,11 +19,24 @@ returns-clause-ok c = λ seen live is.
     let grown : rows' ≡ rows ++ row ∷ [] = facts.0 in
     let next : IsNext edges (Some input) last.states.items row = facts.1 in
     let told : Tells finals row = facts.2 in
-    let known : IsKnown edges finals rows' c.args.known.now.rows.items c.args.known.now.links.items c.args.known.now.path.items = known_grown edges finals rows rows' c.args.known.now.rows.items c.args.known.now.links.items c.args.known.now.path.items row grown told is in
-    let planted : IsKnown edges finals c.as_slice.result.now c.plant.new.known.rows.items c.plant.new.known.links.items c.plant.new.known.path.items =
-    c.plant.ensures edges finals (subst (λ (z : List Row). IsKnown edges finals z c.args.known.now.rows.items c.args.known.now.links.items c.args.known.now.path.items) (sym c.as_slice.ensures) known) in
-    let kept : IsKnown edges finals rows' c.remember.new.known.rows.items c.remember.new.known.links.items c.remember.new.known.path.items =
-    c.remember.ensures.known edges finals rows last row grown at next (subst (λ (z : List Row). IsKnown edges finals z c.plant.new.known.rows.items c.plant.new.known.links.items c.plant.new.known.path.items) c.as_slice.ensures planted) in (
-      subst (λ (z : List Row). AreRows edges (seen ++ input ∷ []) z) (sym c.remember.ensures.same) (step_law edges seen input rows rows rows rows' last row last.states.items live refl refl (sym at) refl next grown),
-      subst (λ (z : List Row). IsKnown edges finals z c.remember.new.known.rows.items c.remember.new.known.links.items c.remember.new.known.path.items) (sym c.remember.ensures.same) kept,
+    let known : IsKnown edges finals rows' c.args.known.now.rows.items c.args.known.now.links.items
+    c.args.known.now.path.items =
+    known_grown edges finals rows rows' c.args.known.now.rows.items c.args.known.now.links.items
+    c.args.known.now.path.items row grown told is in
+    let planted : IsKnown edges finals c.as_slice.result.now c.plant.new.known.rows.items
+    c.plant.new.known.links.items c.plant.new.known.path.items =
+    c.plant.ensures edges finals
+    (subst (λ (z : List Row). IsKnown edges finals z c.args.known.now.rows.items
+    c.args.known.now.links.items c.args.known.now.path.items) (sym c.as_slice.ensures) known) in
+    let kept : IsKnown edges finals rows' c.remember.new.known.rows.items
+    c.remember.new.known.links.items c.remember.new.known.path.items =
+    c.remember.ensures.known edges finals rows last row grown at next
+    (subst (λ (z : List Row). IsKnown edges finals z c.plant.new.known.rows.items
+    c.plant.new.known.links.items c.plant.new.known.path.items) c.as_slice.ensures planted) in (
+      subst (λ (z : List Row). AreRows edges (seen ++ input ∷ []) z) (sym c.remember.ensures.same)
+          (step_law edges seen input rows rows rows rows' last row last.states.items live refl refl
+          (sym at) refl next grown),
+      subst (λ (z : List Row). IsKnown edges finals z c.remember.new.known.rows.items
+          c.remember.new.known.links.items c.remember.new.known.path.items)
+          (sym c.remember.ensures.same) kept,
     )

@@ -11,12 +11,22 @@ returns-clause-known c = λ edges finals before last row e at next is.
     let rows : List Row = c.args.rows.now in
     let input : Input = record { symbol = c.args.input.now; sensitive = c.args.sensitive } in
     let kept : Row = c.in-Some-2.row in
-    let slice : length c.as_slice.result.now ≡ length path = ap (length {A = ℕ}) c.as_slice.ensures.value in
-    let end : c.saturating_sub-end.result ≡ length rows - 1 = c.saturating_sub-end.ensures ∙ ap (λ (n : ℕ). n - 1) c.len.ensures in
+    let slice : length c.as_slice.result.now ≡ length path =
+    ap (length {A = ℕ}) c.as_slice.ensures.value in
+    let end : c.saturating_sub-end.result ≡ length rows - 1 = c.saturating_sub-end.ensures
+    ∙ ap (λ (n : ℕ). n - 1) c.len.ensures in
     let pn : length path ≡ length rows - 1 = omega (arith, slice, end, c.if-as_slice-end.false) in
-    let from_at : Some c.in-Some.from.now ≡ slice_get path (length path - 1) = c.in-Some.ensures.value ∙ ap (λ (z : List ℕ). slice_get z (length z - 1)) c.deref.ensures.value in
+    let from_at : Some c.in-Some.from.now ≡ slice_get path (length path - 1) =
+    c.in-Some.ensures.value ∙ ap (λ (z : List ℕ). slice_get z (length z - 1))
+    c.deref.ensures.value in
     let seen : c.as_slice-2.result.now ≡ rows = c.as_slice-2.ensures ∙ c.share_last.ensures in
-    let there : slice_get rows (length rows - 1) ≡ Some kept = ap (λ (z : ℕ). slice_get rows z) (sym end) ∙ ap (λ (z : List Row). slice_get z c.saturating_sub-end.result) (sym seen) ∙ c.in_ok-row.ensures kept c.in-Some-2.is in
-    let ends : (kept ≡ row) × (slice_get rows (length path) ≡ Some kept) = end_there rows before path row kept e pn (sym there) in
-    c.keep.ensures edges finals rows last (last_known edges finals rows before c.args.known.now.rows.items c.args.known.now.links.items path last row c.in-Some.from.now e at pn from_at is)
+    let there : slice_get rows (length rows - 1) ≡ Some kept =
+    ap (λ (z : ℕ). slice_get rows z) (sym end)
+    ∙ ap (λ (z : List Row). slice_get z c.saturating_sub-end.result) (sym seen)
+    ∙ c.in_ok-row.ensures kept c.in-Some-2.is in
+    let ends : (kept ≡ row) × (slice_get rows (length path) ≡ Some kept) =
+    end_there rows before path row kept e pn (sym there) in
+    c.keep.ensures edges finals rows last
+    (last_known edges finals rows before c.args.known.now.rows.items
+    c.args.known.now.links.items path last row c.in-Some.from.now e at pn from_at is)
     ends.1 (subst (λ (z : Row). IsNext edges (Some input) last.states.items z) (sym ends.0) next) is

@@ -11,7 +11,9 @@ loop-edge-preserved c = λ e i.
     let xs : List Edge = c.args.edges.now in
     let at : ℕ = c.loop-edge.edge-index in
     let x : Edge = c.edge-item.result in
-    elim (in_either e (take at xs) (x ∷ []) (subst (λ (z : List Edge). IsIn e z) (take_more xs at x c.loop-edge-test.true ∙ ap (λ y. take at xs ++ y ∷ []) (sym c.edge-item.is)) i)) [
+    elim (in_either e (take at xs) (x ∷ [])
+    (subst (λ (z : List Edge). IsIn e z) (take_more xs at x c.loop-edge-test.true
+    ∙ ap (λ y. take at xs ++ y ∷ []) (sym c.edge-item.is)) i)) [
       | inl k ↦ c.loop-edge.invariant e k
       | inr k ↦ elim k [
         | inl f ↦ subst (λ (z : Edge). IsCodedSide z.label.right) (sym f) c.side_is_coded.ensures
@@ -20,4 +22,6 @@ loop-edge-preserved c = λ e i.
     ]
 
 pub returns : goal.returns
-returns c = λ e i. c.loop-edge.invariant e (subst (λ (z : List Edge). IsIn e z) (sym (take_all c.loop-edge.edge-index c.args.edges.now (omega arith))) i)
+returns c = λ e i. c.loop-edge.invariant e
+    (subst (λ (z : List Edge). IsIn e z)
+    (sym (take_all c.loop-edge.edge-index c.args.edges.now (omega arith))) i)

@@ -12,8 +12,11 @@ sort_words-requires c =
     let p = c.args.compiled.now in
     let s = c.args.sensitive in
     let words = any_words (lexicon_of p s) c.requires.0 in
-    carried_proper c.case_keeps_words.ensures.proper s c.args.seen.now words c.in_ok-words.words.items
-    (c.in_ok-words.ensures s c.requires.0 c.requires.1 ∙ mapped_same (carry_lem c.case_carried-case.result) (carried s c.args.seen.now) words c.case_carried-case.ensures)
+    carried_proper c.case_keeps_words.ensures.proper s c.args.seen.now words
+    c.in_ok-words.words.items
+    (c.in_ok-words.ensures s c.requires.0 c.requires.1
+    ∙ mapped_same (carry_lem c.case_carried-case.result) (carried s c.args.seen.now) words
+    c.case_carried-case.ensures)
     (λ v i. any_proper p s c.requires.0 v c.alphabet.ensures.sound i)
 
 pub returns : goal.returns
@@ -22,4 +25,6 @@ returns c = λ symbols live.
     let s = c.args.sensitive in
     let words = any_words (lexicon_of p s) symbols in
     c.from_vec.ensures ∙ c.sort_words.ensures.is
-    ∙ ap in_order (c.in_ok-words.ensures s symbols live ∙ mapped_same (carry_lem c.case_carried-case.result) (carried s c.args.seen.now) words c.case_carried-case.ensures)
+    ∙ ap in_order (c.in_ok-words.ensures s symbols live
+    ∙ mapped_same (carry_lem c.case_carried-case.result) (carried s c.args.seen.now) words
+    c.case_carried-case.ensures)

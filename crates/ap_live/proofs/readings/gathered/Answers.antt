@@ -9,6 +9,10 @@ pub returns : goal.returns
 returns c = λ sensitive symbols live.
     let lexicon = lexicon_of c.args.compiled.now sensitive in
     mapped_four (carry_lem c.args.case) (carry_lem c.args.case) (λ word. refl)
-    (lexicon.readings Standard symbols) (lexicon.readings Inconditional symbols) (lexicon.readings Postblank symbols) (lexicon.readings Preblank symbols) _ _ _ _ _ c.new-words.ensures.items
-    (c.in_ok-push_kind.ensures sensitive symbols live) (c.in_ok-push_kind-2.ensures sensitive symbols live)
-    (c.in_ok-push_kind-3.ensures sensitive symbols live) (c.in_ok-push_kind-4.ensures sensitive symbols live)
+    (lexicon.readings Standard symbols) (lexicon.readings Inconditional symbols)
+    (lexicon.readings Postblank symbols) (lexicon.readings Preblank symbols) _ _ _ _ _
+    c.new-words.ensures.items
+    (c.in_ok-push_kind.ensures sensitive symbols live)
+    (c.in_ok-push_kind-2.ensures sensitive symbols live)
+    (c.in_ok-push_kind-3.ensures sensitive symbols live)
+    (c.in_ok-push_kind-4.ensures sensitive symbols live)

@@ -6,28 +6,49 @@ use Rattle.std.proofs.lemmas.List.{get_or_read_under}
 use Rattle.ap_live.proofs.rows.close.Goals as goal
 
 pub loop-at-init : goal.loop-at-init
-loop-at-init c = record { in_range = omega arith; spread = spread_nothing _ _ _ _; sound = λ s i. given i; distinct = c.requires.distinct }
+loop-at-init c = record {
+  in_range = omega arith;
+  spread = spread_nothing _ _ _ _;
+  sound =
+      λ s i. given i;
+  distinct = c.requires.distinct;
+}
 
 pub loop-at-smaller : goal.loop-at-smaller
 loop-at-smaller c =
-    let few : length c.loop-at.states.items ≤ c.args.fst.now.states = few_states c.args.fst.now.edges c.args.states.now.items c.loop-at.states.items c.args.fst.now.states c.requires.below (to_in c.args.fst.now c.states.ensures.sound)
+    let few : length c.loop-at.states.items ≤ c.args.fst.now.states =
+    few_states c.args.fst.now.edges c.args.states.now.items c.loop-at.states.items
+    c.args.fst.now.states c.requires.below (to_in c.args.fst.now c.states.ensures.sound)
     c.loop-at.invariant.distinct c.loop-at.invariant.sound in
-    let goes : c.args.fst.now.states - (c.loop-at.at + 1) < c.args.fst.now.states - c.loop-at.at = omega arith in
+    let goes : c.args.fst.now.states - (c.loop-at.at + 1) < c.args.fst.now.states - c.loop-at.at =
+    omega arith in
     goes
 
 pub loop-at-preserved : goal.loop-at-preserved
 loop-at-preserved c =
     let within : c.loop-at.at < length c.loop-at.states.items = omega arith in
-    let is : c.index-from.result.now ≡ get_or c.loop-at.states.items c.loop-at.at 0 = get_or_read_under c.loop-at.states.items c.loop-at.at (length c.loop-at.states.items) c.index-from.result.now 0 c.index-from.ensures within refl in
-    let listed : IsIn c.index-from.result.now c.loop-at.states.items = subst (λ x. IsIn x c.loop-at.states.items) (sym is) (in_at c.loop-at.states.items c.loop-at.at within) in
+    let is : c.index-from.result.now ≡ get_or c.loop-at.states.items c.loop-at.at 0 =
+    get_or_read_under c.loop-at.states.items c.loop-at.at (length c.loop-at.states.items)
+    c.index-from.result.now 0 c.index-from.ensures within refl in
+    let listed : IsIn c.index-from.result.now c.loop-at.states.items =
+    subst (λ x. IsIn x c.loop-at.states.items) (sym is)
+    (in_at c.loop-at.states.items c.loop-at.at within) in
     record {
-      in_range = longer c.loop-at.states.items c.spread_from.new.states.items c.in_ok-spread_from.ensures.more c.loop-at.at c.in_ok-spread_from.ensures.grown within;
-      spread = close_step c.args.fst.now.edges c.args.states.now.items c.loop-at.states.items c.args.links.now.items c.loop-at.links.items c.spread_from.new.states.items c.spread_from.new.links.items
-          c.index-from.result.now c.loop-at.at within is c.loop-at.invariant.spread c.in_ok-spread_from.ensures;
-      sound = close_sound c.args.fst.now.edges c.args.states.now.items c.loop-at.states.items c.loop-at.links.items c.spread_from.new.states.items c.spread_from.new.links.items c.index-from.result.now
+      in_range = longer c.loop-at.states.items c.spread_from.new.states.items
+          c.in_ok-spread_from.ensures.more c.loop-at.at c.in_ok-spread_from.ensures.grown within;
+      spread = close_step c.args.fst.now.edges c.args.states.now.items c.loop-at.states.items
+          c.args.links.now.items c.loop-at.links.items c.spread_from.new.states.items
+          c.spread_from.new.links.items
+          c.index-from.result.now c.loop-at.at within is c.loop-at.invariant.spread
+          c.in_ok-spread_from.ensures;
+      sound = close_sound c.args.fst.now.edges c.args.states.now.items c.loop-at.states.items
+          c.loop-at.links.items c.spread_from.new.states.items c.spread_from.new.links.items
+          c.index-from.result.now
           listed c.loop-at.invariant.sound c.in_ok-spread_from.ensures;
       distinct = c.in_ok-spread_from.ensures.distinct refl c.loop-at.invariant.distinct;
     }
 
 pub returns : goal.returns
-returns c = closed_by c.args.fst.now.edges c.args.states.now.items c.args.links.now.items c.loop-at.states.items c.loop-at.links.items c.loop-at.at (omega arith) c.loop-at.invariant.spread c.loop-at.invariant.sound
+returns c = closed_by c.args.fst.now.edges c.args.states.now.items c.args.links.now.items
+    c.loop-at.states.items c.loop-at.links.items c.loop-at.at (omega arith)
+    c.loop-at.invariant.spread c.loop-at.invariant.sound

@@ -7,7 +7,8 @@ use Rattle.ap_live.proofs.rows.close.Given as goal
 abbrev pub invariant-loop-at : goal.invariant-loop-at
 invariant-loop-at l = record {
   in_range : l.at ≤ length l.states.items;
-  spread : Spread l.fst.edges None (take l.at l.states.items) l.initial.states.items l.initial.links.items l.states.items l.links.items;
+  spread : Spread l.fst.edges None (take l.at l.states.items) l.initial.states.items
+      l.initial.links.items l.states.items l.links.items;
   sound : (s : ℕ) → IsIn s l.states.items → From l.fst.edges l.initial.states.items s;
   distinct : IsDistinct nat_eq l.states.items;
 }

@@ -3,4 +3,6 @@ use Rattle.ap_live.specs.Spreads.{SpreadOne, PlaceBelow}
 use Rattle.ap_live.proofs.rows.spread_few.Given as goal
 
 abbrev pub invariant-loop-place : goal.invariant-loop-place
-invariant-loop-place l = SpreadOne l.fst.edges (pick_of l.fn.pick) l.from (PlaceBelow l.place) l.initial.states.items l.initial.links.items l.states.items l.links.items
+invariant-loop-place l =
+    SpreadOne l.fst.edges (pick_of l.fn.pick) l.from (PlaceBelow l.place) l.initial.states.items
+    l.initial.links.items l.states.items l.links.items

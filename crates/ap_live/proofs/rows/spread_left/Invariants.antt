@@ -4,4 +4,6 @@ use Rattle.ap_live.specs.Spreads.{SpreadOne, HasLeftBelow}
 use Rattle.ap_live.proofs.rows.spread_left.Given as goal
 
 abbrev pub invariant-loop-j : goal.invariant-loop-j
-invariant-loop-j l = SpreadOne l.fst.edges (pick_of l.fn.pick) l.from (HasLeftBelow l.fst.edges (Some l.left) l.j) l.initial.states.items l.initial.links.items l.states.items l.links.items
+invariant-loop-j l = SpreadOne l.fst.edges (pick_of l.fn.pick) l.from
+    (HasLeftBelow l.fst.edges (Some l.left) l.j) l.initial.states.items l.initial.links.items
+    l.states.items l.links.items

@@ -13,10 +13,17 @@ loop-edge-preserved c = λ e i.
     let at : ℕ = c.loop-edge.edge-index in
     let x : Edge = c.edge-item.result in
     let fits : IsTrue c.writes_word.result = search rules in
-    elim (in_either e (take at xs) (x ∷ []) (subst (λ (z : List Edge). IsIn e z) (take_more xs at x c.loop-edge-test.true ∙ ap (λ y. take at xs ++ y ∷ []) (sym c.edge-item.is)) i)) [
+    elim (in_either e (take at xs) (x ∷ [])
+    (subst (λ (z : List Edge). IsIn e z) (take_more xs at x c.loop-edge-test.true
+    ∙ ap (λ y. take at xs ++ y ∷ []) (sym c.edge-item.is)) i)) [
       | inl k ↦ c.loop-edge.invariant e k
       | inr k ↦ elim k [
-        | inl f ↦ (ap (λ (z : Edge). is_word_side z.label.right) f ∙ sym c.writes_word.ensures.word ∙ fits, ap (λ (z : Edge). is_proper_side z.label.right) f ∙ sym c.writes_word.ensures.proper ∙ fits)
+        | inl f ↦ (
+          ap (λ (z : Edge). is_word_side z.label.right) f ∙ sym c.writes_word.ensures.word
+              ∙ fits,
+          ap (λ (z : Edge). is_proper_side z.label.right) f
+              ∙ sym c.writes_word.ensures.proper ∙ fits,
+        )
         | inr n ↦ elim n [ ]
       ]
     ]
@@ -25,8 +32,12 @@ pub returns-then-not-writes_word-clause-words : goal.returns-then-not-writes_wor
 returns-then-not-writes_word-clause-words c = (
   (λ t. absurd (true≢false (sym t))),
   (λ h.
-      let listed : IsIn c.edge-item.result c.args.edges.now = subst (λ (z : Edge). IsIn z c.args.edges.now) (sym c.edge-item.is) (in_at c.args.edges.now c.loop-edge.edge-index c.edge-item.result c.loop-edge-test.true) in
-      let good : c.writes_word.result ≡ true = c.writes_word.ensures.word ∙ h c.edge-item.result listed in
+      let listed : IsIn c.edge-item.result c.args.edges.now =
+      subst (λ (z : Edge). IsIn z c.args.edges.now) (sym c.edge-item.is)
+      (in_at c.args.edges.now c.loop-edge.edge-index c.edge-item.result
+      c.loop-edge-test.true) in
+      let good : c.writes_word.result ≡ true = c.writes_word.ensures.word
+      ∙ h c.edge-item.result listed in
       let bad : c.writes_word.result ≡ false = search rules in
       absurd (true≢false (sym good ∙ bad))),
 )
@@ -36,9 +47,14 @@ returns-then-not-writes_word-clause-proper c = λ t. absurd (true≢false (sym t
 
 pub returns-clause-words : goal.returns-clause-words
 returns-clause-words c = (
-  (λ t e i. (c.loop-edge.invariant e (subst (λ (z : List Edge). IsIn e z) (sym (take_all c.loop-edge.edge-index c.args.edges.now (omega arith))) i)).0),
+  (λ t e i. (c.loop-edge.invariant e
+      (subst (λ (z : List Edge). IsIn e z)
+      (sym (take_all c.loop-edge.edge-index c.args.edges.now (omega arith))) i)).0),
   (λ h. refl),
 )
 
 pub returns-clause-proper : goal.returns-clause-proper
-returns-clause-proper c = λ t e i. (c.loop-edge.invariant e (subst (λ (z : List Edge). IsIn e z) (sym (take_all c.loop-edge.edge-index c.args.edges.now (omega arith))) i)).1
+returns-clause-proper c =
+    λ t e i. (c.loop-edge.invariant e
+    (subst (λ (z : List Edge). IsIn e z)
+    (sym (take_all c.loop-edge.edge-index c.args.edges.now (omega arith))) i)).1

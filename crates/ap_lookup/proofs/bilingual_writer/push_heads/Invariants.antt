@@ -4,4 +4,5 @@ use Rattle.ap_stream.specs.Spelling.{slashed}
 use Rattle.ap_lookup.proofs.bilingual_writer.push_heads.Given as goal
 
 abbrev pub invariant-loop-head : goal.invariant-loop-head
-invariant-loop-head l = l.text ≡ l.fn.text ++ flat_map slashed (map (λ h. h ++ l.rest) (take l.head-index l.heads))
+invariant-loop-head l = l.text ≡ l.fn.text
+    ++ flat_map slashed (map (λ h. h ++ l.rest) (take l.head-index l.heads))

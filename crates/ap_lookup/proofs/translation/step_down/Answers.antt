@@ -8,16 +8,33 @@ use Rattle.ap_lookup.proofs.Translations as laws
 use Rattle.ap_lookup.proofs.translation.step_down.Goals as goal
 
 pub returns-then-at-least-clause-value : goal.returns-then-at-least-clause-value
-returns-then-at-least-clause-value c = sym (c.loop-at.invariant.is ∙ laws.none_below (lexicon_of c.args.compiled.now c.args.sensitive) c.args.least c.args.symbols.now c.loop-at.at (omega (arith, c.if-at-least.true)))
+returns-then-at-least-clause-value c =
+    sym (c.loop-at.invariant.is
+    ∙ laws.none_below (lexicon_of c.args.compiled.now c.args.sensitive) c.args.least
+    c.args.symbols.now c.loop-at.at (omega (arith, c.if-at-least.true)))
 
 pub returns-then-reads_any-clause-value : goal.returns-then-reads_any-clause-value
-returns-then-reads_any-clause-value c = sym (c.loop-at.invariant.is ∙ greatest_here (is_match (lexicon_of c.args.compiled.now c.args.sensitive) c.args.least c.args.symbols.now) c.loop-at.at c.loop-at-test.true
-    (laws.match_reads (lexicon_of c.args.compiled.now c.args.sensitive) c.args.least c.args.symbols.now c.loop-at.at true (omega (arith, c.if-at-least.false)) (sym (c.reads_any.ensures c.args.sensitive _ c.loop-at.invariant.lives) ∙ c.if-reads_any.true)))
+returns-then-reads_any-clause-value c =
+    sym (c.loop-at.invariant.is
+    ∙ greatest_here (is_match (lexicon_of c.args.compiled.now c.args.sensitive) c.args.least
+    c.args.symbols.now) c.loop-at.at c.loop-at-test.true
+    (laws.match_reads (lexicon_of c.args.compiled.now c.args.sensitive) c.args.least
+    c.args.symbols.now c.loop-at.at true (omega (arith, c.if-at-least.false))
+    (sym (c.reads_any.ensures c.args.sensitive _ c.loop-at.invariant.lives)
+    ∙ c.if-reads_any.true)))
 
 pub loop-at-preserved : goal.loop-at-preserved
 loop-at-preserved c = record {
-  lives = subst (λ (symbols : List Symbol). AreLive c.args.compiled.now c.args.sensitive symbols c.cut.new.self) (laws.taken_again (c.loop-at.at - 1) c.loop-at.at c.args.symbols.now (omega arith)) (c.cut.ensures c.args.compiled.now c.args.sensitive _ c.loop-at.invariant.lives);
+  lives = subst (λ (symbols : List Symbol). AreLive c.args.compiled.now c.args.sensitive symbols
+      c.cut.new.self) (laws.taken_again (c.loop-at.at - 1) c.loop-at.at c.args.symbols.now
+      (omega arith)) (c.cut.ensures c.args.compiled.now c.args.sensitive _
+      c.loop-at.invariant.lives);
   below = omega (arith, c.loop-at.invariant.below);
-  is = c.loop-at.invariant.is ∙ greatest_down (is_match (lexicon_of c.args.compiled.now c.args.sensitive) c.args.least c.args.symbols.now) c.loop-at.at c.loop-at-test.true
-      (laws.match_reads (lexicon_of c.args.compiled.now c.args.sensitive) c.args.least c.args.symbols.now c.loop-at.at false (omega (arith, c.if-at-least.false)) (sym (c.reads_any.ensures c.args.sensitive _ c.loop-at.invariant.lives) ∙ c.if-reads_any.false));
+  is = c.loop-at.invariant.is
+      ∙ greatest_down (is_match (lexicon_of c.args.compiled.now c.args.sensitive) c.args.least
+      c.args.symbols.now) c.loop-at.at c.loop-at-test.true
+      (laws.match_reads (lexicon_of c.args.compiled.now c.args.sensitive) c.args.least
+      c.args.symbols.now c.loop-at.at false (omega (arith, c.if-at-least.false))
+      (sym (c.reads_any.ensures c.args.sensitive _ c.loop-at.invariant.lives)
+      ∙ c.if-reads_any.false));
 }

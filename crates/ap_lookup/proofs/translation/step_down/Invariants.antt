@@ -9,7 +9,8 @@ abbrev pub invariant-loop-at : goal.invariant-loop-at
 invariant-loop-at l = record {
   lives : AreLive l.compiled l.sensitive (take l.at l.symbols) l.lives;
   below : l.at ≤ l.from;
-  is : greatest (is_match (lexicon_of l.compiled l.sensitive) l.least l.symbols) l.from ≡ greatest (is_match (lexicon_of l.compiled l.sensitive) l.least l.symbols) l.at;
+  is : greatest (is_match (lexicon_of l.compiled l.sensitive) l.least l.symbols) l.from
+      ≡ greatest (is_match (lexicon_of l.compiled l.sensitive) l.least l.symbols) l.at;
 }
 
 abbrev pub decreases-loop-at : goal.decreases-loop-at

@@ -6,7 +6,8 @@ use Rattle.ap_lookup.proofs.translation.step_one.Goals as goal
 pub returns-then-is_dead-clause-off : goal.returns-then-is_dead-clause-off
 returns-then-is_dead-clause-off c = λ _ symbols many live.
     let on = c.in_ok-step.ensures.ok symbols live in (
-      live_back c.args.compiled.now c.args.sensitive symbols c.args.symbol.now c.args.at c.cut.new.self many (c.cut.ensures c.args.compiled.now c.args.sensitive _ on),
+      live_back c.args.compiled.now c.args.sensitive symbols c.args.symbol.now c.args.at
+          c.cut.new.self many (c.cut.ensures c.args.compiled.now c.args.sensitive _ on),
       true_not _ (sym c.if-is_dead.true ∙ c.is_dead.ensures c.args.sensitive _ on),
     )
 

@@ -7,15 +7,22 @@ use Rattle.ap_markup.proofs.said.child.Goals.{in-Run, in-Element+else-is_named}
 pub returns-then-is_named : goal.returns-then-is_named
 returns-then-is_named c =
     ap parts_of c.deref.ensures.value
-    ∙ sym (child_yes c.args.name.now c.args.parts.now c.parts.part-index c.part-item.result c.in-Element.node c.parts-test.true c.part-item.is c.in-Element.is (sym c.is_named.ensures ∙ c.if-is_named.true))
+    ∙ sym (child_yes c.args.name.now c.args.parts.now c.parts.part-index c.part-item.result
+    c.in-Element.node c.parts-test.true c.part-item.is c.in-Element.is
+    (sym c.is_named.ensures ∙ c.if-is_named.true))
     ∙ c.parts.invariant
 
 pub parts-preserved : goal.parts-preserved
 parts-preserved c =
     elim c.match-part.branch [
-      | in-Run w ↦ sym (child_run c.args.name.now c.args.parts.now c.parts.part-index c.part-item.result _ _ c.parts-test.true c.part-item.is w.in-Run.is) ∙ c.parts.invariant
-      | in-Element+else-is_named w ↦ sym (child_no c.args.name.now c.args.parts.now c.parts.part-index c.part-item.result w.in-Element.node c.parts-test.true c.part-item.is w.in-Element.is (sym w.is_named.ensures ∙ w.if-is_named.false)) ∙ c.parts.invariant
+      | in-Run w ↦ sym (child_run c.args.name.now c.args.parts.now c.parts.part-index
+          c.part-item.result _ _ c.parts-test.true c.part-item.is w.in-Run.is) ∙ c.parts.invariant
+      | in-Element+else-is_named w ↦
+          sym (child_no c.args.name.now c.args.parts.now c.parts.part-index c.part-item.result
+          w.in-Element.node c.parts-test.true c.part-item.is w.in-Element.is
+          (sym w.is_named.ensures ∙ w.if-is_named.false)) ∙ c.parts.invariant
     ]
 
 pub returns : goal.returns
-returns c = sym (child_end c.args.name.now c.args.parts.now c.parts.part-index c.parts-test.false) ∙ c.parts.invariant
+returns c = sym (child_end c.args.name.now c.args.parts.now c.parts.part-index c.parts-test.false)
+    ∙ c.parts.invariant

@@ -7,9 +7,12 @@ pub returns-clause-contents : goal.returns-clause-contents
 returns-clause-contents c =
     let named : MemFile → List ℕ = λ file. string_bytes file.name in
     rewritten c.args.files.now.items c.args.at _ c.args.name.now c.requires
-    (ap named c.index_mut.ensures.value ∙ name_at c.args.files.now.items c.args.at c.index_mut.result.now c.args.name.now c.requires)
+    (ap named c.index_mut.ensures.value
+    ∙ name_at c.args.files.now.items c.args.at c.index_mut.result.now
+    c.args.name.now c.requires)
 
 pub returns-clause-places : goal.returns-clause-places
 returns-clause-places c =
     let named : MemFile → List ℕ = λ file. string_bytes file.name in
-    places_stay c.args.files.now.items c.args.at _ c.index_mut.result.now (ap named c.index_mut.ensures.value)
+    places_stay c.args.files.now.items c.args.at _ c.index_mut.result.now
+    (ap named c.index_mut.ensures.value)

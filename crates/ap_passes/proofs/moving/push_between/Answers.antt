@@ -3,5 +3,10 @@ use Rattle.ap_passes.proofs.Cutting.{pushed_more}
 use Rattle.ap_passes.proofs.moving.push_between.Goals as goal
 
 pub loop-at-preserved : goal.loop-at-preserved
-loop-at-preserved c = c.in_ok-push.ensures.ok ∙ ap (λ z. c.loop-at.into ++ z ∷ []) c.in_ok-copy.ensures
-    ∙ pushed_more c.symbols-symbols.result.now c.args.into.now c.loop-at.into c.args.from c.loop-at.at c.index-symbols-at.result (omega arith) (rw c.symbols-symbols.ensures.symbols (omega (arith, c.loop-at-test.true, c.requires.within))) c.index-symbols-at.is c.loop-at.invariant
+loop-at-preserved c = c.in_ok-push.ensures.ok
+    ∙ ap (λ z. c.loop-at.into ++ z ∷ []) c.in_ok-copy.ensures
+    ∙ pushed_more c.symbols-symbols.result.now c.args.into.now c.loop-at.into c.args.from
+    c.loop-at.at c.index-symbols-at.result (omega arith)
+    (rw c.symbols-symbols.ensures.symbols
+    (omega (arith, c.loop-at-test.true, c.requires.within))) c.index-symbols-at.is
+    c.loop-at.invariant

@@ -8,5 +8,6 @@ use Rattle.ap_passes.proofs.parts.write_parts.Given as goal
 abbrev pub invariant-loop-at : goal.invariant-loop-at
 invariant-loop-at l = record {
   begun : l.begun.from ≤ l.at;
-  rest : l.into ++ following l.begun.behind (filter is_filled (parts_from l.begun.from l.at l.word)) ≡ l.fn.into ++ spaced (filter is_filled (parts l.word));
+  rest : l.into ++ following l.begun.behind (filter is_filled (parts_from l.begun.from l.at l.word))
+      ≡ l.fn.into ++ spaced (filter is_filled (parts l.word));
 }

@@ -5,4 +5,6 @@ use Rattle.ap_passes.proofs.WordBytes.{filled_none}
 use Rattle.ap_passes.proofs.units.write_filled.Goals as goal
 
 pub returns-then-is_empty : goal.returns-then-is_empty
-returns-then-is_empty c = λ word is. sym (append-nil c.args.into.now) ∙ ap (λ q. c.args.into.now ++ q) (sym (filled_none c.args.bytes.now word is (grind (arith, nat_tests))))
+returns-then-is_empty c = λ word is. sym (append-nil c.args.into.now)
+    ∙ ap (λ q. c.args.into.now ++ q)
+    (sym (filled_none c.args.bytes.now word is (grind (arith, nat_tests))))

@@ -4,7 +4,8 @@ use Rattle.ap_rules.proofs.children.count_named.Given as goal
 
 abbrev pub invariant-rest : goal.invariant-rest
 invariant-rest l = record {
-  counted : l.count + count_named l.name (children_in l.rest) ≡ count_named l.name (children_in l.parts);
+  counted : l.count + count_named l.name (children_in l.rest)
+      ≡ count_named l.name (children_in l.parts);
   few : l.count + length l.rest ≤ length l.parts;
 }
 

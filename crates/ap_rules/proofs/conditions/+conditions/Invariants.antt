@@ -13,7 +13,8 @@ decreases-conditions l = 2 * size (children_in l.parts.now)
 
 abbrev pub invariant-conditions-rest : goal.invariant-conditions-rest
 invariant-conditions-rest l = record {
-  made : plain_conditions l.made.items ++ conditions (scope l.s) (children_in l.rest) ≡ conditions (scope l.s) (children_in l.parts);
+  made : plain_conditions l.made.items ++ conditions (scope l.s) (children_in l.rest)
+      ≡ conditions (scope l.s) (children_in l.parts);
   smaller : size (children_in l.rest) ≤ size (children_in l.parts);
 }
 

@@ -10,7 +10,8 @@ decreases-first_in l = size (children_in l.parts.now)
 
 abbrev pub invariant-rest : goal.invariant-rest
 invariant-rest l = record {
-  first : first_in (around l.a) l.above (children_in l.rest) ≡ first_in (around l.a) l.fn.above (children_in l.parts);
+  first : first_in (around l.a) l.above (children_in l.rest)
+      ≡ first_in (around l.a) l.fn.above (children_in l.parts);
   after : defined_in l.above (children_in l.rest) ≡ defined_in l.fn.above (children_in l.parts);
   smaller : size (children_in l.rest) ≤ size (children_in l.parts);
 }

@@ -6,7 +6,9 @@ use Rattle.ap_rules.specs.Views.{plain_chunk_piece}
 use Rattle.ap_rules.proofs.pieces.chunk_pieces.Given as goal
 
 abbrev pub invariant-rest : goal.invariant-rest
-invariant-rest l = map (plain_chunk_piece) l.made.items ++ chunk_pieces (scope l.s) (children_in l.rest) ≡ chunk_pieces (scope l.s) (children_in l.parts)
+invariant-rest l = map (plain_chunk_piece) l.made.items
+    ++ chunk_pieces (scope l.s) (children_in l.rest)
+    ≡ chunk_pieces (scope l.s) (children_in l.parts)
 
 abbrev pub decreases-rest : goal.decreases-rest
 decreases-rest l = size (children_in l.rest)

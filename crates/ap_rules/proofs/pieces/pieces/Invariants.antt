@@ -6,7 +6,8 @@ use Rattle.ap_rules.specs.Views.{plain_piece}
 use Rattle.ap_rules.proofs.pieces.pieces.Given as goal
 
 abbrev pub invariant-rest : goal.invariant-rest
-invariant-rest l = map (plain_piece) l.made.items ++ pieces (scope l.s) (children_in l.rest) ≡ pieces (scope l.s) (children_in l.parts)
+invariant-rest l = map (plain_piece) l.made.items ++ pieces (scope l.s) (children_in l.rest)
+    ≡ pieces (scope l.s) (children_in l.parts)
 
 abbrev pub decreases-rest : goal.decreases-rest
 decreases-rest l = size (children_in l.rest)

@@ -6,7 +6,9 @@ use Rattle.ap_rules.specs.Views.{plain_values}
 use Rattle.ap_rules.proofs.pieces.tags.Given as goal
 
 abbrev pub invariant-rest : goal.invariant-rest
-invariant-rest l = map (λ t. plain_values t.values.items) l.made.items ++ rows_named (codes "tag") (scope l.s) (children_in l.rest) ≡ rows_named (codes "tag") (scope l.s) (children_in l.parts)
+invariant-rest l = map (λ t. plain_values t.values.items) l.made.items
+    ++ rows_named (codes "tag") (scope l.s) (children_in l.rest)
+    ≡ rows_named (codes "tag") (scope l.s) (children_in l.parts)
 
 abbrev pub decreases-rest : goal.decreases-rest
 decreases-rest l = size (children_in l.rest)

@@ -8,11 +8,13 @@ returns-in-Ok c =
     let form = c.args.form in
     let text = c.args.text.now in
     let same = ap (elements text) (sym c.table_of.ensures) in
-    let value = value_read form text _ c.judged.result (same ∙ c.in-Ok.ensures) c.judged.ensures.value in
+    let value = value_read form text _ c.judged.result (same ∙ c.in-Ok.ensures)
+    c.judged.ensures.value in
     record {
       spells = value;
       sound = sound_read form text c.judged.result value;
-      fault = fault_read form text _ c.judged.result (same ∙ c.in-Ok.ensures) c.judged.ensures.fault;
+      fault = fault_read form text _ c.judged.result (same ∙ c.in-Ok.ensures)
+          c.judged.ensures.fault;
     }
 
 pub returns-in-Err-Fault : goal.returns-in-Err-Fault
@@ -23,5 +25,7 @@ returns-in-Err-Fault c =
     record {
       spells = tt;
       sound = tt;
-      fault = refused form text c.in-Err-Fault.fault c.mark_of.result c.refusal.result (same ∙ rw c.in-Err-Fault.field-0-is at c.in-Err-Fault.ensures) (rw c.in-Err-Fault.field-0-is at c.mark_of.ensures) c.refusal.ensures;
+      fault = refused form text c.in-Err-Fault.fault c.mark_of.result c.refusal.result
+          (same ∙ rw c.in-Err-Fault.field-0-is at c.in-Err-Fault.ensures)
+          (rw c.in-Err-Fault.field-0-is at c.mark_of.ensures) c.refusal.ensures;
     }

@@ -6,7 +6,8 @@ use Rattle.ap_rules.specs.Views.{plain_macro, plain_rule}
 use Rattle.ap_rules.proofs.sections.cat_items.Given as goal
 
 abbrev pub invariant-rest : goal.invariant-rest
-invariant-rest l = l.made ++ cat_items l.form (children_in l.rest) ≡ cat_items l.form (children_in l.parts)
+invariant-rest l = l.made ++ cat_items l.form (children_in l.rest)
+    ≡ cat_items l.form (children_in l.parts)
 
 abbrev pub decreases-rest : goal.decreases-rest
 decreases-rest l = size (children_in l.rest)

@@ -6,7 +6,8 @@ use Rattle.ap_rules.proofs.sections.macros.Given as goal
 
 abbrev pub invariant-rest : goal.invariant-rest
 invariant-rest l = record {
-  made : map plain_macro l.made.items ++ macros l.form l.chunks l.names (children_in l.rest) ≡ macros l.form l.chunks l.fn.names (children_in l.parts);
+  made : map plain_macro l.made.items ++ macros l.form l.chunks l.names (children_in l.rest)
+      ≡ macros l.form l.chunks l.fn.names (children_in l.parts);
   named : past_macros l.names (children_in l.rest) ≡ past_macros l.fn.names (children_in l.parts);
 }
 

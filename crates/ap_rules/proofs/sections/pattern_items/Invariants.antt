@@ -6,7 +6,8 @@ use Rattle.ap_rules.specs.Views.{plain_macro, plain_rule}
 use Rattle.ap_rules.proofs.sections.pattern_items.Given as goal
 
 abbrev pub invariant-rest : goal.invariant-rest
-invariant-rest l = l.made ++ pattern_items l.cats (children_in l.rest) ≡ pattern_items l.cats (children_in l.parts)
+invariant-rest l = l.made ++ pattern_items l.cats (children_in l.rest)
+    ≡ pattern_items l.cats (children_in l.parts)
 
 abbrev pub decreases-rest : goal.decreases-rest
 decreases-rest l = size (children_in l.rest)

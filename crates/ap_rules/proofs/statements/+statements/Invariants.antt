@@ -19,7 +19,8 @@ decreases-whens l = 2 * size (children_in l.parts.now)
 
 abbrev pub invariant-statements-rest : goal.invariant-statements-rest
 invariant-statements-rest l = record {
-  made : plain_statements l.made.items ++ statements (scope l.s) (children_in l.rest) ≡ statements (scope l.s) (children_in l.parts);
+  made : plain_statements l.made.items ++ statements (scope l.s) (children_in l.rest)
+      ≡ statements (scope l.s) (children_in l.parts);
   smaller : size (children_in l.rest) ≤ size (children_in l.parts);
 }
 
@@ -28,7 +29,8 @@ decreases-statements-rest l = size (children_in l.rest)
 
 abbrev pub invariant-whens-rest : goal.invariant-whens-rest
 invariant-whens-rest l = record {
-  made : map plain_when l.made.items ++ whens (scope l.s) (children_in l.rest) ≡ whens (scope l.s) (children_in l.parts);
+  made : map plain_when l.made.items ++ whens (scope l.s) (children_in l.rest)
+      ≡ whens (scope l.s) (children_in l.parts);
   smaller : size (children_in l.rest) ≤ size (children_in l.parts);
 }
 

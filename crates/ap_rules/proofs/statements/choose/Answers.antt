@@ -8,5 +8,6 @@ use Rattle.ap_rules.proofs.statements.choose.Goals as goal
 pub returns : goal.returns
 returns c =
     plain-Choose (roll-Choose (record { whens = c.args.whens; otherwise = c.args.otherwise }))
-    ∙ ap (λ x. choose (whens_of (map plain_when x.whens.items)) (statements_of (plain_statements x.otherwise.items)))
+    ∙ ap (λ x. choose (whens_of (map plain_when x.whens.items))
+    (statements_of (plain_statements x.otherwise.items)))
     (out-roll-Choose (record { whens = c.args.whens; otherwise = c.args.otherwise }))

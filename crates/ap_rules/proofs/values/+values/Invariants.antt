@@ -13,7 +13,8 @@ decreases-values l = 2 * size (children_in l.parts.now)
 
 abbrev pub invariant-values-rest : goal.invariant-values-rest
 invariant-values-rest l = record {
-  made : plain_values l.made.items ++ values (scope l.s) l.content (children_in l.rest) ≡ values (scope l.s) l.content (children_in l.parts);
+  made : plain_values l.made.items ++ values (scope l.s) l.content (children_in l.rest)
+      ≡ values (scope l.s) l.content (children_in l.parts);
   smaller : size (children_in l.rest) ≤ size (children_in l.parts);
 }
 

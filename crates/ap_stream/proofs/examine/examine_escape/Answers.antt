@@ -6,7 +6,13 @@ use Rattle.ap_stream.specs.Step as step
 use Rattle.ap_stream.proofs.examine.examine_escape.Goals as goal
 
 pub returns-in-NotChar : goal.returns-in-NotChar
-returns-in-NotChar c = (λ x. rw c.requires.stands.0 (stands.escaped_bad _ _ (sym c.in-NotChar.ensures) x), λ e. cc)
+returns-in-NotChar c = (
+  λ x. rw c.requires.stands.0
+      (stands.escaped_bad _ _ (sym c.in-NotChar.ensures) x),
+  λ e. cc,
+)
 
 pub returns-in-Char : goal.returns-in-Char
-returns-in-Char c = λ x. rw (c.requires.stands.0, length-append) (stands.escaped_whole _ _ c.in-Char.letter (step.whole_char _ _ _ _ _ c.requires.part_is c.requires.stands.1 c.in-Char.ensures) x)
+returns-in-Char c = λ x. rw (c.requires.stands.0, length-append)
+    (stands.escaped_whole _ _ c.in-Char.letter
+    (step.whole_char _ _ _ _ _ c.requires.part_is c.requires.stands.1 c.in-Char.ensures) x)

@@ -5,7 +5,8 @@ use Rattle.ap_stream.proofs.queue.size_of_front.Goals as goal
 
 pub overflow_add-size : goal.overflow_add-size
 overflow_add-size c =
-    let lt : c.loop-i.i < length c.args.reads.now = omega (arith, c.loop-i-test.true, c.requires.within) in
+    let lt : c.loop-i.i < length c.args.reads.now =
+    omega (arith, c.loop-i-test.true, c.requires.within) in
     let f = bytes_fits c.args.reads.now c.loop-i.i c.index-reads-i.result lt c.index-reads-i.is in
     let s = ap (λ (r : Read). r.size) c.index-reads-i.is in
     let i = c.loop-i.invariant in
@@ -13,7 +14,8 @@ overflow_add-size c =
 
 pub loop-i-preserved : goal.loop-i-preserved
 loop-i-preserved c =
-    let lt : c.loop-i.i < length c.args.reads.now = omega (arith, c.loop-i-test.true, c.requires.within) in
+    let lt : c.loop-i.i < length c.args.reads.now =
+    omega (arith, c.loop-i-test.true, c.requires.within) in
     let n = bytes_next c.args.reads.now c.loop-i.i c.index-reads-i.result lt c.index-reads-i.is in
     let s = ap (λ (r : Read). r.size) c.index-reads-i.is in
     let i = c.loop-i.invariant in

@@ -9,7 +9,9 @@ invariant-loop-at l = record {
   begun : 1 ≤ l.at;
   fits : l.at ≤ length l.held;
   sought : l.behind ≤ l.fn.wanted;
-  on : (words : List (List Symbol)) × (length words ≡ l.behind) × (rest (form_of l.fn.dialect) [] [] 0 (drop 1 l.held) ≡ longer (l.at - 1) (rest (form_of l.fn.dialect) words l.into 0 (drop l.at l.held)));
+  on : (words : List (List Symbol)) × (length words ≡ l.behind)
+      × (rest (form_of l.fn.dialect) [] [] 0 (drop 1 l.held)
+      ≡ longer (l.at - 1) (rest (form_of l.fn.dialect) words l.into 0 (drop l.at l.held)));
 }
 
 abbrev pub decreases-loop-at : goal.decreases-loop-at

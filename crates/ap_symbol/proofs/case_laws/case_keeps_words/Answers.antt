@@ -4,4 +4,10 @@ use Rattle.ap_symbol.proofs.RecasedWords.{stays_proper, keeps_bytes}
 use Rattle.ap_symbol.proofs.case_laws.case_keeps_words.Goals as goal
 
 pub returns : goal.returns
-returns c = record { white = λ n. (lower_white n, upper_white n); proper = stays_proper; coded = stays_coded; bytes = keeps_bytes }
+returns c = record {
+  white = λ n. (lower_white n, upper_white n);
+  proper = stays_proper;
+  coded =
+      stays_coded;
+  bytes = keeps_bytes;
+}

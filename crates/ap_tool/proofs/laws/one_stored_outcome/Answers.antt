@@ -3,7 +3,10 @@ use Rattle.ap_tool.specs.Account.{stored_outcome}
 use Rattle.ap_tool.proofs.laws.one_stored_outcome.Goals as goal
 
 pub returns-clause-same : goal.returns-clause-same
-returns-clause-same c = λ d e way out input ending a b same closure p q. p.3 ∙ ap (stored_outcome out) (c.same_strings_same_compiled.ensures d e way p.0 q.0 p.1 q.1 same closure) ∙ sym q.3
+returns-clause-same c = λ d e way out input ending a b same closure p q. p.3
+    ∙ ap (stored_outcome out)
+    (c.same_strings_same_compiled.ensures d e way p.0 q.0 p.1 q.1 same closure) ∙ sym q.3
 
 pub returns-clause-least : goal.returns-clause-least
-returns-clause-least c = λ d way out input ending o p. (p.0, c.compiled_is_least.ensures d way p.0 p.1, p.3)
+returns-clause-least c =
+    λ d way out input ending o p. (p.0, c.compiled_is_least.ensures d way p.0 p.1, p.3)

@@ -8,4 +8,6 @@ use Rattle.ap_tool.proofs.stream.pass_pretransfer.Goals as goal
 pub returns-clause-flows : goal.returns-clause-flows
 returns-clause-flows g c =
     let same = one_meaning _ split_pass c.new-stage.ensures.rest in
-    c.pass.ensures.flows SplitWords same (subst (KeepsSuperblanks Lexical Lexical) (sym same) c.pretransfer_keeps_superblanks.ensures)
+    c.pass.ensures.flows SplitWords same
+    (subst (KeepsSuperblanks Lexical Lexical) (sym same)
+    c.pretransfer_keeps_superblanks.ensures)

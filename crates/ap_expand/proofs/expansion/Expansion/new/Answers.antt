@@ -11,5 +11,7 @@ pub returns : goal.returns
 returns c =
     all-lines (search_trace c.new.result) c.args.dictionary.now
     (c.new.ensures.steps
-    ∙ ap (λ (ps : List Pardef). None ∷ sections_trace (pardefs_trace [] ps) c.as_slice-2.result.now) c.as_slice.ensures
-    ∙ ap (λ (ss : List Section). None ∷ sections_trace (pardefs_trace [] c.args.dictionary.now.pardefs) ss) c.as_slice-2.ensures)
+    ∙ ap (λ (ps : List Pardef). None ∷ sections_trace (pardefs_trace [] ps) c.as_slice-2.result.now)
+    c.as_slice.ensures
+    ∙ ap (λ (ss : List Section). None
+    ∷ sections_trace (pardefs_trace [] c.args.dictionary.now.pardefs) ss) c.as_slice-2.ensures)

@@ -9,13 +9,24 @@ use Rattle.ap_expand.proofs.Entering.{Enters, push-linked, opened, ended, with_e
 use Rattle.ap_expand.proofs.search.Search.enter.Goals as goal
 
 pub advance-requires-clause-linked : goal.advance-requires-clause-linked
-advance-requires-clause-linked c = push-linked c.args.self.now.left.items c.args.self.now.right.items c.args.self.now.below.items c.as_slice.result.now c.args.self.now.top c.args.others c.requires.search.stack (c.as_slice.ensures.value ∙ c.in_ok-push.ensures.items)
+advance-requires-clause-linked c =
+    push-linked c.args.self.now.left.items c.args.self.now.right.items c.args.self.now.below.items
+    c.as_slice.result.now c.args.self.now.top c.args.others c.requires.search.stack
+    (c.as_slice.ensures.value ∙ c.in_ok-push.ensures.items)
 
 pub returns-in-Ok-Opened-clause-took : goal.returns-in-Ok-Opened-clause-took
 returns-in-Ok-Opened-clause-took c =
-    let advanced : Advanced c.args.self.now.pardefs.now c.as_slice.result.now c.args.entry.now.parts (way_of c.truncate.new.self.items c.truncate-2.new.self.items c.uses_lr-lr.result c.uses_rl-rl.result) c.advance.new.left.items c.advance.new.right.items c.advance.new.line (Opened c.in-Ok-Opened.frame) = rw c.in-Ok-Opened.field-0-is at c.in-Ok-Opened.ensures.advanced in
+    let advanced : Advanced c.args.self.now.pardefs.now c.as_slice.result.now c.args.entry.now.parts
+    (way_of c.truncate.new.self.items c.truncate-2.new.self.items c.uses_lr-lr.result
+    c.uses_rl-rl.result) c.advance.new.left.items c.advance.new.right.items c.advance.new.line
+    (Opened c.in-Ok-Opened.frame) =
+    rw c.in-Ok-Opened.field-0-is at c.in-Ok-Opened.ensures.advanced in
     let frames_are : c.as_slice.result.now ≡ c.push.new.self.items = c.as_slice.ensures.value in
-    let enters : Enters c.args.self.now.left.items c.args.self.now.right.items c.args.self.now.below.items c.args.self.now.top c.args.entry.now c.args.others c.truncate.new.self.items c.truncate-2.new.self.items c.uses_lr-lr.result c.uses_rl-rl.result c.as_slice.result.now c.advance.new.left.items c.advance.new.right.items = record {
+    let enters : Enters c.args.self.now.left.items c.args.self.now.right.items
+    c.args.self.now.below.items c.args.self.now.top c.args.entry.now c.args.others
+    c.truncate.new.self.items c.truncate-2.new.self.items c.uses_lr-lr.result
+    c.uses_rl-rl.result c.as_slice.result.now c.advance.new.left.items
+    c.advance.new.right.items = record {
       stack = c.requires.search.stack;
       first = c.requires.first;
       taken = c.requires.taken;
@@ -27,16 +38,34 @@ returns-in-Ok-Opened-clause-took c =
       left_begins = c.in-Ok-Opened.ensures.left;
       right_begins = c.in-Ok-Opened.ensures.right;
     } in (
-      opened (pardefs_trace [] c.args.self.now.pardefs.now) (sections_trace (pardefs_trace [] c.args.self.now.pardefs.now) c.args.self.now.sections.now) c.args.self.now.left.items c.args.self.now.right.items c.args.self.now.below.items c.args.self.now.top c.args.entry.now c.args.others c.truncate.new.self.items c.truncate-2.new.self.items c.uses_lr-lr.result c.uses_rl-rl.result c.as_slice.result.now c.advance.new.left.items c.advance.new.right.items c.in-Ok-Opened.frame enters advanced.0 advanced.2 advanced.3
-          ∙ ap (λ (fs : List Frame). None ∷ (stack_trace (pardefs_trace [] c.args.self.now.pardefs.now) c.advance.new.left.items c.advance.new.right.items (c.in-Ok-Opened.frame ∷ reverse fs) ++ sections_trace (pardefs_trace [] c.args.self.now.pardefs.now) c.args.self.now.sections.now)) frames_are,
+      opened (pardefs_trace [] c.args.self.now.pardefs.now)
+          (sections_trace (pardefs_trace [] c.args.self.now.pardefs.now)
+          c.args.self.now.sections.now) c.args.self.now.left.items c.args.self.now.right.items
+          c.args.self.now.below.items c.args.self.now.top c.args.entry.now c.args.others
+          c.truncate.new.self.items c.truncate-2.new.self.items c.uses_lr-lr.result
+          c.uses_rl-rl.result c.as_slice.result.now c.advance.new.left.items
+          c.advance.new.right.items c.in-Ok-Opened.frame enters advanced.0 advanced.2 advanced.3
+          ∙ ap (λ (fs : List Frame). None
+          ∷ (stack_trace (pardefs_trace [] c.args.self.now.pardefs.now) c.advance.new.left.items
+          c.advance.new.right.items (c.in-Ok-Opened.frame ∷ reverse fs)
+          ++ sections_trace (pardefs_trace [] c.args.self.now.pardefs.now)
+          c.args.self.now.sections.now)) frames_are,
       advanced.4,
     )
 
 pub returns-then-written-clause-took : goal.returns-then-written-clause-took
 returns-then-written-clause-took c =
-    let advanced : Advanced c.args.self.now.pardefs.now c.as_slice.result.now c.args.entry.now.parts (way_of c.truncate.new.self.items c.truncate-2.new.self.items c.uses_lr-lr.result c.uses_rl-rl.result) c.advance.new.left.items c.advance.new.right.items c.advance.new.line (Ended c.in-Ok-Ended.written) = rw c.in-Ok-Ended.field-0-is at c.in-Ok-Ended.ensures.advanced in
+    let advanced : Advanced c.args.self.now.pardefs.now c.as_slice.result.now c.args.entry.now.parts
+    (way_of c.truncate.new.self.items c.truncate-2.new.self.items c.uses_lr-lr.result
+    c.uses_rl-rl.result) c.advance.new.left.items c.advance.new.right.items c.advance.new.line
+    (Ended c.in-Ok-Ended.written) =
+    rw c.in-Ok-Ended.field-0-is at c.in-Ok-Ended.ensures.advanced in
     let frames_are : c.as_slice.result.now ≡ c.push.new.self.items = c.as_slice.ensures.value in
-    let enters : Enters c.args.self.now.left.items c.args.self.now.right.items c.args.self.now.below.items c.args.self.now.top c.args.entry.now c.args.others c.truncate.new.self.items c.truncate-2.new.self.items c.uses_lr-lr.result c.uses_rl-rl.result c.as_slice.result.now c.advance.new.left.items c.advance.new.right.items = record {
+    let enters : Enters c.args.self.now.left.items c.args.self.now.right.items
+    c.args.self.now.below.items c.args.self.now.top c.args.entry.now c.args.others
+    c.truncate.new.self.items c.truncate-2.new.self.items c.uses_lr-lr.result
+    c.uses_rl-rl.result c.as_slice.result.now c.advance.new.left.items
+    c.advance.new.right.items = record {
       stack = c.requires.search.stack;
       first = c.requires.first;
       taken = c.requires.taken;
@@ -48,15 +77,37 @@ returns-then-written-clause-took c =
       left_begins = c.in-Ok-Ended.ensures.left;
       right_begins = c.in-Ok-Ended.ensures.right;
     } in
-    let popped : c.pop.new.self.items ≡ take (length c.as_slice.result.now - 1) c.as_slice.result.now = c.pop.ensures.rest ∙ ap (λ n. take (n - 1) c.push.new.self.items) (omega arith) ∙ ap (λ (fs : List Frame). take (length c.as_slice.result.now - 1) fs) (sym frames_are) in
-    ended (pardefs_trace [] c.args.self.now.pardefs.now) (sections_trace (pardefs_trace [] c.args.self.now.pardefs.now) c.args.self.now.sections.now) c.args.self.now.left.items c.args.self.now.right.items c.args.self.now.below.items c.args.self.now.top c.args.entry.now c.args.others c.truncate.new.self.items c.truncate-2.new.self.items c.uses_lr-lr.result c.uses_rl-rl.result c.as_slice.result.now c.advance.new.left.items c.advance.new.right.items c.pop.new.self.items (written_step c.in-Ok-Ended.written c.advance.new.line) enters advanced.0 popped
-    ∙ ap (λ b. written_step b c.advance.new.line ∷ (stack_trace (pardefs_trace [] c.args.self.now.pardefs.now) c.advance.new.left.items c.advance.new.right.items (with_entries c.args.self.now.top c.args.others ∷ reverse c.pop.new.self.items) ++ sections_trace (pardefs_trace [] c.args.self.now.pardefs.now) c.args.self.now.sections.now)) c.if-written.true
+    let popped : c.pop.new.self.items
+    ≡ take (length c.as_slice.result.now - 1) c.as_slice.result.now =
+    c.pop.ensures.rest ∙ ap (λ n. take (n - 1) c.push.new.self.items) (omega arith)
+    ∙ ap (λ (fs : List Frame). take (length c.as_slice.result.now - 1) fs) (sym frames_are) in
+    ended (pardefs_trace [] c.args.self.now.pardefs.now)
+    (sections_trace (pardefs_trace [] c.args.self.now.pardefs.now) c.args.self.now.sections.now)
+    c.args.self.now.left.items c.args.self.now.right.items c.args.self.now.below.items
+    c.args.self.now.top c.args.entry.now c.args.others c.truncate.new.self.items
+    c.truncate-2.new.self.items c.uses_lr-lr.result c.uses_rl-rl.result c.as_slice.result.now
+    c.advance.new.left.items c.advance.new.right.items c.pop.new.self.items
+    (written_step c.in-Ok-Ended.written c.advance.new.line) enters advanced.0 popped
+    ∙ ap (λ b. written_step b c.advance.new.line
+    ∷ (stack_trace (pardefs_trace [] c.args.self.now.pardefs.now) c.advance.new.left.items
+    c.advance.new.right.items (with_entries c.args.self.now.top c.args.others
+    ∷ reverse c.pop.new.self.items)
+    ++ sections_trace (pardefs_trace [] c.args.self.now.pardefs.now)
+    c.args.self.now.sections.now)) c.if-written.true
 
 pub returns-else-written-clause-took : goal.returns-else-written-clause-took
 returns-else-written-clause-took c =
-    let advanced : Advanced c.args.self.now.pardefs.now c.as_slice.result.now c.args.entry.now.parts (way_of c.truncate.new.self.items c.truncate-2.new.self.items c.uses_lr-lr.result c.uses_rl-rl.result) c.advance.new.left.items c.advance.new.right.items c.advance.new.line (Ended c.in-Ok-Ended.written) = rw c.in-Ok-Ended.field-0-is at c.in-Ok-Ended.ensures.advanced in
+    let advanced : Advanced c.args.self.now.pardefs.now c.as_slice.result.now c.args.entry.now.parts
+    (way_of c.truncate.new.self.items c.truncate-2.new.self.items c.uses_lr-lr.result
+    c.uses_rl-rl.result) c.advance.new.left.items c.advance.new.right.items c.advance.new.line
+    (Ended c.in-Ok-Ended.written) =
+    rw c.in-Ok-Ended.field-0-is at c.in-Ok-Ended.ensures.advanced in
     let frames_are : c.as_slice.result.now ≡ c.push.new.self.items = c.as_slice.ensures.value in
-    let enters : Enters c.args.self.now.left.items c.args.self.now.right.items c.args.self.now.below.items c.args.self.now.top c.args.entry.now c.args.others c.truncate.new.self.items c.truncate-2.new.self.items c.uses_lr-lr.result c.uses_rl-rl.result c.as_slice.result.now c.advance.new.left.items c.advance.new.right.items = record {
+    let enters : Enters c.args.self.now.left.items c.args.self.now.right.items
+    c.args.self.now.below.items c.args.self.now.top c.args.entry.now c.args.others
+    c.truncate.new.self.items c.truncate-2.new.self.items c.uses_lr-lr.result
+    c.uses_rl-rl.result c.as_slice.result.now c.advance.new.left.items
+    c.advance.new.right.items = record {
       stack = c.requires.search.stack;
       first = c.requires.first;
       taken = c.requires.taken;
@@ -68,8 +119,23 @@ returns-else-written-clause-took c =
       left_begins = c.in-Ok-Ended.ensures.left;
       right_begins = c.in-Ok-Ended.ensures.right;
     } in
-    let popped : c.pop.new.self.items ≡ take (length c.as_slice.result.now - 1) c.as_slice.result.now = c.pop.ensures.rest ∙ ap (λ n. take (n - 1) c.push.new.self.items) (omega arith) ∙ ap (λ (fs : List Frame). take (length c.as_slice.result.now - 1) fs) (sym frames_are) in (
-      ended (pardefs_trace [] c.args.self.now.pardefs.now) (sections_trace (pardefs_trace [] c.args.self.now.pardefs.now) c.args.self.now.sections.now) c.args.self.now.left.items c.args.self.now.right.items c.args.self.now.below.items c.args.self.now.top c.args.entry.now c.args.others c.truncate.new.self.items c.truncate-2.new.self.items c.uses_lr-lr.result c.uses_rl-rl.result c.as_slice.result.now c.advance.new.left.items c.advance.new.right.items c.pop.new.self.items (written_step c.in-Ok-Ended.written c.advance.new.line) enters advanced.0 popped
-          ∙ ap (λ b. written_step b c.advance.new.line ∷ (stack_trace (pardefs_trace [] c.args.self.now.pardefs.now) c.advance.new.left.items c.advance.new.right.items (with_entries c.args.self.now.top c.args.others ∷ reverse c.pop.new.self.items) ++ sections_trace (pardefs_trace [] c.args.self.now.pardefs.now) c.args.self.now.sections.now)) c.if-written.false,
+    let popped : c.pop.new.self.items
+    ≡ take (length c.as_slice.result.now - 1) c.as_slice.result.now =
+    c.pop.ensures.rest ∙ ap (λ n. take (n - 1) c.push.new.self.items) (omega arith)
+    ∙ ap (λ (fs : List Frame). take (length c.as_slice.result.now - 1) fs) (sym frames_are) in (
+      ended (pardefs_trace [] c.args.self.now.pardefs.now)
+          (sections_trace (pardefs_trace [] c.args.self.now.pardefs.now)
+          c.args.self.now.sections.now) c.args.self.now.left.items c.args.self.now.right.items
+          c.args.self.now.below.items c.args.self.now.top c.args.entry.now c.args.others
+          c.truncate.new.self.items c.truncate-2.new.self.items c.uses_lr-lr.result
+          c.uses_rl-rl.result c.as_slice.result.now c.advance.new.left.items
+          c.advance.new.right.items c.pop.new.self.items
+          (written_step c.in-Ok-Ended.written c.advance.new.line) enters advanced.0 popped
+          ∙ ap (λ b. written_step b c.advance.new.line
+          ∷ (stack_trace (pardefs_trace [] c.args.self.now.pardefs.now) c.advance.new.left.items
+          c.advance.new.right.items (with_entries c.args.self.now.top c.args.others
+          ∷ reverse c.pop.new.self.items)
+          ++ sections_trace (pardefs_trace [] c.args.self.now.pardefs.now)
+          c.args.self.now.sections.now)) c.if-written.false,
       advanced.1 c.if-written.false,
     )

@@ -6,4 +6,5 @@ use Rattle.ap_fst.proofs.WalkLaws.{edges_sorted}
 use Rattle.ap_fst.proofs.fst.Fst.edges_from.Goals as goal
 
 pub part_of-requires : goal.part_of-requires
-part_of-requires c = subst (λ (z : List Edge). IsNonDecreasingBy edge_from z) (sym c.as_slice.ensures) (edges_sorted c.self.inside.edges c.self.invariant.edges_ascend)
+part_of-requires c = subst (λ (z : List Edge). IsNonDecreasingBy edge_from z)
+    (sym c.as_slice.ensures) (edges_sorted c.self.inside.edges c.self.invariant.edges_ascend)

@@ -8,14 +8,20 @@ use Rattle.ap_fst.proofs.WalkLaws.{edges_sorted}
 use Rattle.ap_fst.proofs.fst.Fst.span.Goals as goal
 
 pub range_of-requires : goal.range_of-requires
-range_of-requires c = subst (λ (z : List Edge). IsNonDecreasingBy edge_from z) (sym c.as_slice.ensures) (edges_sorted c.self.inside.edges c.self.invariant.edges_ascend)
+range_of-requires c = subst (λ (z : List Edge). IsNonDecreasingBy edge_from z)
+    (sym c.as_slice.ensures) (edges_sorted c.self.inside.edges c.self.invariant.edges_ascend)
 
 pub returns-clause-span : goal.returns-clause-span
 returns-clause-span c =
-    let r : IsKeyRange edge_from c.args.state c.args.self.now.edges c.range_of.result.0 c.range_of.result.1 =
-    subst (λ (z : List Edge). IsKeyRange edge_from c.args.state z c.range_of.result.0 c.range_of.result.1) (c.as_slice.ensures ∙ ap (λ (m : Machine). m.edges) c.self.view_is) c.range_of.ensures in
+    let r : IsKeyRange edge_from c.args.state c.args.self.now.edges c.range_of.result.0
+    c.range_of.result.1 =
+    subst (λ (z : List Edge). IsKeyRange edge_from c.args.state z c.range_of.result.0
+    c.range_of.result.1) (c.as_slice.ensures ∙ ap (λ (m : Machine). m.edges) c.self.view_is)
+    c.range_of.ensures in
     record {
       end = r.end;
-      inside = range_inside edge_from c.args.state c.args.self.now.edges c.range_of.result.0 c.range_of.result.1 r;
-      outside = range_outside edge_from c.args.state c.args.self.now.edges c.range_of.result.0 c.range_of.result.1 r;
+      inside = range_inside edge_from c.args.state c.args.self.now.edges c.range_of.result.0
+          c.range_of.result.1 r;
+      outside = range_outside edge_from c.args.state c.args.self.now.edges c.range_of.result.0
+          c.range_of.result.1 r;
     }

@@ -8,11 +8,20 @@ use Rattle.ap_live.proofs.Finding.{output_there, same_answer}
 use Rattle.ap_live.proofs.live.Live.accepts.Goals as goal
 
 pub returns-clause-some : goal.returns-clause-some
-returns-clause-some c = λ seen live. accepts_law c.args.fst.now seen c.args.self.now c.as_slice.result.now c.ends_finally.result live (c.as_slice.ensures ∙ ap (λ (l : Lives). l.rows) c.self.view_is)
-    (λ s are. c.ends_finally.ensures c.args.fst.now s are (told_rows c.args.fst.now seen c.args.self.now c.as_slice.result.now live (c.as_slice.ensures ∙ ap (λ (l : Lives). l.rows) c.self.view_is)))
+returns-clause-some c = λ seen live. accepts_law c.args.fst.now seen c.args.self.now
+    c.as_slice.result.now c.ends_finally.result live
+    (c.as_slice.ensures ∙ ap (λ (l : Lives). l.rows) c.self.view_is)
+    (λ s are. c.ends_finally.ensures c.args.fst.now s are
+    (told_rows c.args.fst.now seen c.args.self.now c.as_slice.result.now live
+    (c.as_slice.ensures ∙ ap (λ (l : Lives). l.rows) c.self.view_is)))
 
 pub returns-clause-found : goal.returns-clause-found
-returns-clause-found c = λ seen none live. same_answer c.ends_finally.result (has_output c.args.fst.now seen) ((w : List Symbol) × IsOutput c.args.fst.now seen w)
-    (accepts_law c.args.fst.now seen c.args.self.now c.as_slice.result.now c.ends_finally.result live (c.as_slice.ensures ∙ ap (λ (l : Lives). l.rows) c.self.view_is)
-    (λ s are. c.ends_finally.ensures c.args.fst.now s are (told_rows c.args.fst.now seen c.args.self.now c.as_slice.result.now live (c.as_slice.ensures ∙ ap (λ (l : Lives). l.rows) c.self.view_is))))
+returns-clause-found c =
+    λ seen none live. same_answer c.ends_finally.result (has_output c.args.fst.now seen)
+    ((w : List Symbol) × IsOutput c.args.fst.now seen w)
+    (accepts_law c.args.fst.now seen c.args.self.now c.as_slice.result.now c.ends_finally.result
+    live (c.as_slice.ensures ∙ ap (λ (l : Lives). l.rows) c.self.view_is)
+    (λ s are. c.ends_finally.ensures c.args.fst.now s are
+    (told_rows c.args.fst.now seen c.args.self.now c.as_slice.result.now live
+    (c.as_slice.ensures ∙ ap (λ (l : Lives). l.rows) c.self.view_is))))
     (output_there c.args.fst.now seen c.states.ensures.sound none)

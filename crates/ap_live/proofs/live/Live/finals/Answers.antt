@@ -10,15 +10,25 @@ use Rattle.ap_live.proofs.Finding.{words_found}
 use Rattle.ap_live.proofs.live.Live.finals.Goals as goal
 
 pub returns-clause-outputs : goal.returns-clause-outputs
-returns-clause-outputs c = λ seen live. outputs_law c.args.fst.now seen c.args.self.now c.as_slice.result.now c.in_ok-backs.backs.items c.from_vec.result
-    (c.as_slice.ensures ∙ ap (λ (l : Lives). l.rows) c.self.view_is) live c.in_ok-backs.ensures.outputs
-    (λ w. subst (λ (z : List (List Symbol)). IsIn w z ↔ IsIn w (map reverse c.in_ok-backs.backs.items)) (sym c.from_vec.ensures)
+returns-clause-outputs c =
+    λ seen live. outputs_law c.args.fst.now seen c.args.self.now c.as_slice.result.now
+    c.in_ok-backs.backs.items c.from_vec.result
+    (c.as_slice.ensures ∙ ap (λ (l : Lives). l.rows) c.self.view_is) live
+    c.in_ok-backs.ensures.outputs
+    (λ w. subst (λ (z : List (List Symbol)). IsIn w z
+    ↔ IsIn w (map reverse c.in_ok-backs.backs.items)) (sym c.from_vec.ensures)
     (c.in_ok-words.ensures.members w))
 
 pub returns-clause-found : goal.returns-clause-found
-returns-clause-found c = λ seen live. words_found c.args.fst.now seen c.from_vec.result c.states.ensures.sound c.requires.no_cycle
-    (let P : List (List Symbol) → Type 0 = λ z. IsStrictlySortedBy word_cmp z in subst P (sym c.from_vec.ensures) c.in_ok-words.ensures.order)
-    (outputs_law c.args.fst.now seen c.args.self.now c.as_slice.result.now c.in_ok-backs.backs.items c.from_vec.result
-    (c.as_slice.ensures ∙ ap (λ (l : Lives). l.rows) c.self.view_is) live c.in_ok-backs.ensures.outputs
-    (λ w. subst (λ (z : List (List Symbol)). IsIn w z ↔ IsIn w (map reverse c.in_ok-backs.backs.items)) (sym c.from_vec.ensures)
+returns-clause-found c =
+    λ seen live. words_found c.args.fst.now seen c.from_vec.result c.states.ensures.sound
+    c.requires.no_cycle
+    (let P : List (List Symbol) → Type 0 = λ z. IsStrictlySortedBy word_cmp z in
+    subst P (sym c.from_vec.ensures) c.in_ok-words.ensures.order)
+    (outputs_law c.args.fst.now seen c.args.self.now c.as_slice.result.now c.in_ok-backs.backs.items
+    c.from_vec.result
+    (c.as_slice.ensures ∙ ap (λ (l : Lives). l.rows) c.self.view_is) live
+    c.in_ok-backs.ensures.outputs
+    (λ w. subst (λ (z : List (List Symbol)). IsIn w z
+    ↔ IsIn w (map reverse c.in_ok-backs.backs.items)) (sym c.from_vec.ensures)
     (c.in_ok-words.ensures.members w)))

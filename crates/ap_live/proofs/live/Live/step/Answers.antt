@@ -6,5 +6,7 @@ use Rattle.ap_live.proofs.live.Live.step.Goals as goal
 
 pub returns-clause-ok : goal.returns-clause-ok
 returns-clause-ok c = if_ok_more c.add_row.result _ _
-    (λ x h seen live. let input : Input = record { symbol = c.args.input.now; sensitive = c.args.sensitive } in
-    live_on c.args.fst.now seen (seen ++ input ∷ []) c.args.self.now _ _ live c.self.view_is (h seen) refl) c.add_row.ensures.ok
+    (λ x h seen live. let input : Input =
+    record { symbol = c.args.input.now; sensitive = c.args.sensitive } in
+    live_on c.args.fst.now seen (seen ++ input ∷ []) c.args.self.now _ _ live c.self.view_is
+    (h seen) refl) c.add_row.ensures.ok

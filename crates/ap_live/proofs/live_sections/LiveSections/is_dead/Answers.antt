@@ -9,7 +9,11 @@ pub returns : goal.returns
 returns c = λ sensitive symbols live.
     let p = c.args.compiled.now in
     c.are_all.ensures ∙ dead_all _ _ _ _ _ _ _ _
-    (c.is_dead-standard.ensures p.standard (inputs_of sensitive symbols) (section_is p Standard c.alphabet.ensures.sound) live.standard_is)
-    (c.is_dead-inconditional.ensures p.inconditional (inputs_of sensitive symbols) (section_is p Inconditional c.alphabet.ensures.sound) live.inconditional_is)
-    (c.is_dead-postblank.ensures p.postblank (inputs_of sensitive symbols) (section_is p Postblank c.alphabet.ensures.sound) live.postblank_is)
-    (c.is_dead-preblank.ensures p.preblank (inputs_of sensitive symbols) (section_is p Preblank c.alphabet.ensures.sound) live.preblank_is)
+    (c.is_dead-standard.ensures p.standard (inputs_of sensitive symbols)
+    (section_is p Standard c.alphabet.ensures.sound) live.standard_is)
+    (c.is_dead-inconditional.ensures p.inconditional (inputs_of sensitive symbols)
+    (section_is p Inconditional c.alphabet.ensures.sound) live.inconditional_is)
+    (c.is_dead-postblank.ensures p.postblank (inputs_of sensitive symbols)
+    (section_is p Postblank c.alphabet.ensures.sound) live.postblank_is)
+    (c.is_dead-preblank.ensures p.preblank (inputs_of sensitive symbols)
+    (section_is p Preblank c.alphabet.ensures.sound) live.preblank_is)

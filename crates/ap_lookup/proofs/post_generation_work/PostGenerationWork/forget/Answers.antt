@@ -8,6 +8,8 @@ use Rattle.ap_lookup.proofs.post_generation_work.PostGenerationWork.forget.Goals
 
 pub invariant_of-self : goal.invariant_of-self
 invariant_of-self c = (
-  subst (λ (items : List Read). AllByRecursion (IsRead Generated) items) (sym c.forget.ensures) (all_left (IsRead Generated) c.self.inside.items c.args.count c.self.invariant.0),
-  c.restart.ensures c.self.inside.compiled c.self.inside.sensitive c.self.inside.items c.forget.new.self c.self.invariant.1,
+  subst (λ (items : List Read). AllByRecursion (IsRead Generated) items) (sym c.forget.ensures)
+      (all_left (IsRead Generated) c.self.inside.items c.args.count c.self.invariant.0),
+  c.restart.ensures c.self.inside.compiled c.self.inside.sensitive c.self.inside.items
+      c.forget.new.self c.self.invariant.1,
 )

@@ -8,4 +8,6 @@ use Rattle.ap_lookup.proofs.post_generation_work.PostGenerationWork.new.Goals as
 
 pub invariant_of-result : goal.invariant_of-result
 invariant_of-result c =
-    subst (λ (items : List Read). AllByRecursion (IsRead Generated) items × IsSearch c.args.compiled c.args.sensitive items c.in_ok-search.search) (sym c.new.ensures) (tt, c.in_ok-search.ensures c.args.sensitive)
+    subst (λ (items : List Read). AllByRecursion (IsRead Generated) items
+    × IsSearch c.args.compiled c.args.sensitive items c.in_ok-search.search) (sym c.new.ensures)
+    (tt, c.in_ok-search.ensures c.args.sensitive)

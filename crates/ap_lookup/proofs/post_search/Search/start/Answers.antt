@@ -9,6 +9,7 @@ returns c = λ sensitive.
     let none : c.new.result.items ≡ [] = c.new.ensures.items in
     record {
       seen_are = none ∙ ap (λ (z : List Symbol). take (length z) (symbols [])) (sym none);
-      lives_are = subst (λ (z : List Symbol). AreLive c.args.compiled.now sensitive z c.in_ok-start.field-0) (sym none) (c.in_ok-start.ensures sensitive);
+      lives_are = subst (λ (z : List Symbol). AreLive c.args.compiled.now sensitive z
+          c.in_ok-start.field-0) (sym none) (c.in_ok-start.ensures sensitive);
       begun = inl (ap length none);
     }

@@ -8,7 +8,8 @@ pub returns-clause-stored : goal.returns-clause-stored
 returns-clause-stored c =
     let g : MemFile = record { name = c.in_ok-name.name; bytes = c.args.bytes } in
     let e : c.push-2.new.self.items ≡ c.args.self.now.files.items ++ g ∷ [] = grind arith in
-    ap content_of e ∙ appended c.args.self.now.files.items g c.args.name.now c.requires c.in_ok-name.ensures.ok
+    ap content_of e ∙ appended c.args.self.now.files.items g c.args.name.now c.requires
+    c.in_ok-name.ensures.ok
 
 pub returns-clause-load_faults : goal.returns-clause-load_faults
 returns-clause-load_faults c =

@@ -4,8 +4,10 @@ use Rattle.ap_outside.proofs.Places.{held_stays, spares_same, not_failed}
 use Rattle.ap_outside.proofs.mem_files.MemFilesFiles.store.Goals as goal
 
 pub returns-then-contains-clause-failed : goal.returns-then-contains-clause-failed
-returns-then-contains-clause-failed c _ =
-    (content_of c.args.self.now.files.items c.args.name.now, ap Some (held_stays (content_of c.args.self.now.files.items) c.args.name.now))
+returns-then-contains-clause-failed c _ = (
+  content_of c.args.self.now.files.items c.args.name.now,
+  ap Some (held_stays (content_of c.args.self.now.files.items) c.args.name.now),
+)
 
 pub returns-in-Ok-clause-load_cause : goal.returns-in-Ok-clause-load_cause
 returns-in-Ok-clause-load_cause c = spares_same _ _ _ c.add.ensures.load_faults

@@ -6,8 +6,10 @@ use Rattle.ap_stream.proofs.reader.Reader.feed.Goals as goal
 
 pub returns-in-Ok-Some-step-clause-given : goal.returns-in-Ok-Some-step-clause-given
 returns-in-Ok-Some-step-clause-given c =
-    given.feeds_from _ c.advance.new.self _ _ _ (c.advance.ensures.dialect ∙ c.loop-used.invariant.dialect) (c.advance.ensures.place ∙ c.loop-used.invariant.place)
-    (given.fed_more _ _ _ _ _ _ c.loop-used.invariant.held c.in-Ok.ensures.ok.0) (rw c.in-Ok-Some-step.field-0-is at c.in-Ok-Some-step.ensures.given)
+    given.feeds_from _ c.advance.new.self _ _ _ (c.advance.ensures.dialect
+    ∙ c.loop-used.invariant.dialect) (c.advance.ensures.place ∙ c.loop-used.invariant.place)
+    (given.fed_more _ _ _ _ _ _ c.loop-used.invariant.held c.in-Ok.ensures.ok.0)
+    (rw c.in-Ok-Some-step.field-0-is at c.in-Ok-Some-step.ensures.given)
 
 pub loop-used-preserved : goal.loop-used-preserved
 loop-used-preserved c =
@@ -31,7 +33,8 @@ returns-in-Err-step-clause-shown c = λ _ other.
     record {
       used = c.loop-used.used + c.in-Ok.count;
       within = grind (arith, common_steps);
-      dialect = c.step-in-loop-used.ensures.dialect ∙ c.advance.ensures.dialect ∙ c.loop-used.invariant.dialect;
+      dialect = c.step-in-loop-used.ensures.dialect ∙ c.advance.ensures.dialect
+          ∙ c.loop-used.invariant.dialect;
       held = h.0 ∙ given.fed_more _ _ _ _ _ _ c.loop-used.invariant.held c.in-Ok.ensures.ok.0;
       place = h.1 ∙ c.advance.ensures.place ∙ c.loop-used.invariant.place;
       stops = h.2;

@@ -9,8 +9,11 @@ invariant-loop-self g l = record {
   going : l.self.fault ≡ None;
   ended : l.self.ended ≡ true;
   rest : rest_of g.H.Handler.work l.fn.self [] Clean ≡ rest_of g.H.Handler.work l.self [] Clean;
-  held : g.H.Handler.held l.self.handler + length l.self.begun ≤ g.H.Handler.held l.fn.self.handler + length l.fn.self.begun;
-  rank : length l.fn.self.pending < length l.self.pending → g.H.Handler.held l.self.handler + length l.self.begun < g.H.Handler.held l.fn.self.handler + length l.fn.self.begun;
+  held : g.H.Handler.held l.self.handler + length l.self.begun ≤ g.H.Handler.held l.fn.self.handler
+      + length l.fn.self.begun;
+  rank : length l.fn.self.pending < length l.self.pending →
+      g.H.Handler.held l.self.handler + length l.self.begun < g.H.Handler.held l.fn.self.handler +
+      length l.fn.self.begun;
 }
 
 abbrev pub decreases-loop-self : goal.decreases-loop-self

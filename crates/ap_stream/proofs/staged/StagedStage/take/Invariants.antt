@@ -9,10 +9,16 @@ invariant-loop-self g l = record {
   fits : l.used ≤ length l.piece;
   going : l.self.fault ≡ None;
   reading : l.self.ended ≡ false;
-  rest : (x : List ℕ) (e : Ending) → rest_of g.H.Handler.work l.initial.self (take l.used l.piece ++ x) e ≡ rest_of g.H.Handler.work l.self x e;
-  held : g.H.Handler.held l.self.handler + length l.self.begun ≤ g.H.Handler.held l.initial.self.handler + length l.initial.self.begun + l.used;
-  rank : l.used ≡ 0 → length l.initial.self.pending < length l.self.pending → g.H.Handler.held l.self.handler + length l.self.begun < g.H.Handler.held l.initial.self.handler + length l.initial.self.begun;
+  rest : (x : List ℕ) (e : Ending) →
+      rest_of g.H.Handler.work l.initial.self (take l.used l.piece ++ x) e
+      ≡ rest_of g.H.Handler.work l.self x e;
+  held : g.H.Handler.held l.self.handler + length l.self.begun ≤ g.H.Handler.held
+      l.initial.self.handler + length l.initial.self.begun + l.used;
+  rank : l.used ≡ 0 → length l.initial.self.pending < length l.self.pending →
+      g.H.Handler.held l.self.handler + length l.self.begun < g.H.Handler.held
+      l.initial.self.handler + length l.initial.self.begun;
 }
 
 abbrev pub decreases-loop-self : goal.decreases-loop-self
-decreases-loop-self g l = measure g.H.Handler.finished g.H.Handler.held l.self (length l.initial.piece - l.used)
+decreases-loop-self g l =
+    measure g.H.Handler.finished g.H.Handler.held l.self (length l.initial.piece - l.used)
