@@ -1,14 +1,16 @@
-ghost use Rattle.std.specs.Prelude.{◌≡◌, ◌++◌, ◌∷◌, [], length, OnOk, OnErr, slice_get};
+ghost use Rattle.std.specs.Prelude.{◌≡◌, ◌++◌, ◌∷◌, [], length, OnOk, OnErr, IfOk, slice_get};
 ghost use Rattle.std.specs.Option.{option_copied};
 
 use ap_symbol::Memory;
+use smallvec::SmallVec;
 use std::alloc::Global;
 use std::marker::Model;
 
-/// The bytes of a run of white space and superblanks.
+/// The bytes of a run of white space and superblanks. Up to sixteen bytes stand in the value
+/// itself, so that a space takes no memory.
 #[derive(Debug, Drop)]
 pub struct Blank {
-    bytes: Vec<u8>,
+    bytes: SmallVec<u8, 16>,
 }
 
 impl Model for Blank {
@@ -24,7 +26,7 @@ impl Blank {
         ensures { result ≡ [] }
     {
         Blank {
-            bytes: Vec::new(alloc),
+            bytes: SmallVec::new(alloc),
         }
     }
 
@@ -32,7 +34,18 @@ impl Blank {
     pub fn from_vec(bytes: Vec<u8>) -> Blank
         ensures { result ≡ bytes.items }
     {
-        Blank { bytes }
+        Blank {
+            bytes: SmallVec::from_vec(bytes),
+        }
+    }
+
+    /// The blank with a copy of these bytes. The error means want of memory.
+    pub fn from_slice(alloc: Global, bytes: &[u8]) -> Result<Blank, Memory>
+        ensures { IfOk result (λ blank. blank ≡ bytes.now) }
+    {
+        Ok(Blank {
+            bytes: SmallVec::from_slice(alloc, bytes)?,
+        })
     }
 
     /// Appends a byte. After a refusal the blank is unchanged.
@@ -40,8 +53,10 @@ impl Blank {
         ensures ok { OnOk result (self.new ≡ self.old ++ byte ∷ []) }
         ensures err { OnErr result (self.new ≡ self.old) }
     {
-        self.bytes.push(byte)?;
-        Ok(())
+        match self.bytes.push(byte) {
+            Ok(()) => Ok(()),
+            Err(_) => Err(Memory),
+        }
     }
 
     /// The number of its bytes.
@@ -55,7 +70,7 @@ impl Blank {
     pub fn get(&self, at: usize) -> Option<&u8>
         ensures { option_copied result ≡ slice_get self.now at }
     {
-        self.bytes.get(at)
+        self.bytes.as_slice().get(at)
     }
 
     pub fn as_slice(&self) -> &[u8]

@@ -89,19 +89,18 @@ fn is_blank(mode: Mode) -> bool
     }
 }
 
-/// Takes the bytes before `at` out, and leaves the one there.
-fn cut(alloc: Global, held: &mut Vec<u8>, at: usize) -> Result<Vec<u8>, Memory>
+/// Takes the bytes before `at` out as a blank, and leaves the one there.
+fn cut(alloc: Global, held: &mut Vec<u8>, at: usize) -> Result<Blank, Memory>
     requires { at < length held.old.items }
-    ensures bytes { IfOk result (λ bytes. bytes.items ≡ take at held.old.items) }
+    ensures bytes { IfOk result (λ blank. blank ≡ take at held.old.items) }
     ensures left { OnOk result (held.new.items ≡ slice_index held.old.items at ∷ []) }
     ensures short { length held.new.items ≤ length held.old.items }
 {
-    let mut next = Vec::new(alloc);
+    let blank = Blank::from_slice(alloc, &held[..at])?;
     let last = held[at];
-    next.push(last)?;
-    held.truncate(at);
-    mem::swap(held, &mut next);
-    Ok(next)
+    held.clear();
+    held.push(last)?;
+    Ok(blank)
 }
 
 /// Takes all bytes out. There is room for the bytes of most units then.
@@ -315,15 +314,15 @@ impl Reader {
                 Ok(Some(read))
             }
             Seen::BlankEnds => {
-                let bytes = match cut(self.alloc, &mut self.held, self.done) {
-                    Ok(bytes) => bytes,
+                let blank = match cut(self.alloc, &mut self.held, self.done) {
+                    Ok(blank) => blank,
                     Err(_) => {
                         self.fault = Some(StreamFault::Memory);
                         return Err(StreamFault::Memory);
                     }
                 };
                 let read = Read {
-                    item: Item::Blank(Blank::from_vec(bytes)),
+                    item: Item::Blank(blank),
                     place: self.place,
                     size: self.done as u64,
                 };
