@@ -43,6 +43,18 @@ pub text_fits : (given : List (List Symbol) → List ℕ) (dialect : Dialect) (r
 text_fits given dialect read e h =
     sized given read.item read.size e (λ w. bare_size dialect read w h) h.short
 
+-- an item that isn't made of words gives its spelling, however long
+pub bare_text : (given : List (List Symbol) → List ℕ) (thing : Item) → is_worded thing ≡ false →
+    spelled thing ≡ item_text given thing
+bare_text given (item.Plain c) h = refl
+bare_text given (item.Blank bytes) h = refl
+bare_text given (item.Unit words) h = absurd (cc)
+bare_text given (item.Chunk c) h = absurd (cc)
+
+pub bare_under : (given : List (List Symbol) → List ℕ) (thing : Item) → is_worded thing ≡ false →
+    is_over given thing ≡ false
+bare_under given thing h = rw h refl
+
 module _ {W : Type 0} (given : W → List (List Symbol) → List ℕ) (now : Single W) (writer after : W)
     (dialect : Dialect) (held next : Option Read) (finished : Bool)
     (view : record { writer = writer; dialect = dialect; item = held; finished = finished } ≡ now)
