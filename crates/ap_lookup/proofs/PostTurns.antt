@@ -1,5 +1,5 @@
 -- A turn of post-generation at work, as its state is seen.
-use Rattle.std.specs.Prelude.{◌≡◌, ◌⊎◌, ℕ, ◌+◌, ◌<◌, ◌≤◌, Bool, true, List, [], ◌∷◌, ◌++◌, drop, length, Option, Some, None, IfSome, Result, Ok, Err, OnOk, OnErr}
+use Rattle.std.specs.Prelude.{◌≡◌, ◌⊎◌, ℕ, ◌+◌, ◌<◌, ◌≤◌, Bool, true, false, List, [], ◌∷◌, ◌++◌, drop, length, Option, Some, None, IfSome, Result, Ok, Err, OnOk, OnErr}
 use Rattle.std.specs.List.{AllByRecursion}
 use Rattle.std.proofs.Common.{arith, refl, ap, sym, ◌∙◌, subst, get_or, inl, inr}
 use Rattle.std.proofs.lemmas.List.{append-nil}
@@ -13,13 +13,14 @@ use Rattle.ap_stream.specs.declared.dialect.Dialect.TheVariants.{Generated}
 use Rattle.ap_stream.specs.declared.fault.LimitKind.{LimitKind}
 use Rattle.ap_stream.specs.declared.fault.LimitKind.TheVariants.{SpanTooLong}
 use Rattle.ap_stream.specs.declared.fault.StreamFault.TheVariants.{Limit}
+use Rattle.ap_stream.specs.declared.item.Item.{Item}
 use Rattle.ap_stream.specs.declared.item.Read.{Read}
 use Rattle.ap_stream.proofs.StepLaws.{Settles, steps_none, turn_wrote, turn_limit, turn_overlong, fewer_left, fewer_bytes, all_pushed, bytes_append}
 use Rattle.ap_live.specs.Lexicon.{Lexicon, IsCoherent, lexicon_of}
 use Rattle.ap_live.proofs.Coherence.{coherent}
 use Rattle.ap_lookup.specs.Matching.{fitting}
 use Rattle.ap_lookup.specs.PostGenerating.{symbols, begins_alarm, span, copied, post_step}
-use Rattle.ap_lookup.specs.PostWorks.{Posting, post_generated, post_work, meant}
+use Rattle.ap_lookup.specs.PostWorks.{Posting, post_generated, post_work, meant, IsCopied}
 use Rattle.ap_lookup.specs.PostSearching.{IsSearch, IsFound, IsFirstPlace}
 use Rattle.ap_lookup.specs.declared.post_search.Found.{Found}
 use Rattle.ap_lookup.specs.declared.post_search.Search.{Search}
@@ -27,7 +28,7 @@ use Rattle.ap_lookup.specs.declared.post_writing.Written.{Written}
 use Rattle.ap_lookup.specs.declared.post_writing.Written.TheVariants as code
 use Rattle.ap_lookup.proofs.PostSearches.{search_more}
 use Rattle.ap_lookup.proofs.PostSizes.{step_used}
-use Rattle.ap_lookup.proofs.PostSteps.{settles, span_alarm}
+use Rattle.ap_lookup.proofs.PostSteps.{settles, span_alarm, span_bare, step_bare}
 
 pub coherent_seen : (inside : Parts) (now : Posting) → inside ≡ now.compiled → IsCompiled inside →
     IsCoherent (lexicon_of now.compiled now.sensitive)
@@ -107,17 +108,27 @@ module _ (h : Posting) (whole : IsCoherent (lexicon_at h)) (some : 0 < length h.
               used.within (sym first.0) first.1 last),
         )
 
+-- the first item is no alarm, and was copied
+pub turned_bare : (h : Posting) (text : List ℕ) → 0 < length h.items →
+    begins_alarm h.items ≡ false → copied h.items ≡ Gives 1 text →
+    IsFirstStep h (code.Gives 1 text)
+turned_bare h text some bare e =
+    let none = span_bare (lexicon_at h) h.items bare in (
+      sym (step_bare (lexicon_at h) h.sensitive h.items bare ∙ e),
+      inl (omega (arith, none, some)),
+    )
+
 -- A step as the code takes it: the items are seen as a slice.
 
-pub copied_is : (items slice : List Read) (d : Read) (old text : List ℕ) → slice ≡ items →
-    0 < length items → old ≡ [] → text ≡ old ++ spelled (get_or slice 0 d).item →
-    Gives 1 text ≡ copied items
-copied_is [] slice d old text e some none is = absurd (omega arith)
-copied_is (read ∷ reads) slice d old text e some none is =
+pub copied_is : (items slice : List Read) (d : Read) (before after : List ℕ) → slice ≡ items →
+    0 < length items → after ≡ before ++ spelled (get_or slice 0 d).item →
+    IsCopied items before after
+copied_is [] slice d before after e some is = absurd (omega arith)
+copied_is (read ∷ reads) slice d before after e some is =
     let first : (get_or slice 0 d).item ≡ read.item =
     ap (λ (z : List Read). (get_or z 0 d).item) e in
-    ap (Gives 1) (is ∙ ap (λ (z : List ℕ). z ++ spelled (get_or slice 0 d).item) none
-    ∙ ap spelled first ∙ sym (append-nil (spelled read.item)))
+    (spelled read.item, ap (Gives 1) (append-nil (spelled read.item)),
+    is ∙ ap (λ (t : Item). before ++ spelled t) first)
 
 module _ (lexicon : Lexicon) (items slice : List Read) (same : slice ≡ items)
     (alarm : begins_alarm items ≡ true) where

@@ -1,5 +1,5 @@
 -- Post-generation of the items of a text, and of a whole text.
-use Rattle.std.specs.Prelude.{ℕ, Bool, List, ◌++◌}
+use Rattle.std.specs.Prelude.{◌≡◌, ℕ, Bool, List, ◌++◌}
 use Rattle.ap_fst.specs.Sections.{Parts}
 use Rattle.ap_stream.specs.Reading.{Reads, reads}
 use Rattle.ap_stream.specs.Steps.{Step, Gives, Stops, steps}
@@ -7,7 +7,7 @@ use Rattle.ap_stream.specs.Told.{Told, Ending, or_else, stop_at}
 use Rattle.ap_stream.specs.declared.dialect.Dialect.TheVariants.{Generated}
 use Rattle.ap_stream.specs.declared.item.Read.{Read}
 use Rattle.ap_live.specs.Lexicon.{Lexicon, lexicon_of}
-use Rattle.ap_lookup.specs.PostGenerating.{post_step}
+use Rattle.ap_lookup.specs.PostGenerating.{copied, post_step}
 use Rattle.ap_lookup.specs.declared.post_writing.Written.{Written}
 use Rattle.ap_lookup.specs.declared.post_writing.Written.TheVariants as code
 
@@ -44,3 +44,8 @@ post_work h xs = post_generated (lexicon_of h.compiled h.sensitive) h.sensitive 
 abbrev pub meant : Written → Step
 meant (code.Gives count text) = Gives count text
 meant (code.Stops kind) = Stops kind
+
+-- the first item was appended as it is spelled
+abbrev pub IsCopied : List Read → List ℕ → List ℕ → Type 0
+IsCopied items before after = (text : List ℕ) × (copied items ≡ Gives 1 text)
+    × (after ≡ before ++ text)

@@ -1,4 +1,4 @@
-ghost use Rattle.std.specs.Prelude.{◌≡◌, ◌⊎◌, ◌<◌, ◌≤◌, ℕ, List, [], length, drop, true, false, Ok, None, IfOk, IfSome};
+ghost use Rattle.std.specs.Prelude.{◌≡◌, ◌⊎◌, ◌<◌, ◌≤◌, ℕ, List, [], length, drop, true, false, Ok, None, IfOk, IfSome, OnOk, OnErr};
 ghost use Rattle.ap_stream.specs.declared.TheConstants.{SPAN_MAX};
 ghost use Rattle.ap_stream.specs.Steps.{bytes_of};
 ghost use Rattle.ap_live.specs.Lexicon.{lexicon_of};
@@ -66,6 +66,7 @@ impl PostGenerationWork {
     ghost use Rattle.ap_stream.specs.declared.dialect.Dialect.TheVariants.{Generated};
     ghost use Rattle.ap_live.specs.Lexicon.{IsCoherent};
     ghost use Rattle.ap_lookup.specs.PostSearching.{IsFirstPlace};
+    ghost use Rattle.ap_lookup.specs.PostWorks.{IsCopied};
 
     /// The work by this dictionary, which holds nothing. Where case counts, a symbol fits itself
     /// alone, and words are given as they stand. The error means want of memory.
@@ -131,6 +132,13 @@ impl PostGenerationWork {
         self.items.as_slice()[0].place
     }
 
+    /// Whether the first item is an alarm.
+    fn is_at_alarm(&self) -> bool
+        ensures { result ≡ begins_test self.now.items }
+    {
+        begins_alarm(self.items.as_slice())
+    }
+
     /// What is known of every state of the work.
     fn know(&self)
         ensures coherent { IsCoherent (lexicon_of self.now.compiled self.now.sensitive) }
@@ -139,19 +147,24 @@ impl PostGenerationWork {
         let _ = self.compiled.alphabet();
     }
 
-    /// The first item as it is spelled, where it is no alarm.
-    fn copy(&mut self) -> Result<Written, Memory>
+    /// Copies the first item as it is spelled, where it is no alarm, and lets it go.
+    fn pass_on(&mut self, into: &mut Bytes) -> Result<(), Memory>
         requires some { 0 < length self.old.items }
         requires bare { begins_test self.old.items ≡ false }
-        ensures same { self.new ≡ self.old }
-        ensures step { IfOk result
-            (λ made. meant made ≡ post_step (lexicon_of self.old.compiled self.old.sensitive)
-            self.old.sensitive self.old.items) }
-        ensures span { span (lexicon_of self.old.compiled self.old.sensitive) self.old.items ≡ 0 }
+        ensures coherent { IsCoherent (lexicon_of self.old.compiled self.old.sensitive) }
+        ensures items { AllByRecursion (IsRead Generated) self.old.items }
+        ensures left { OnOk result (self.new.items ≡ drop 1 self.old.items) }
+        ensures compiled { OnOk result (self.new.compiled ≡ self.old.compiled) }
+        ensures sensitive { OnOk result (self.new.sensitive ≡ self.old.sensitive) }
+        ensures finished { OnOk result (self.new.finished ≡ self.old.finished) }
+        ensures copied { OnOk result (IsCopied self.old.items into.old into.new) }
+        ensures same { OnErr result (into.new ≡ into.old) }
     {
-        let mut text = take_room(self.alloc, &mut self.text);
-        write_item(self.alloc, &self.items.as_slice()[0].item, &mut text)?;
-        Ok(Written::Gives { count: 1, text })
+        self.know();
+        write_item(self.alloc, &self.items.as_slice()[0].item, into)?;
+        self.items.forget(1);
+        self.search.restart();
+        Ok(())
     }
 
     /// The step at an alarm, or none where an item more is wanted.
@@ -191,16 +204,16 @@ impl PostGenerationWork {
         }
     }
 
-    /// The first step, or none where an item more is wanted.
+    /// The first step at an alarm, or none where an item more is wanted.
     fn next(&mut self) -> Result<Option<Written>, Memory>
-        requires { 0 < length self.old.items }
+        requires some { 0 < length self.old.items }
+        requires alarm { begins_test self.old.items ≡ true }
         ensures same { self.new ≡ self.old }
         ensures coherent { IsCoherent (lexicon_of self.old.compiled self.old.sensitive) }
         ensures items { AllByRecursion (IsRead Generated) self.old.items }
-        ensures step { IfOk result
-            (λ step. IfSome step (λ made.
-            (meant made ≡ post_step (lexicon_of self.old.compiled self.old.sensitive)
-            self.old.sensitive self.old.items)
+        ensures step { IfOk result (λ step. IfSome step (λ made. (meant made
+            ≡ post_step (lexicon_of self.old.compiled self.old.sensitive) self.old.sensitive
+            self.old.items)
             × ((span (lexicon_of self.old.compiled self.old.sensitive) self.old.items < length
             self.old.items) ⊎ (self.old.finished ≡ true)))) }
         ensures waits { result ≡ Ok None → (self.old.finished ≡ false)
@@ -208,11 +221,7 @@ impl PostGenerationWork {
             ≡ length self.old.items) }
     {
         self.know();
-        if begins_alarm(self.items.as_slice()) {
-            return self.search();
-        }
-        let made = self.copy()?;
-        Ok(Some(made))
+        self.search()
     }
 }
 
@@ -247,6 +256,12 @@ impl Handler for PostGenerationWork {
                 return Ok(Turn::Over);
             }
             return Ok(Turn::Wants);
+        }
+        if !self.is_at_alarm() {
+            return match self.pass_on(into) {
+                Ok(()) => Ok(Turn::Wrote),
+                Err(_) => Err(StageFault::Memory),
+            };
         }
         let place = self.first_place();
         match self.next() {

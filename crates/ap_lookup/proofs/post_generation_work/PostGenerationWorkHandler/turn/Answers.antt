@@ -1,10 +1,11 @@
-use Rattle.std.proofs.Common.{refl, arith, ap, sym, ◌∙◌, ◌≡◌, ◌<◌, length, drop, ◌++◌, Ok}
+use Rattle.std.proofs.Common.{refl, arith, ap, sym, ◌∙◌, ◌≡◌, ◌<◌, length, drop, ◌++◌, Ok, false}
 use Rattle.ap_stream.specs.Limits.{span_max}
 use Rattle.ap_stream.specs.Steps.{bytes_of}
 use Rattle.ap_live.specs.Lexicon.{lexicon_of}
+use Rattle.ap_lookup.specs.PostGenerating.{begins_alarm}
 use Rattle.ap_lookup.specs.PostWorks.{Posting}
 use Rattle.ap_stream.proofs.StepLaws.{bytes_none}
-use Rattle.ap_lookup.proofs.PostTurns.{over_silent, step_is, turned_limit, turned_overlong, turned_within, turned_wrote}
+use Rattle.ap_lookup.proofs.PostTurns.{over_silent, step_is, turned_bare, turned_limit, turned_overlong, turned_within, turned_wrote}
 use Rattle.ap_lookup.proofs.post_generation_work.PostGenerationWorkHandler.turn.Goals as goal
 
 pub returns-then-is_finished-clause-over : goal.returns-then-is_finished-clause-over
@@ -53,8 +54,8 @@ forget-requires c =
     let e = ap (λ (h : Posting). length h.items) c.in-Ok-Some-Gives.ensures.same in
     omega (arith, w, e)
 
-pub returns-in-Ok-clause-wrote : goal.returns-in-Ok-clause-wrote
-returns-in-Ok-clause-wrote c = λ _.
+pub returns-in-Ok-extend-clause-wrote : goal.returns-in-Ok-extend-clause-wrote
+returns-in-Ok-extend-clause-wrote c = λ _.
     let some : 0 < length c.args.self.now.items =
     omega (arith, c.held_count.ensures, c.if-held_count-eq0.false) in
     let same = c.in-Ok-Some-Gives.ensures.same in
@@ -68,4 +69,16 @@ returns-in-Ok-clause-wrote c = λ _.
     (c.forget.ensures.compiled ∙ ap (λ (h : Posting). h.compiled) same)
     (c.forget.ensures.sensitive ∙ ap (λ (h : Posting). h.sensitive) same)
     (c.forget.ensures.finished ∙ ap (λ (h : Posting). h.finished) same)
-    (c.in-Ok.ensures.ok ∙ ap (λ text. c.args.into.now ++ text) c.as_slice.ensures)
+    (c.in-Ok-extend.ensures.ok ∙ ap (λ text. c.args.into.now ++ text) c.as_slice.ensures)
+
+pub returns-in-Ok-clause-wrote : goal.returns-in-Ok-clause-wrote
+returns-in-Ok-clause-wrote c = λ _.
+    let some : 0 < length c.args.self.now.items =
+    omega (arith, c.held_count.ensures, c.if-held_count-eq0.false) in
+    let bare : begins_alarm c.args.self.now.items ≡ false = sym c.is_at_alarm.ensures
+    ∙ c.if-not-is_at_alarm.true in
+    let copied = c.in-Ok.ensures.copied in
+    turned_wrote c.args.self.now c.in-Ok.ensures.coherent some 1 copied.0 c.in-Ok.ensures.items
+    (turned_bare c.args.self.now copied.0 some bare copied.1)
+    c.pass_on.new.self c.args.into.now c.pass_on.new.into c.in-Ok.ensures.left
+    c.in-Ok.ensures.compiled c.in-Ok.ensures.sensitive c.in-Ok.ensures.finished copied.2
