@@ -1,9 +1,10 @@
-use Rattle.std.specs.Prelude.{◌≡◌, ◌↔◌, ◌⊎◌, ℕ, IsTrue, List, ◌++◌, Some, slice_get}
+use Rattle.std.specs.Prelude.{◌≡◌, ◌↔◌, ◌⊎◌, ℕ, IsTrue, List, [], ◌∷◌, ◌++◌, Some, slice_get}
 use Rattle.ap_symbol.specs.Lists.{IsIn}
 use Rattle.ap_dix.specs.Derivation.{Label as EntryLabel, Derives, is_kept}
 use Rattle.ap_dix.specs.declared.dictionary.Dictionary.{Dictionary}
 use Rattle.ap_dix.specs.declared.dictionary.Direction.{Direction}
 use Rattle.ap_dix.specs.declared.dictionary.Entry.{Entry}
+use Rattle.ap_dix.specs.declared.dictionary.EntryPart.{EntryPart}
 use Rattle.ap_dix.specs.declared.dictionary.Kind.{Kind}
 use Rattle.ap_dix.specs.declared.dictionary.Pardef.{Pardef}
 use Rattle.ap_dix.specs.declared.dictionary.Section.{Section}
@@ -37,6 +38,14 @@ pub record Any {X : Type 0} (Q : X → List EntryLabel → Type 0) (items : List
   pub item : X
   pub listed : IsIn item items
   pub holds : Q item labels
+
+-- one entry, which is kept, with this part alone
+pub record IsRenamed (direction : Direction) (entries : List Entry) (part : EntryPart) : Type 0
+    where
+  pub entry : Entry
+  pub alone : entries ≡ entry ∷ []
+  pub kept : IsTrue (is_kept direction entry)
+  pub parts : entry.parts ≡ part ∷ []
 
 -- the entry is kept and derives the labels
 pub record Spells (d : Dictionary) (direction : Direction) (entry : Entry)
