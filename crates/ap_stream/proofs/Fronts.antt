@@ -10,20 +10,22 @@ use Rattle.ap_symbol.specs.declared.symbol.Symbol.{Symbol}
 use Rattle.ap_stream.specs.declared.dialect.Dialect.{Dialect}
 use Rattle.ap_stream.specs.declared.item.Item.{Item}
 use Rattle.ap_stream.specs.declared.item.Item.TheVariants as item
-use Rattle.ap_stream.specs.Blanks.{Run, Open, Inside, BadChar, Done, Close, Within, Bad, Closed, closing, longer, is_white, blank}
+use Rattle.ap_stream.specs.Blanks.{Run, Open, Inside, BadChar, Done, Close, Within, Bad, Closed, closing, longer, is_white, blank, begins_blank}
 use Rattle.ap_stream.specs.Chars.{Front, Part, NotChar, Char, char_at}
-use Rattle.ap_stream.specs.Dialects.{is_refused, has_words}
-use Rattle.ap_stream.specs.InUnits.{unit_always}
+use Rattle.ap_stream.specs.Dialects.{is_refused, has_words, has_chunks, has_units}
+use Rattle.ap_stream.specs.InUnits.{unit_always, units_words, braced_chunks}
 use Rattle.ap_stream.specs.UnitBytes.{UnitOf}
 use Rattle.ap_stream.specs.Pieces.{HaveSameSuperblanks, HasSuperblanks, nothing, piece, IsPiece, plain, white, superblank, unit, IsPlain, IsUnit, IsToBracket, closed, bare, escaped, is_bare}
 use Rattle.ap_stream.specs.declared.fault.MalformedKind.TheVariants.{Stray}
-use Rattle.ap_stream.specs.Reading.{First, Needs, Whole, Faulty, Bad as OfKind, first, begins_blank, begins_unit, of_run, of_escaped, of_char, of_unit, plain as plain_item}
+use Rattle.ap_stream.specs.Reading.{First, Needs, Whole, Faulty, Bad as OfKind, first, begins_unit, of_run, of_escaped, of_char, of_unit, plain as plain_item, of_body, of_chunk, of_caret, name_in}
 use Rattle.ap_stream.specs.Supers.{item_supers}
 use Rattle.ap_stream.specs.Stands.{blank_first, escape_first, unit_first, letter_whole, escaped_whole}
 use Rattle.ap_stream.specs.Units.{Rest, Lacks, Wrong, Ends, rest, form_of}
 use Rattle.ap_stream.proofs.Back.{char_back}
 use Rattle.ap_stream.proofs.Cut.{first_byte, char_size, rest_cut}
 use Rattle.ap_stream.proofs.Superblanks.{closing_first}
+use Rattle.ap_stream.specs.Chunks.{Body, Opens, Fails, Closes, body}
+use Rattle.ap_stream.specs.declared.item.Inner.{Inner}
 
 -- tests of bytes below 128 say of a character what they say of its first byte
 
@@ -61,7 +63,7 @@ pub low_escape : IsLow (λ b. eqb b 92)
 low_escape = differs 92 (omega arith)
 
 pub low_unit : (dialect : Dialect) → IsLow (begins_unit dialect)
-low_unit dialect b high = rw (differs 94 (omega arith) b high) (by (has_words dialect))
+low_unit dialect b high = rw (differs 94 (omega arith) b high) (by (has_units dialect))
   where
     by : (v : Bool) → (v && false) ≡ false
     by true = refl
@@ -160,21 +162,21 @@ unfolding first
 unit_cut dialect [] words n h = absurd (cc)
 unit_cut dialect (b ∷ bs) words n h = by_blank (begins_blank b) h
   where
-    of_rest : begins_unit dialect b ≡ true → (r : Rest) → rest (form_of dialect) [] [] 0 bs ≡ r →
+    of_rest : begins_unit dialect b ≡ true → has_words dialect ≡ true → (r : Rest) → rest (form_of dialect) [] [] 0 bs ≡ r →
         of_unit r ≡ Whole (item.Unit words) n → UnitOf dialect (take n (b ∷ bs)) words × (0 < n)
         × (n ≤ length (b ∷ bs))
-    of_rest u Lacks e h = absurd (cc)
-    of_rest u (Wrong kind) e h = absurd (cc)
-    of_rest u (Ends all k) e h =
+    of_rest u w Lacks e h = absurd (cc)
+    of_rest u w (Wrong kind) e h = absurd (cc)
+    of_rest u w (Ends all k) e h =
         let same : all ≡ words = cc in
         let size : 1 + k ≡ n = cc in
-        let is = and_parts (has_words dialect) (eqb b 94) u in
+        let is = and_parts (has_units dialect) (eqb b 94) u in
         let fits = (rest_cut (form_of dialect) [] [] 0 bs [] all k e).2 in
         let len : length (take k bs) ≡ k = length-take-le k bs fits in
         let grown : n ≡ suc k = omega (arith, size) in (
           record {
             tail = take k bs;
-            has = is.0;
+            has = w;
             begins = ap (λ q. take q (b ∷ bs)) grown ∙ ap (λ q. q ∷ take k bs) (eqb-true b 94 is.1);
             on = λ x. (rest_cut (form_of dialect) [] [] 0 bs x all k e).0
                 ∙ ap (λ (q : List (List Symbol)). Ends q k) same ∙ ap (Ends words) (sym len);
@@ -182,6 +184,26 @@ unit_cut dialect (b ∷ bs) words n h = by_blank (begins_blank b) h
           omega (arith, size),
           omega (arith, size, fits),
         )
+
+    no_body : (name : List Symbol) (parts : List Inner) (m : ℕ) (z : Body) →
+        of_body name parts m z ≡ Whole (item.Unit words) n → ⊥
+    no_body name parts m Opens h = cc
+    no_body name parts m (Fails kind) h = cc
+    no_body name parts m (Closes more k) h = cc
+
+    no_chunk : (r : Rest) → of_chunk bs r ≡ Whole (item.Unit words) n → ⊥
+    no_chunk Lacks h = cc
+    no_chunk (Wrong kind) h = cc
+    no_chunk (Ends all k) h = no_body (name_in all) [] (1 + k) (body k bs) h
+
+    of_caret_at : begins_unit dialect b ≡ true → (v : Bool) → has_chunks dialect ≡ v → (r : Rest) →
+        rest (form_of dialect) [] [] 0 bs ≡ r → cond v (of_chunk bs r) (of_unit r)
+        ≡ Whole (item.Unit words) n → UnitOf dialect (take n (b ∷ bs)) words × (0 < n)
+        × (n ≤ length (b ∷ bs))
+    of_caret_at u true c r e h = absurd (no_chunk r h)
+    of_caret_at u false c r e h =
+        of_rest u (units_words dialect (and_parts (has_units dialect) (eqb b 94) u).0
+        (braced_chunks dialect ∙ c)) r e h
 
     run : (r : Run) → of_run (b ∷ bs) r ≡ Whole (item.Unit words) n → ⊥
     run Open h = cc
@@ -205,15 +227,16 @@ unit_cut dialect (b ∷ bs) words n h = by_blank (begins_blank b) h
     letter (Char c m) h = letter_at (is_refused dialect c) c m h
 
     by_unit : (v : Bool) → begins_unit dialect b ≡ v →
-        cond v (of_unit (rest (form_of dialect) [] [] 0 bs)) (of_char dialect (char_at (b ∷ bs)))
-        ≡ Whole (item.Unit words) n → UnitOf dialect (take n (b ∷ bs)) words × (0 < n)
+        cond v (of_caret dialect bs (rest (form_of dialect) [] [] 0 bs))
+        (of_char dialect (char_at (b ∷ bs))) ≡ Whole (item.Unit words) n → UnitOf dialect (take n (b ∷ bs)) words × (0 < n)
         × (n ≤ length (b ∷ bs))
-    by_unit true u h = of_rest u (rest (form_of dialect) [] [] 0 bs) refl h
+    by_unit true u h =
+        of_caret_at u (has_chunks dialect) refl (rest (form_of dialect) [] [] 0 bs) refl h
     by_unit false u h = absurd (letter (char_at (b ∷ bs)) h)
 
     by_escape : (v : Bool) →
         cond v (of_escaped (char_at bs))
-        (cond (begins_unit dialect b) (of_unit (rest (form_of dialect) [] [] 0 bs))
+        (cond (begins_unit dialect b) (of_caret dialect bs (rest (form_of dialect) [] [] 0 bs))
         (of_char dialect (char_at (b ∷ bs)))) ≡ Whole (item.Unit words) n →
         UnitOf dialect (take n (b ∷ bs)) words × (0 < n) × (n ≤ length (b ∷ bs))
     by_escape true h = absurd (escape (char_at bs) h)
@@ -221,7 +244,7 @@ unit_cut dialect (b ∷ bs) words n h = by_blank (begins_blank b) h
 
     by_blank : (v : Bool) → cond v (of_run (b ∷ bs) (blank 0 (b ∷ bs)))
         (cond (eqb b 92) (of_escaped (char_at bs))
-        (cond (begins_unit dialect b) (of_unit (rest (form_of dialect) [] [] 0 bs))
+        (cond (begins_unit dialect b) (of_caret dialect bs (rest (form_of dialect) [] [] 0 bs))
         (of_char dialect (char_at (b ∷ bs))))) ≡ Whole (item.Unit words) n
         → UnitOf dialect (take n (b ∷ bs)) words × (0 < n) × (n ≤ length (b ∷ bs))
     by_blank true h = absurd (run (blank 0 (b ∷ bs)) h)

@@ -15,14 +15,14 @@ use Rattle.ap_stream.specs.declared.fault.MalformedKind.TheVariants.{Stray, Unfi
 use Rattle.ap_stream.specs.declared.item.Item.{Item}
 use Rattle.ap_stream.specs.declared.item.Item.TheVariants as item
 use Rattle.ap_stream.specs.declared.item.Read.{Read}
-use Rattle.ap_stream.specs.Blanks.{Run, Open, Inside, BadChar, Done, further, behind_close, blank, Close, Within, Bad, Closed, closing, closing_by, closes, escapes, longer, is_white}
+use Rattle.ap_stream.specs.Blanks.{Run, Open, Inside, BadChar, Done, further, behind_close, blank, Close, Within, Bad, Closed, closing, closing_by, closes, escapes, longer, is_white, begins_blank, blank_some}
 use Rattle.ap_stream.specs.Chars.{Front, Part, NotChar, Char, char_at}
 use Rattle.ap_stream.specs.Dialects.{is_refused}
 use Rattle.ap_stream.specs.InUnits.{unit_always}
 use Rattle.ap_stream.specs.Laws.{AreWords}
 use Rattle.ap_stream.specs.Limits.{item_max}
 use Rattle.ap_stream.specs.Pieces.{HasSuperblanks, nothing, piece, plain, white, superblank, unit, IsUnit, IsSuperblank, IsToBracket, closed, bare, escaped, is_bare, supers_of}
-use Rattle.ap_stream.specs.Reading.{First, Needs, Whole, Faulty, Bad as OfKind, Past, first, last, Last, Complete, Broken, last_run, begins_blank, begins_unit, of_run, of_escaped, of_char, of_unit, plain as plain_item, limited, at_limit, past, walk, walked, reads, at_end, counted}
+use Rattle.ap_stream.specs.Reading.{First, Needs, Whole, Faulty, Bad as OfKind, Past, first, last, Last, Complete, Broken, last_run, begins_unit, of_run, of_escaped, of_char, of_unit, plain as plain_item, limited, at_limit, past, walk, walked, reads, at_end, counted}
 use Rattle.ap_stream.specs.Spelling.{character_bytes}
 use Rattle.ap_stream.specs.Supers.{blank_supers, item_supers}
 use Rattle.ap_stream.specs.Units.{Rest, Lacks, Wrong, Ends, rest, form_of}
@@ -243,25 +243,6 @@ row_cond : (dialect : Dialect) (bs : List ℕ) (v : Bool) (f g : First) →
     FirstRow dialect bs (cond v f g)
 row_cond dialect bs true f g h k = h refl
 row_cond dialect bs false f g h k = k refl
-
-pub blank_some : (b : ℕ) (bs : List ℕ) (n : ℕ) → begins_blank b ≡ true →
-    blank 0 (b ∷ bs) ≡ Done n → 0 < n
-unfolding blank
-blank_some b bs n begins h = by_white (is_white b) (eqb b 91) begins h
-  where
-    more : (r : Run) → further 1 r ≡ Done n → 0 < n
-    more Open h = absurd (cc)
-    more Inside h = absurd (cc)
-    more BadChar h = absurd (cc)
-    more (Done m) h = let size : 1 + m ≡ n = cc in omega (arith, size)
-
-    by_white : (v w : Bool) → (v || w) ≡ true →
-        cond v (further 1 (blank 0 bs))
-        (cond w (further 1 (behind_close (closing false 0 bs) (λ n. blank n bs))) (Done 0))
-        ≡ Done n → 0 < n
-    by_white true w t h = more (blank 0 bs) h
-    by_white false true t h = more (behind_close (closing false 0 bs) (λ n. blank n bs)) h
-    by_white false false t h = absurd (cc)
 
 row_run : (dialect : Dialect) (b : ℕ) (bs : List ℕ) (r : Run) → begins_blank b ≡ true →
     blank 0 (b ∷ bs) ≡ r → RunRow (b ∷ bs) r → FirstRow dialect (b ∷ bs) (of_run (b ∷ bs) r)

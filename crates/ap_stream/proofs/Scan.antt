@@ -8,13 +8,13 @@ use Rattle.std.proofs.Math.Seq.{drop-append_seam, take-append_seam, take-append-
 use Rattle.ap_stream.specs.declared.dialect.Dialect.{Dialect}
 use Rattle.ap_stream.specs.declared.item.Item.{Item}
 use Rattle.ap_stream.specs.declared.item.Item.TheVariants as item
-use Rattle.ap_stream.specs.Blanks.{Run, Open, Inside, BadChar, Done, further, blank, blank_white, blank_bracket, blank_done, blank_at, is_white}
+use Rattle.ap_stream.specs.Blanks.{Run, Open, Inside, BadChar, Done, further, blank, blank_white, blank_bracket, blank_done, blank_at, is_white, begins_blank, blank_some}
 use Rattle.ap_stream.specs.Pieces.{HasSuperblanks, nothing, piece, IsPiece, plain, white, superblank, unit, IsToBracket}
-use Rattle.ap_stream.specs.Reading.{Needs, Whole, first, last, Complete, begins_blank, of_run, last_run}
+use Rattle.ap_stream.specs.Reading.{Needs, Whole, first, last, Complete, of_run, last_run}
 use Rattle.ap_stream.specs.Stands.{blank_first}
 use Rattle.ap_stream.specs.Supers.{blank_supers, item_supers, items_of, supers}
 use Rattle.ap_stream.proofs.Fronts.{to_bracket, white_other, IsWhole, plain_whole, unit_whole, one_list}
-use Rattle.ap_stream.proofs.Rows.{blank_some, drop_pred}
+use Rattle.ap_stream.proofs.Rows.{drop_pred}
 use Rattle.ap_stream.proofs.Superblanks.{supers_other, supers_closed}
 
 -- the scan goes on behind an item

@@ -4,11 +4,11 @@ use Rattle.std.specs.Prelude.{◌≡◌, ◌≢◌, ℕ, Bool, true, false, not,
 use Rattle.std.specs.List.{flat_map}
 use Rattle.ap_symbol.specs.Coded.{IsCode}
 use Rattle.ap_symbol.specs.declared.symbol.Symbol.{Symbol}
-use Rattle.ap_stream.specs.Blanks.{is_white}
+use Rattle.ap_stream.specs.Blanks.{is_white, begins_blank}
 use Rattle.ap_stream.specs.Dialects.{is_refused}
 use Rattle.ap_stream.specs.Each.{each}
 use Rattle.ap_stream.specs.Laws.{AreWords}
-use Rattle.ap_stream.specs.Reading.{Whole, first, reads, begins_blank, begins_unit}
+use Rattle.ap_stream.specs.Reading.{Whole, first, reads, begins_unit}
 use Rattle.ap_stream.specs.Spelling.{character_bytes}
 use Rattle.ap_stream.specs.Supers.{item_supers, supers}
 use Rattle.ap_stream.specs.declared.dialect.Dialect.{Dialect}

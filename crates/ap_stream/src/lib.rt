@@ -3,6 +3,7 @@
 #![tactic(auto)]
 
 mod blank;
+mod chunks;
 mod crossing;
 mod decode;
 mod dialect;
@@ -12,6 +13,7 @@ mod fault;
 mod handler;
 mod item;
 mod laws;
+mod level;
 mod names;
 mod pipe;
 mod plain;
