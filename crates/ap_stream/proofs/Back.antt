@@ -299,7 +299,7 @@ some_symbol surface symbol.Star h = omega arith
 some_symbol surface symbol.At h = omega arith
 
 -- a word
-word_back : (form : Form) (words : List (List Symbol)) (word more : List Symbol) (x : List ℕ) →
+pub word_back : (form : Form) (words : List (List Symbol)) (word more : List Symbol) (x : List ℕ) →
     AreSpelt (in_surface form words) more →
     rest form words word 0 (rendering more ++ x)
     ≡ longer (length (rendering more)) (rest form words (word ++ more) 0 x)

@@ -351,7 +351,7 @@ parts_more parts n k part (Closes more m) =
     ap (λ q. Closes q (n + (k + m))) (sym (append_assoc parts (part ∷ []) more))
     ∙ ap (Closes ((parts ++ part ∷ []) ++ more)) (omega arith)
 
-abbrev IsClosed : Body → Type 0
+abbrev pub IsClosed : Body → Type 0
 IsClosed Opens = ⊥
 IsClosed (Fails kind) = ⊥
 IsClosed (Closes parts n) = Unit {0}

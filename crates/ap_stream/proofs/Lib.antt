@@ -14,6 +14,7 @@ pub mod WordsRead
 pub mod Spelt
 pub mod KeptNames
 pub mod ChunkWalk
+pub mod ChunkCut
 pub mod Crossed
 pub mod Spells
 pub mod Superblanks

@@ -12,6 +12,7 @@ use Rattle.ap_symbol.specs.Words.{is_white}
 use Rattle.ap_symbol.specs.TagNames.{is_reserved_lem}
 use Rattle.ap_symbol.specs.TextWord.{escaped_symbol, bare_symbol}
 use Rattle.ap_stream.specs.declared.dialect.Dialect.{Dialect}
+use Rattle.ap_stream.specs.declared.dialect.Dialect.TheVariants.{Chunked}
 use Rattle.ap_stream.specs.declared.fault.MalformedKind.TheVariants.{Stray, EmptyWord, BadTag}
 use Rattle.ap_stream.specs.declared.item.Item.TheVariants as item
 use Rattle.ap_stream.specs.Dialects.{has_words, is_refused, has_chunks, has_units}
@@ -421,6 +422,16 @@ rest_good form words word zero (b ∷ bs) h =
         (λ may. (λ _. far_end form words word h may, far_first form words word h)) (λ _. tt)
     by Brace k go = good_cond form form.braced (Ends (words ++ word ∷ []) 1) (Wrong Stray)
         (λ b. (λ f. absurd (cc), far_first form words word h)) (λ _. tt)
+
+-- the name of a chunk that is read
+pub name_spelt : (bs : List ℕ) (words : List (List Symbol)) (n : ℕ) →
+    rest (form_of Chunked) [] [] 0 bs ≡ Ends words n → AreSpelt false (name_in words)
+name_spelt bs words n e =
+    by words (subst (Good (form_of Chunked)) e (rest_good (form_of Chunked) [] [] 0 bs tt))
+  where
+    by : (ws : List (List Symbol)) → Good (form_of Chunked) (Ends ws n) → AreSpelt false (name_in ws)
+    by [] h = tt
+    by (word ∷ ws) h = h.1
 
 -- an item
 

@@ -288,7 +288,7 @@ module _ (dialect : Dialect) (done : List ℕ) (h : InClosed dialect done) where
       ∙ ap (Whole (item.Chunk closed_chunk)) size
 
 -- the one dialect with chunks
-only_chunked : (dialect : Dialect) → has_chunks dialect ≡ true → dialect ≡ Chunked
+pub only_chunked : (dialect : Dialect) → has_chunks dialect ≡ true → dialect ≡ Chunked
 only_chunked Raw h = absurd (cc)
 only_chunked Analysed h = absurd (cc)
 only_chunked Lexical h = absurd (cc)
