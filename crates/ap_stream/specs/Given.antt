@@ -285,6 +285,39 @@ feeds_none old new used d p h =
           add-zero (length new.held) ∙ ap length h ∙ length-append old.held used;
     }
 
+-- nothing is held, and the next byte is a plain character
+module _ (now : Begun) (dialect : Dialect) (held : List ℕ) (place : ℕ) (looked : Bool)
+    (fault : Option StreamFault)
+    (view : record { dialect = dialect; held = held; place = place; looked = looked; fault = fault }
+    ≡ now) (none : held ≡ []) (bytes : List ℕ) (one : length bytes ≡ 1) (c : Character)
+    (h : Looks dialect (level.Item mode.Start) 0 bytes (shown.Plain c)) where
+  pub bare_given : (newplace : ℕ) (after : List ℕ) → newplace ≡ counted (place + 1) →
+      after ≡ held → Feeds now bytes (Some (record { item = item.Plain c; place = place; size = 1 }))
+      (record {
+        dialect = dialect;
+        held = after;
+        place = newplace;
+        looked =
+            looked;
+        fault = fault;
+      })
+  bare_given newplace after p a =
+      let size : 1 ≡ length bytes = sym one in
+      record {
+        reads_on = λ x. rw (← view, a, none, p, size)
+            (gives_whole dialect bytes [] place (length bytes) (item.Plain c) h.0
+            (omega (arith, one)) (omega arith) (drop-length bytes) x);
+        bytes = rw (← view, a, none) (omega (arith, one));
+      }
+
+  pub bare_read : IsRead now.dialect (record { item = item.Plain c; place = place; size = 1 })
+  bare_read = record {
+    text = bytes;
+    whole = rw (← view, sym one) (rw append-nil at (h.0 []));
+    some = omega arith;
+    short = omega arith;
+  }
+
 -- the last item, or none; no byte follows
 pub record Ends (old : Begun) (item : Option Read) (new : Begun) : Type 0 where
   pub reads_end : reads old.dialect old.place old.held

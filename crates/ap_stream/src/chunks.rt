@@ -143,9 +143,9 @@ fn part_at(alloc: Global, bytes: &[u8]) -> Result<PartEnd, Memory>
         });
     }
     let size = blank_size(bytes);
-    let own = copy_of(alloc, &bytes[..size])?;
+    let own = Blank::from_slice(alloc, &bytes[..size])?;
     Ok(PartEnd {
-        part: Inner::Blank(Blank::from_vec(own)),
+        part: Inner::Blank(own),
         size,
     })
 }

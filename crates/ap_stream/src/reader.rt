@@ -350,6 +350,37 @@ impl Reader {
         }
     }
 
+    /// Where nothing is held and a plain ASCII letter or digit stands next, gives it, and holds
+    /// nothing then either.
+    fn bare(&mut self, piece: &[u8]) -> Option<Read>
+        requires going { self.old.fault ≡ None }
+        requires looked { self.old.looked ≡ true }
+        ensures some { OnSome result (1 ≤ length piece.now) }
+        ensures given { IfSome result
+            (λ read. Feeds self.old (take 1 piece.now) (Some read) self.new) }
+        ensures item { IfSome result (λ read. IsRead self.old.dialect read) }
+        ensures held { OnSome result (self.new.held ≡ []) }
+        ensures going { self.new.fault ≡ None }
+        ensures dialect { self.new.dialect ≡ self.old.dialect }
+        ensures none { result ≡ None → self.new ≡ self.old }
+    {
+        if !self.held.is_empty() || piece.is_empty() || !piece[0].is_ascii_alphanumeric() {
+            return None;
+        }
+        match look(self.dialect, Level::Item(Mode::Start), 0, &piece[..1]) {
+            Shown::Plain(character) => {
+                let read = Read {
+                    item: Item::Plain(character),
+                    place: self.place,
+                    size: 1,
+                };
+                self.place = place_after(self.place, 1);
+                Some(read)
+            }
+            _ => None,
+        }
+    }
+
     /// Uses bytes of the piece until an item is whole or the piece is used up. An item that is
     /// whole is given with its place and size, and at most one byte is held behind it. A fault is
     /// that of the items in the Apertium stream format, and comes once it is certain however the
@@ -384,6 +415,12 @@ impl Reader {
             }
             Ok(None) => {}
             Err(fault) => return Err(fault),
+        }
+        if let Some(read) = self.bare(piece) {
+            return Ok(Fed {
+                used: 1,
+                item: Some(read),
+            });
         }
         let mut used = 0;
         while used < piece.len() {

@@ -35,8 +35,8 @@ blank_size-size-requires c =
 pub returns-clause-part : goal.returns-clause-part
 returns-clause-part c =
     walk.behind_run c.args.bytes.now c.requires.whole c.requires.some c.requires.open
-    c.if-bytes-eq94.false c.blank_size-size.result c.from_vec.result c.blank_size-size.ensures.size
-    (c.from_vec.ensures ∙ c.in_ok-own-2.ensures)
+    c.if-bytes-eq94.false c.blank_size-size.result c.in_ok-own-2.own c.blank_size-size.ensures.size
+    c.in_ok-own-2.ensures
 
 pub returns-clause-size : goal.returns-clause-size
 returns-clause-size c = (
