@@ -57,8 +57,11 @@ closing_cut e zero (b ∷ bs) x n h =
         let size : m ≡ n = cc in
         let s = char_size (b ∷ bs) c m f in
         let here : closing e 0 (take m (b ∷ bs) ++ x) ≡ Closed m =
-        closing_first e (take m (b ∷ bs) ++ x) c m (char_cut (b ∷ bs) x c m f) ∙ rw v refl in
-        (subst (λ k. closing e 0 (take k (b ∷ bs) ++ x) ≡ Closed k) size here, omega (arith, size, s.1))
+        closing_first e (take m (b ∷ bs) ++ x) c m (char_cut (b ∷ bs) x c m f) ∙ rw v refl in (
+          subst (λ k. closing e 0 (take k (b ∷ bs) ++ x) ≡ Closed k) size here,
+          omega
+              (arith, size, s.1),
+        )
     at c m f go false v Within g h = absurd (cc)
     at c m f go false v Bad g h = absurd (cc)
     at c m f go false v (Closed k) g h =
@@ -74,7 +77,8 @@ closing_cut e zero (b ∷ bs) x n h =
         ap (λ z. drop z (take m (b ∷ bs) ++ y)) (sym len) ∙ drop-append_seam (take m (b ∷ bs)) y in
         let here : closing e 0 (take m (b ∷ bs) ++ y) ≡ Closed (m + k) =
         closing_first e (take m (b ∷ bs) ++ y) c m (char_cut (b ∷ bs) y c m f)
-        ∙ rw v (ap (λ (q : List ℕ). longer m (closing (escapes e c) 0 q)) left ∙ ap (longer m) more) in
+        ∙ rw v (ap (λ (q : List ℕ). longer m (closing (escapes e c) 0 q)) left
+        ∙ ap (longer m) more) in
         let far : length (drop m (b ∷ bs)) ≡ length (b ∷ bs) - m = length-drop m (b ∷ bs) in
         let near : length (drop m (b ∷ bs)) ≡ length (drop (pred m) bs) = ap length back in (
           subst (λ z. closing e 0 (take z (b ∷ bs) ++ x) ≡ Closed z) size
@@ -130,7 +134,8 @@ super_on : (bs : List ℕ) (n : ℕ) (r : Run) → closing false 0 bs ≡ Closed
 super_on bs n Open e h = λ x.
     let c = (closing_cut false 0 bs [] n e).1 in
     let all : bs ++ x ≡ take n bs ++ (drop n bs ++ x) =
-    ap (λ (q : List ℕ). q ++ x) (sym (take-append-drop n bs)) ∙ append_assoc (take n bs) (drop n bs) x in
+    ap (λ (q : List ℕ). q ++ x) (sym (take-append-drop n bs))
+    ∙ append_assoc (take n bs) (drop n bs) x in
     let l = length-drop n bs in
     ap (λ (q : List ℕ). blank 0 (91 ∷ q)) all ∙ super_step bs n (drop n bs ++ x) e
     ∙ ap (further (1 + n)) (h x) ∙ further_further (1 + n) (length (drop n bs)) (blank 0 x)
@@ -261,109 +266,118 @@ record BodyCut (bs : List ℕ) (parts : List Inner) (n : ℕ) : Type 0 where
   dark : blank_first bs ≡ false → NoBlankFirst parts
 
 module _ (b : ℕ) (bs : List ℕ) (parts : List Inner) (n : ℕ) (h : body 0 (b ∷ bs) ≡ Closes parts n)
-    (go : (k : ℕ) (more : List Inner) (j : ℕ) → body k bs ≡ Closes more j → BodyCut (drop k bs) more j)
-    where
-  brace_cut : b ≡ 125 → BodyCut (b ∷ bs) parts n
-  brace_cut is =
-      let all : closed bs ≡ Closes parts n = sym (ap (λ z. body 0 (z ∷ bs)) is ∙ body_brace bs) ∙ h in
-      let d = closed_dollar bs parts n all in
-      let text : b ∷ bs ≡ 125 ∷ 36 ∷ drop 1 bs = ap (λ z. z ∷ bs) is ∙ ap (λ (q : List ℕ). 125 ∷ q) d.0 in
-      let l = ap length d.0 in
-      record {
-        read = λ x. ap (λ k. body 0 (take k (b ∷ bs) ++ x)) d.2
-            ∙ ap (λ (q : List ℕ). body 0 (take 2 q ++ x)) text ∙ body_brace (36 ∷ x)
-            ∙ ap (λ q. Closes q 2) (sym d.1) ∙ ap (Closes parts) (sym d.2);
-        some = omega (arith, d.2);
-        fits = omega (arith, d.2, l);
-        written = subst AreParts (sym d.1) tt;
-        dark = λ _. subst NoBlankFirst (sym d.1) tt;
-      }
+    (go : (k : ℕ) (more : List Inner) (j : ℕ) → body k bs ≡ Closes more j →
+    BodyCut (drop k bs) more j)
+  where
+    brace_cut : b ≡ 125 → BodyCut (b ∷ bs) parts n
+    brace_cut is =
+        let all : closed bs ≡ Closes parts n = sym (ap (λ z. body 0 (z ∷ bs)) is ∙ body_brace bs)
+        ∙ h in
+        let d = closed_dollar bs parts n all in
+        let text : b ∷ bs ≡ 125 ∷ 36 ∷ drop 1 bs = ap (λ z. z ∷ bs) is
+        ∙ ap (λ (q : List ℕ). 125 ∷ q) d.0 in
+        let l = ap length d.0 in
+        record {
+          read = λ x. ap (λ k. body 0 (take k (b ∷ bs) ++ x)) d.2
+              ∙ ap (λ (q : List ℕ). body 0 (take 2 q ++ x)) text ∙ body_brace (36 ∷ x)
+              ∙ ap (λ q. Closes q 2) (sym d.1) ∙ ap (Closes parts) (sym d.2);
+          some = omega (arith, d.2);
+          fits = omega (arith, d.2, l);
+          written = subst AreParts (sym d.1) tt;
+          dark = λ _. subst NoBlankFirst (sym d.1) tt;
+        }
 
-  part_cut : (part : Inner) (k : ℕ) → 0 < k → k ≤ length (b ∷ bs) →
-      body 0 (b ∷ bs) ≡ behind_part part k (body 0 (drop k (b ∷ bs))) →
-      ((more : List Inner) (j : ℕ) → BodyCut (drop k (b ∷ bs)) more j → (x : List ℕ) →
-      body 0 (take k (b ∷ bs) ++ (take j (drop k (b ∷ bs)) ++ x))
-      ≡ behind_part part k (body 0 (take j (drop k (b ∷ bs)) ++ x))) →
-      ((more : List Inner) (j : ℕ) → BodyCut (drop k (b ∷ bs)) more j → AreParts (part ∷ more)) →
-      (blank_first (b ∷ bs) ≡ false → (more : List Inner) → NoBlankFirst (part ∷ more)) →
-      BodyCut (b ∷ bs) parts n
-  part_cut part k some fits is read written dark =
-      let c = closes_behind part k (body 0 (drop k (b ∷ bs))) parts n (sym is ∙ h) in
-      let back : drop k (b ∷ bs) ≡ drop (pred k) bs = drop_pred k b bs some in
-      let left : body (pred k) bs ≡ Closes c.0 c.1 =
-      body_skip (pred k) bs ∙ ap (body 0) (sym back) ∙ c.2 in
-      let rest : BodyCut (drop k (b ∷ bs)) c.0 c.1 =
-      subst (λ (q : List ℕ). BodyCut q c.0 c.1) (sym back) (go (pred k) c.0 c.1 left) in
-      let l = length-drop k (b ∷ bs) in
-      record {
-        read = λ x. ap (λ m. body 0 (take m (b ∷ bs) ++ x)) c.4
-            ∙ ap (body 0) (cut_twice k c.1 (b ∷ bs) x) ∙ read c.0 c.1 rest x
-            ∙ ap (behind_part part k) (rest.read x) ∙ ap (λ q. Closes q (k + c.1)) (sym c.3)
-            ∙ ap (Closes parts) (sym c.4);
-        some = let s = c.4 in omega (arith, s, some);
-        fits = let s = c.4 in let f = rest.fits in omega (arith, s, f, l, fits);
-        written = subst AreParts (sym c.3) (written c.0 c.1 rest);
-        dark = λ d. subst NoBlankFirst (sym c.3) (dark d c.0);
-      }
+    part_cut : (part : Inner) (k : ℕ) → 0 < k → k ≤ length (b ∷ bs) →
+        body 0 (b ∷ bs) ≡ behind_part part k (body 0 (drop k (b ∷ bs))) →
+        ((more : List Inner) (j : ℕ) → BodyCut (drop k (b ∷ bs)) more j → (x : List ℕ) →
+        body 0 (take k (b ∷ bs) ++ (take j (drop k (b ∷ bs)) ++ x))
+        ≡ behind_part part k (body 0 (take j (drop k (b ∷ bs)) ++ x))) →
+        ((more : List Inner) (j : ℕ) → BodyCut (drop k (b ∷ bs)) more j → AreParts (part ∷ more)) →
+        (blank_first (b ∷ bs) ≡ false → (more : List Inner) → NoBlankFirst (part ∷ more)) →
+        BodyCut (b ∷ bs) parts n
+    part_cut part k some fits is read written dark =
+        let c = closes_behind part k (body 0 (drop k (b ∷ bs))) parts n (sym is ∙ h) in
+        let back : drop k (b ∷ bs) ≡ drop (pred k) bs = drop_pred k b bs some in
+        let left : body (pred k) bs ≡ Closes c.0 c.1 =
+        body_skip (pred k) bs ∙ ap (body 0) (sym back) ∙ c.2 in
+        let rest : BodyCut (drop k (b ∷ bs)) c.0 c.1 =
+        subst (λ (q : List ℕ). BodyCut q c.0 c.1) (sym back) (go (pred k) c.0 c.1 left) in
+        let l = length-drop k (b ∷ bs) in
+        record {
+          read = λ x. ap (λ m. body 0 (take m (b ∷ bs) ++ x)) c.4
+              ∙ ap (body 0) (cut_twice k c.1 (b ∷ bs) x) ∙ read c.0 c.1 rest x
+              ∙ ap (behind_part part k) (rest.read x) ∙ ap (λ q. Closes q (k + c.1)) (sym c.3)
+              ∙ ap (Closes parts) (sym c.4);
+          some = let s = c.4 in omega (arith, s, some);
+          fits = let s = c.4 in let f = rest.fits in omega (arith, s, f, l, fits);
+          written = subst AreParts (sym c.3) (written c.0 c.1 rest);
+          dark = λ d. subst NoBlankFirst (sym c.3) (dark d c.0);
+        }
 
-  unit_cut : (words : List (List Symbol)) (m : ℕ) → b ≡ 94 →
-      rest (form_of Lexical) [] [] 0 bs ≡ Ends words m → BodyCut (b ∷ bs) parts n
-  unit_cut words m is e =
-      let u = unit_of bs words m e in
-      let same : 94 ∷ bs ≡ b ∷ bs = ap (λ z. z ∷ bs) (sym is) in
-      let own : UnitOf Lexical (take (1 + m) (b ∷ bs)) words =
-      subst (λ (q : List ℕ). UnitOf Lexical (take (1 + m) q) words) same u.0 in
-      let fits : 1 + m ≤ length (b ∷ bs) = let f = u.1 in omega (arith, f) in
-      let len : length (take (1 + m) (b ∷ bs)) ≡ 1 + m = length-take-le (1 + m) (b ∷ bs) fits in
-      let back : drop m bs ≡ drop (1 + m) (b ∷ bs) =
-      let g : suc m ≡ 1 + m = omega arith in ap (λ k. drop k (b ∷ bs)) g in
-      part_cut (inner.Unit words) (1 + m) (omega arith) fits
-      (ap (body 0) (sym same) ∙ unit_part bs words m e
-      ∙ ap (λ (q : List ℕ). behind_part (inner.Unit words) (1 + m) (body 0 q)) back)
-      (λ more j r x. unit_body (take (1 + m) (b ∷ bs)) _ words own
-      ∙ ap (λ k. behind_part (inner.Unit words) k (body 0 (take j (drop (1 + m) (b ∷ bs)) ++ x))) len)
-      (λ more j r. (
-        unit_words Lexical (take (1 + m) (b ∷ bs) ++ []) words _
-            (unit_always Lexical (take (1 + m) (b ∷ bs)) words own []),
-        r.written,
-      )) (λ d more. tt)
+    unit_cut : (words : List (List Symbol)) (m : ℕ) → b ≡ 94 →
+        rest (form_of Lexical) [] [] 0 bs ≡ Ends words m → BodyCut (b ∷ bs) parts n
+    unit_cut words m is e =
+        let u = unit_of bs words m e in
+        let same : 94 ∷ bs ≡ b ∷ bs = ap (λ z. z ∷ bs) (sym is) in
+        let own : UnitOf Lexical (take (1 + m) (b ∷ bs)) words =
+        subst (λ (q : List ℕ). UnitOf Lexical (take (1 + m) q) words) same u.0 in
+        let fits : 1 + m ≤ length (b ∷ bs) = let f = u.1 in omega (arith, f) in
+        let len : length (take (1 + m) (b ∷ bs)) ≡ 1 + m = length-take-le (1 + m) (b ∷ bs) fits in
+        let back : drop m bs ≡ drop (1 + m) (b ∷ bs) =
+        let g : suc m ≡ 1 + m = omega arith in ap (λ k. drop k (b ∷ bs)) g in
+        part_cut (inner.Unit words) (1 + m) (omega arith) fits
+        (ap (body 0) (sym same) ∙ unit_part bs words m e
+        ∙ ap (λ (q : List ℕ). behind_part (inner.Unit words) (1 + m) (body 0 q)) back)
+        (λ more j r x. unit_body (take (1 + m) (b ∷ bs)) _ words own
+        ∙ ap (λ k. behind_part (inner.Unit words) k (body 0
+        (take j (drop (1 + m) (b ∷ bs)) ++ x))) len)
+        (λ more j r. (
+          unit_words Lexical (take (1 + m) (b ∷ bs) ++ []) words _
+              (unit_always Lexical (take (1 + m) (b ∷ bs)) words own []),
+          r.written,
+        )) (λ d more. tt)
 
-  blank_cut : (m : ℕ) → begins_blank b ≡ true → blank 0 (b ∷ bs) ≡ Done m → BodyCut (b ∷ bs) parts n
-  blank_cut m t e =
-      let on = done_on (b ∷ bs) m e in
-      let some : 0 < m = blank_some b bs m t e in
-      let fits : m ≤ length (b ∷ bs) = omega (arith, on.2) in
-      let len : length (take m (b ∷ bs)) ≡ m = length-take-le m (b ∷ bs) fits in
-      let bright : blank_first (take m (b ∷ bs)) ≡ true = first_taken m some t in
-      let l = length-drop m (b ∷ bs) in
-      part_cut (inner.Blank (take m (b ∷ bs))) m some fits (run_part b bs m t e some)
-      (λ more j r x. run_body (take m (b ∷ bs)) (take j (drop m (b ∷ bs)) ++ x)
-      (λ y. on.0 y ∙ ap (λ k. further k (blank 0 y)) (sym len)) bright
-      (front_some j (drop m (b ∷ bs)) x r.some (omega (arith, l, on.2)))
-      (front_dark j (drop m (b ∷ bs)) x r.some (omega (arith, l, on.2)) on.1)
-      ∙ ap (λ k. behind_part (inner.Blank (take m (b ∷ bs))) k (body 0 (take j (drop m (b ∷ bs)) ++ x)))
-      len)
-      (λ more j r. (
-        (omega (arith, len, some), ap (blank 0) (sym (append-nil (take m (b ∷ bs)))) ∙ on.0 []
-            ∙ ap (further m) nothing_blank),
-        r.dark on.1,
-        r.written,
-      )) (λ d more. absurd (let z : true ≡ false = sym t ∙ d in cc))
-    where
-      first_taken : (m : ℕ) → 0 < m → begins_blank b ≡ true → blank_first (take m (b ∷ bs)) ≡ true
-      first_taken zero some t = absurd (omega (arith, some))
-      first_taken (suc m) some t = t
+    blank_cut : (m : ℕ) → begins_blank b ≡ true → blank 0 (b ∷ bs) ≡ Done m →
+        BodyCut (b ∷ bs) parts n
+    blank_cut m t e =
+        let on = done_on (b ∷ bs) m e in
+        let some : 0 < m = blank_some b bs m t e in
+        let fits : m ≤ length (b ∷ bs) = omega (arith, on.2) in
+        let len : length (take m (b ∷ bs)) ≡ m = length-take-le m (b ∷ bs) fits in
+        let bright : blank_first (take m (b ∷ bs)) ≡ true = first_taken m some t in
+        let l = length-drop m (b ∷ bs) in
+        part_cut (inner.Blank (take m (b ∷ bs))) m some fits (run_part b bs m t e some)
+        (λ more j r x. run_body (take m (b ∷ bs)) (take j (drop m (b ∷ bs)) ++ x)
+        (λ y. on.0 y ∙ ap (λ k. further k (blank 0 y)) (sym len)) bright
+        (front_some j (drop m (b ∷ bs)) x r.some (omega (arith, l, on.2)))
+        (front_dark j (drop m (b ∷ bs)) x r.some (omega (arith, l, on.2)) on.1)
+        ∙ ap (λ k. behind_part (inner.Blank (take m (b ∷ bs))) k
+        (body 0 (take j (drop m (b ∷ bs)) ++ x)))
+        len)
+        (λ more j r. (
+          (
+            omega (arith, len, some),
+            ap (blank 0) (sym (append-nil (take m (b ∷ bs)))) ∙ on.0 []
+                ∙ ap (further m) nothing_blank,
+          ),
+          r.dark on.1,
+          r.written,
+        )) (λ d more. absurd (let z : true ≡ false = sym t ∙ d in cc))
+      where
+        first_taken : (m : ℕ) → 0 < m → begins_blank b ≡ true → blank_first (take m (b ∷ bs)) ≡ true
+        first_taken zero some t = absurd (omega (arith, some))
+        first_taken (suc m) some t = t
 
-      front_some : (j : ℕ) (q x : List ℕ) → 0 < j → 0 < length q → 0 < length (take j q ++ x)
-      front_some zero q x s l = absurd (omega (arith, s))
-      front_some (suc j) [] x s l = absurd (omega (arith, l))
-      front_some (suc j) (a ∷ q) x s l = omega arith
+        front_some : (j : ℕ) (q x : List ℕ) → 0 < j → 0 < length q → 0 < length (take j q ++ x)
+        front_some zero q x s l = absurd (omega (arith, s))
+        front_some (suc j) [] x s l = absurd (omega (arith, l))
+        front_some (suc j) (a ∷ q) x s l = omega arith
 
-      front_dark : (j : ℕ) (q x : List ℕ) → 0 < j → 0 < length q → blank_first q ≡ false →
-          blank_first (take j q ++ x) ≡ false
-      front_dark zero q x s l d = absurd (omega (arith, s))
-      front_dark (suc j) [] x s l d = absurd (omega (arith, l))
-      front_dark (suc j) (a ∷ q) x s l d = d
+        front_dark : (j : ℕ) (q x : List ℕ) → 0 < j → 0 < length q → blank_first q ≡ false →
+            blank_first (take j q ++ x) ≡ false
+        front_dark zero q x s l d = absurd (omega (arith, s))
+        front_dark (suc j) [] x s l d = absurd (omega (arith, l))
+        front_dark (suc j) (a ∷ q) x s l d = d
 
 body_cut : (skip : ℕ) (bs : List ℕ) (parts : List Inner) (n : ℕ) → body skip bs ≡ Closes parts n →
     BodyCut (drop skip bs) parts n
@@ -388,27 +402,33 @@ pub record IsCut (bs : List ℕ) (chunk : Chunk) (n : ℕ) : Type 0 where
   pub name : AreSpelt false chunk.name
   pub parts : AreParts chunk.content
 
-pub chunk_cut : (bs : List ℕ) (chunk : Chunk) (n : ℕ) → first Chunked bs ≡ Whole (item.Chunk chunk) n →
+pub chunk_cut : (bs : List ℕ) (chunk : Chunk) (n : ℕ) →
+    first Chunked bs ≡ Whole (item.Chunk chunk) n →
     IsCut bs chunk n
 chunk_cut bs chunk n h =
     let s = shaped bs chunk n h in
     let t : List ℕ = s.tail in
     let k : ℕ = s.named in
     let m : ℕ = s.size in
-    let c : BodyCut (drop s.named s.tail) s.parts s.size = body_cut 0 (drop s.named s.tail) s.parts s.size s.body_is in
+    let c : BodyCut (drop s.named s.tail) s.parts s.size =
+    body_cut 0 (drop s.named s.tail) s.parts s.size s.body_is in
     let made : Chunk = record { name = name_in s.words; content = s.parts } in
-    let r : (x : List ℕ) → (rest (form_of Chunked) [] [] 0 (take s.named s.tail ++ x) ≡ Ends s.words s.named)
+    let r : (x : List ℕ) → (rest (form_of Chunked) [] [] 0 (take s.named s.tail ++ x)
+    ≡ Ends s.words s.named)
     × (0 < s.named) × (s.named ≤ length s.tail) =
     λ x. rest_cut (form_of Chunked) [] [] 0 s.tail x s.words s.named s.name_is in
     let fits : s.named ≤ length s.tail = (r []).2 in
     let len : length (take s.named s.tail) ≡ s.named = length-take-le s.named s.tail fits in
     let size : n ≡ suc (s.named + s.size) = let z = s.size_is in omega (arith, z) in
     let l = length-drop s.named s.tail in
-    let all : (x : List ℕ) → take n bs ++ x ≡ 94 ∷ (take s.named s.tail ++ (take s.size (drop s.named s.tail) ++ x)) =
-    λ x. ap (λ z. take z bs ++ x) size ∙ ap (λ (q : List ℕ). take (suc (s.named + s.size)) q ++ x) s.begins
+    let all : (x : List ℕ) → take n bs ++ x ≡ 94 ∷ (take s.named s.tail ++
+    (take s.size (drop s.named s.tail) ++ x)) =
+    λ x. ap (λ z. take z bs ++ x) size ∙ ap (λ (q : List ℕ). take
+    (suc (s.named + s.size)) q ++ x) s.begins
     ∙ ap (λ (q : List ℕ). 94 ∷ q) (cut_twice s.named s.size s.tail x) in
     let left : (y : List ℕ) → drop s.named (take s.named s.tail ++ y) ≡ y =
-    λ y. ap (λ z. drop z (take s.named s.tail ++ y)) (sym len) ∙ drop-append_seam (take s.named s.tail) y in
+    λ y. ap (λ z. drop z (take s.named s.tail ++ y)) (sym len)
+    ∙ drop-append_seam (take s.named s.tail) y in
     record {
       read = λ x.
           let y : List ℕ = take s.size (drop s.named s.tail) ++ x in
@@ -421,7 +441,8 @@ chunk_cut bs chunk n h =
           ∙ ap (Whole (item.Chunk chunk)) (sym s.size_is);
       some = omega (arith, size);
       fits = let f = c.fits in let b = ap length s.begins in omega (arith, size, f, l, b, fits);
-      name = subst (λ (q : Chunk). AreSpelt false q.name) (sym s.chunk_is) (name_spelt s.tail s.words s.named s.name_is);
+      name = subst (λ (q : Chunk). AreSpelt false q.name) (sym s.chunk_is)
+          (name_spelt s.tail s.words s.named s.name_is);
       parts = subst (λ (q : Chunk). AreParts q.content) (sym s.chunk_is) c.written;
     }
 
@@ -443,7 +464,8 @@ parts_dark : (parts : List Inner) (x : List ℕ) → NoBlankFirst parts → AreP
     blank_first (flat_map inner_bytes parts ++ 125 ∷ x) ≡ false
 parts_dark [] x n h = refl
 parts_dark (inner.Unit words ∷ parts) x n h =
-    ap (λ (q : List ℕ). blank_first (q ++ 125 ∷ x)) (flat_map-cons inner_bytes (inner.Unit words) parts)
+    ap (λ (q : List ℕ). blank_first (q ++ 125 ∷ x)) (flat_map-cons inner_bytes
+    (inner.Unit words) parts)
 parts_dark (inner.Blank bytes ∷ parts) x n h = absurd n
 
 pub body_back : (parts : List Inner) (x : List ℕ) → AreParts parts →
@@ -476,7 +498,8 @@ body_back (inner.Blank bytes ∷ parts) x h =
 
 pub chunk_back : (name : List Symbol) (content : List Inner) (x : List ℕ) → AreSpelt false name →
     AreParts content → first Chunked (chunk_bytes name content ++ x)
-    ≡ Whole (item.Chunk (record { name = name; content = content })) (length (chunk_bytes name content))
+    ≡ Whole (item.Chunk (record { name = name; content = content }))
+    (length (chunk_bytes name content))
 chunk_back name content x s h =
     let end : List ℕ = flat_map inner_bytes content ++ 125 ∷ 36 ∷ [] in
     let tail : List ℕ = flat_map inner_bytes content ++ 125 ∷ 36 ∷ x in

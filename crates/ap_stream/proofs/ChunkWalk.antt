@@ -168,7 +168,8 @@ module _ (bytes : List ℕ) (some : 1 ≤ length bytes) where
       tag_size (drop 1 bytes) k h s n
       (ap (sign false) (sym (first_here ∙ ap (λ b. b ∷ drop 1 bytes) is)) ∙ e)
 
-  pub symbol_bare : (k : ℕ) → eqb (get_or bytes 0 0) 92 ≡ false → eqb (get_or bytes 0 0) 60 ≡ false →
+  pub symbol_bare : (k : ℕ) → eqb (get_or bytes 0 0) 92 ≡ false →
+      eqb (get_or bytes 0 0) 60 ≡ false →
       CharSize bytes k → (s : Symbol) (n : ℕ) → sign false bytes ≡ Reads s n → k ≡ n
   symbol_bare k u v h s n e =
       bare_size (get_or bytes 0 0) (drop 1 bytes) k u v
@@ -220,59 +221,67 @@ symbol_there word (b ∷ bs) other w = by (sign false (b ∷ bs)) refl (sign_end
 module _ (bytes : List ℕ) (at : ℕ) (word : List Symbol)
     (on : rest (form_of Lexical) [] [] 0 bytes
     ≡ longer at (rest (form_of Lexical) [] word 0 (drop at bytes)))
-    (whole : (words : List (List Symbol)) × (n : ℕ) × (rest (form_of Lexical) [] [] 0 bytes ≡ Ends words n))
-    where
-  pub word_here : IsWhole (rest (form_of Lexical) [] word 0 (drop at bytes))
-  word_here = laws.whole_longer at _ (subst IsWhole (sym whole.2 ∙ on) tt)
+    (whole : (words : List (List Symbol)) × (n : ℕ) × (rest (form_of Lexical) [] [] 0 bytes
+    ≡ Ends words n))
+  where
+    pub word_here : IsWhole (rest (form_of Lexical) [] word 0 (drop at bytes))
+    word_here = laws.whole_longer at _ (subst IsWhole (sym whole.2 ∙ on) tt)
 
-  pub symbol_here : at < length bytes → (get_or bytes at 0 ≡ 36 → ⊥) → SymbolAt (drop at bytes)
-  symbol_here inside other =
-      symbol_there word (drop at bytes)
-      (ap (λ (q : List ℕ). eqb (get_or q 0 0) 36) (byte_here bytes at inside)
-      ∙ ne_eqb (get_or bytes at 0) 36 other) word_here
+    pub symbol_here : at < length bytes → (get_or bytes at 0 ≡ 36 → ⊥) → SymbolAt (drop at bytes)
+    symbol_here inside other =
+        symbol_there word (drop at bytes)
+        (ap (λ (q : List ℕ). eqb (get_or q 0 0) 36) (byte_here bytes at inside)
+        ∙ ne_eqb (get_or bytes at 0) 36 other) word_here
 
-  pub word_on : (s : SymbolAt (drop at bytes)) →
-      rest (form_of Lexical) [] [] 0 bytes
-      ≡ longer (at + s.size) (rest (form_of Lexical) [] (word ++ s.symbol ∷ []) 0 (drop (at + s.size) bytes))
-  word_on s =
-      let next : List Symbol = word ++ s.symbol ∷ [] in
-      on ∙ ap (longer at) (laws.front_reads (form_of Lexical) [] word (drop at bytes) s.symbol s.size
-      s.is s.some (let f = s.fits in let k = s.some in omega (arith, f, k)))
-      ∙ longer_longer at s.size (rest (form_of Lexical) [] (word ++ s.symbol ∷ []) 0 (drop s.size (drop at bytes)))
-      ∙ ap (λ q. longer (at + s.size) (rest (form_of Lexical) [] (word ++ s.symbol ∷ []) 0 q))
-      (drop-drop s.size at bytes)
+    pub word_on : (s : SymbolAt (drop at bytes)) →
+        rest (form_of Lexical) [] [] 0 bytes
+        ≡ longer (at + s.size) (rest (form_of Lexical) [] (word ++ s.symbol ∷ []) 0
+        (drop (at + s.size) bytes))
+    word_on s =
+        let next : List Symbol = word ++ s.symbol ∷ [] in
+        on ∙ ap (longer at) (laws.front_reads (form_of Lexical) [] word
+        (drop at bytes) s.symbol s.size
+        s.is s.some (let f = s.fits in let k = s.some in omega (arith, f, k)))
+        ∙ longer_longer at s.size (rest (form_of Lexical) [] (word ++ s.symbol ∷ []) 0
+        (drop s.size (drop at bytes)))
+        ∙ ap (λ q. longer (at + s.size) (rest (form_of Lexical) [] (word ++ s.symbol ∷ []) 0 q))
+        (drop-drop s.size at bytes)
 
-  pub word_past : (s : SymbolAt (drop at bytes)) (n : ℕ) → n ≡ s.size → (next : List Symbol)
-      × (rest (form_of Lexical) [] [] 0 bytes
-      ≡ longer (at + n) (rest (form_of Lexical) [] next 0 (drop (at + n) bytes)))
-  word_past s n e = (
-    word ++ s.symbol ∷ [],
-    subst (λ k. rest (form_of Lexical) [] [] 0 bytes
-        ≡ longer (at + k) (rest (form_of Lexical) [] (word ++ s.symbol ∷ []) 0 (drop (at + k) bytes)))
-        (sym e) (word_on s),
-  )
+    pub word_past : (s : SymbolAt (drop at bytes)) (n : ℕ) → n ≡ s.size → (next : List Symbol)
+        × (rest (form_of Lexical) [] [] 0 bytes
+        ≡ longer (at + n) (rest (form_of Lexical) [] next 0 (drop (at + n) bytes)))
+    word_past s n e = (
+      word ++ s.symbol ∷ [],
+      subst (λ k. rest (form_of Lexical) [] [] 0 bytes
+          ≡ longer (at + k) (rest (form_of Lexical) [] (word ++ s.symbol ∷ []) 0
+          (drop (at + k) bytes)))
+          (sym e) (word_on s),
+    )
 
-  pub word_ends : at < length bytes → get_or bytes at 0 ≡ 36 →
-      rest (form_of Lexical) [] [] 0 bytes ≡ Ends (word ∷ []) (at + 1)
-  word_ends inside is =
-      let there : drop at bytes ≡ 36 ∷ drop (at + 1) bytes =
-      byte_here bytes at inside ∙ ap (λ b. b ∷ drop (at + 1) bytes) is in
-      let here : rest (form_of Lexical) [] word 0 (drop at bytes)
-      ≡ cond (may_end (form_of Lexical) [] word) (Ends (word ∷ []) 1) (Wrong (early (form_of Lexical))) =
-      ap (rest (form_of Lexical) [] word 0) there
-      ∙ rest_dollar (form_of Lexical) [] word (drop (at + 1) bytes) in
-      on ∙ ap (longer at) (here ∙ only (may_end (form_of Lexical) [] word) (subst IsWhole here word_here))
-    where
-      only : (may : Bool) → IsWhole (cond may (Ends (word ∷ []) 1) (Wrong EmptyWord)) →
-          cond may (Ends (word ∷ []) 1) (Wrong EmptyWord) ≡ Ends (word ∷ []) 1
-      only true h = refl
-      only false h = absurd h
+    pub word_ends : at < length bytes → get_or bytes at 0 ≡ 36 →
+        rest (form_of Lexical) [] [] 0 bytes ≡ Ends (word ∷ []) (at + 1)
+    word_ends inside is =
+        let there : drop at bytes ≡ 36 ∷ drop (at + 1) bytes =
+        byte_here bytes at inside ∙ ap (λ b. b ∷ drop (at + 1) bytes) is in
+        let here : rest (form_of Lexical) [] word 0 (drop at bytes)
+        ≡ cond (may_end (form_of Lexical) [] word) (Ends (word ∷ []) 1)
+        (Wrong (early (form_of Lexical))) =
+        ap (rest (form_of Lexical) [] word 0) there
+        ∙ rest_dollar (form_of Lexical) [] word (drop (at + 1) bytes) in
+        on ∙ ap (longer at) (here ∙ only (may_end (form_of Lexical) [] word)
+        (subst IsWhole here word_here))
+      where
+        only : (may : Bool) → IsWhole (cond may (Ends (word ∷ []) 1) (Wrong EmptyWord)) →
+            cond may (Ends (word ∷ []) 1) (Wrong EmptyWord) ≡ Ends (word ∷ []) 1
+        only true h = refl
+        only false h = absurd h
 
-  pub word_over : length bytes ≤ at → ⊥
-  unfolding rest
-  word_over past =
-      subst (λ (q : List ℕ). IsWhole (rest (form_of Lexical) [] word 0 q)) (drop_all at bytes past)
-      word_here
+    pub word_over : length bytes ≤ at → ⊥
+    unfolding rest
+    word_over past =
+        subst (λ (q : List ℕ). IsWhole (rest (form_of Lexical) [] word 0 q))
+        (drop_all at bytes past)
+        word_here
 
 -- a chunk's name
 
@@ -293,9 +302,11 @@ module _ (held : List ℕ) (at : ℕ) (word : List Symbol) (behind : 1 ≤ at)
       ≡ longer ((at + n) - 1) (rest (form_of Chunked) [] (word ++ s ∷ []) 0 (drop (at + n) held))
   name_on s n e some fits =
       let r : Rest = rest (form_of Chunked) [] (word ++ s ∷ []) 0 (drop (at + n) held) in
-      on ∙ ap (longer (at - 1)) (laws.front_reads (form_of Chunked) [] word (drop at held) s n e some
+      on ∙ ap (longer (at - 1)) (laws.front_reads (form_of Chunked) [] word
+      (drop at held) s n e some
       (omega (arith, some, fits)))
-      ∙ longer_longer (at - 1) n (rest (form_of Chunked) [] (word ++ s ∷ []) 0 (drop n (drop at held)))
+      ∙ longer_longer (at - 1) n (rest (form_of Chunked) [] (word ++ s ∷ []) 0
+      (drop n (drop at held)))
       ∙ ap (λ q. longer ((at - 1) + n) (rest (form_of Chunked) [] (word ++ s ∷ []) 0 q))
       (drop-drop n at held)
       ∙ ap (λ k. longer k r) (let k : (at - 1) + n ≡ (at + n) - 1 = omega (arith, behind) in k)
@@ -309,11 +320,13 @@ module _ (held : List ℕ) (at : ℕ) (word : List Symbol) (behind : 1 ≤ at)
 
   pub no_slash : sign false (drop at held) ≡ Slash → at < length held → ⊥
   no_slash e inside =
-      subst IsWhole (laws.front_slash (form_of Chunked) [] word (drop at held) e (left inside)) name_here
+      subst IsWhole (laws.front_slash (form_of Chunked) [] word (drop at held) e
+      (left inside)) name_here
 
   pub no_dollar : sign false (drop at held) ≡ Dollar → at < length held → ⊥
   no_dollar e inside =
-      subst IsWhole (laws.front_dollar (form_of Chunked) [] word (drop at held) e (left inside)) name_here
+      subst IsWhole (laws.front_dollar (form_of Chunked) [] word (drop at held) e
+      (left inside)) name_here
 
   pub no_symbol : Barren (sign false (drop at held)) → ⊥
   no_symbol h = laws.front_barren (form_of Chunked) [] word (drop at held) h name_here
@@ -356,7 +369,8 @@ IsClosed Opens = ⊥
 IsClosed (Fails kind) = ⊥
 IsClosed (Closes parts n) = Unit {0}
 
-closed_behind : (parts : List Inner) (n : ℕ) (b : Body) → IsClosed (behind_parts parts n b) → IsClosed b
+closed_behind : (parts : List Inner) (n : ℕ) (b : Body) → IsClosed (behind_parts parts n b) →
+    IsClosed b
 closed_behind parts n Opens h = h
 closed_behind parts n (Fails kind) h = h
 closed_behind parts n (Closes more m) h = tt
@@ -520,13 +534,15 @@ module _ (bytes : List ℕ) (whole : (all : List Inner) × (n : ℕ) × (body 0 
       let back : drop n (drop 1 bytes) ≡ drop (1 + n) bytes = drop-drop n 1 bytes in
       ap (body 0) (front_is ∙ ap (λ b. b ∷ drop 1 bytes) is) ∙ unit_part (drop 1 bytes) words n r
       ∙ ap (λ (q : List ℕ). behind_part (inner.Unit words) (1 + n) (body 0 q)) back
-      ∙ ap (λ (q : List (List Symbol)). behind_part (inner.Unit q) (1 + n) (body 0 (drop (1 + n) bytes)))
+      ∙ ap (λ (q : List (List Symbol)). behind_part (inner.Unit q) (1 + n)
+      (body 0 (drop (1 + n) bytes)))
       same
 
   pub run_some : (get_or bytes 0 0 ≡ 125 → ⊥) → (get_or bytes 0 0 ≡ 94 → ⊥) → (n : ℕ) →
       blank 0 bytes ≡ Done n → 0 < n
   run_some u v n r =
-      blank_some (get_or bytes 0 0) (drop 1 bytes) n (white_begins u v) (ap (blank 0) (sym front_is) ∙ r)
+      blank_some (get_or bytes 0 0) (drop 1 bytes) n (white_begins u v)
+      (ap (blank 0) (sym front_is) ∙ r)
 
   pub behind_run : (get_or bytes 0 0 ≡ 125 → ⊥) → (get_or bytes 0 0 ≡ 94 → ⊥) → (n : ℕ) →
       (made : List ℕ) → blank 0 bytes ≡ Done n → made ≡ take n bytes →
@@ -536,7 +552,8 @@ module _ (bytes : List ℕ) (whole : (all : List Inner) × (n : ℕ) × (body 0 
       (sym m)
       (subst (λ (q : List ℕ). body 0 q ≡ behind_part (inner.Blank (take n q)) n (body 0 (drop n q)))
       (sym front_is)
-      (run_part (get_or bytes 0 0) (drop 1 bytes) n (white_begins u v) (ap (blank 0) (sym front_is) ∙ r)
+      (run_part (get_or bytes 0 0) (drop 1 bytes) n (white_begins u v)
+      (ap (blank 0) (sym front_is) ∙ r)
       (run_some u v n r)))
 
 module _ (bytes : List ℕ) (at : ℕ) (parts : List Inner)
@@ -563,9 +580,11 @@ module _ (bytes : List ℕ) (at : ℕ) (parts : List Inner)
       (n : ℕ) × (body 0 bytes ≡ Closes parts n)
   content_ends inside is =
       let there : drop at bytes ≡ 125 ∷ drop (at + 1) bytes =
-      byte_here bytes at inside ∙ ap (λ b. b ∷ drop (at + 1) bytes) is in
-      (at + 2, by there (content_begins 125 (drop (at + 1) bytes)
-      (subst (λ (q : List ℕ). IsClosed (body 0 q)) there content_here)))
+      byte_here bytes at inside ∙ ap (λ b. b ∷ drop (at + 1) bytes) is in (
+        at + 2,
+        by there (content_begins 125 (drop (at + 1) bytes)
+            (subst (λ (q : List ℕ). IsClosed (body 0 q)) there content_here)),
+      )
     where
       no_unit : (b : ℕ) → b ≡ 125 → b ≡ 94 → ⊥
       no_unit b z y = omega (arith, z, y)
@@ -613,7 +632,8 @@ shaped (b ∷ bs) chunk k h = by_blank (begins_blank b) h
   where
     of_body_at : b ≡ 94 → (words : List (List Symbol)) (n : ℕ) →
         rest (form_of Chunked) [] [] 0 bs ≡ Ends words n → (z : Body) → body n bs ≡ z →
-        of_body (name_in words) [] (1 + n) z ≡ Whole (item.Chunk chunk) k → IsShaped (b ∷ bs) chunk k
+        of_body (name_in words) [] (1 + n) z ≡ Whole (item.Chunk chunk) k →
+        IsShaped (b ∷ bs) chunk k
     of_body_at is words n e Opens f h = absurd (cc)
     of_body_at is words n e (Fails kind) f h = absurd (cc)
     of_body_at is words n e (Closes parts m) f h =
@@ -660,7 +680,8 @@ shaped (b ∷ bs) chunk k h = by_blank (begins_blank b) h
         at false h = cc
 
     by_unit : (v : Bool) → eqb b 94 ≡ v →
-        cond v (of_chunk bs (rest (form_of Chunked) [] [] 0 bs)) (of_char Chunked (char_at (b ∷ bs)))
+        cond v (of_chunk bs (rest (form_of Chunked) [] [] 0 bs))
+        (of_char Chunked (char_at (b ∷ bs)))
         ≡ Whole (item.Chunk chunk) k → IsShaped (b ∷ bs) chunk k
     by_unit true e h = of_rest (eqb-true b 94 e) (rest (form_of Chunked) [] [] 0 bs) refl h
     by_unit false e h = absurd (no_letter (char_at (b ∷ bs)) h)
@@ -690,9 +711,12 @@ pub name_whole : (held : List ℕ) (chunk : Chunk) → ChunkOf held chunk →
     (words : List (List Symbol)) × (n : ℕ)
     × (rest (form_of Chunked) [] [] 0 (drop 1 held) ≡ Ends words n)
 name_whole held chunk h =
-    let s = shape_of held chunk h in
-    (s.words, s.named, ap (λ (q : List ℕ). rest (form_of Chunked) [] [] 0 (drop 1 q)) s.begins
-    ∙ s.name_is)
+    let s = shape_of held chunk h in (
+      s.words,
+      s.named,
+      ap (λ (q : List ℕ). rest (form_of Chunked) [] [] 0 (drop 1 q)) s.begins
+          ∙ s.name_is,
+    )
 
 abbrev ends_at : Rest → ℕ
 ends_at Lacks = 0
@@ -723,7 +747,8 @@ module _ (held : List ℕ) (chunk : Chunk) (h : ChunkOf held chunk) (name : List
   content_whole =
       let n : shape.named ≡ end - 1 = ap ends_at both in
       let e : end ≡ suc shape.named = omega (arith, n, behind) in
-      ap (λ k. body 0 (drop k held)) e ∙ ap (λ (q : List ℕ). body 0 (drop (suc shape.named) q)) shape.begins
+      ap (λ k. body 0 (drop k held)) e ∙ ap (λ (q : List ℕ). body 0
+      (drop (suc shape.named) q)) shape.begins
       ∙ shape.body_is
 
   pub chunk_made : (parts : List Inner) (n : ℕ) → body 0 (drop end held) ≡ Closes parts n →

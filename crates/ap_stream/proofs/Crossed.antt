@@ -259,9 +259,11 @@ crossed_in dialect (level.Part from at) to held run some all h =
     let grown : InPart dialect from (held ++ run) = part_grows dialect from held h.0 run in
     let inner : drop from held ++ run ≡ drop from (held ++ run) =
     sym (inner_on dialect from held h.0 run) in
-    subst (λ (z : Level). StandsIn dialect z (held ++ run) []) (sym all.1)
-    (grown, subst (λ (q : List ℕ). StandsPart all.0 q []) inner
-    (crossed_part at all.0 (drop from held) run (between at) refl h.1 some all.2))
+    subst (λ (z : Level). StandsIn dialect z (held ++ run) []) (sym all.1) (
+      grown,
+      subst (λ (q : List ℕ). StandsPart all.0 q []) inner
+          (crossed_part at all.0 (drop from held) run (between at) refl h.1 some all.2),
+    )
   where
     crossed_part : (at to : Mode) (held run : List ℕ) (b : Bool) → between at ≡ b →
         StandsPart at held [] → 0 < length run → AllCross Lexical at to (length run) run →

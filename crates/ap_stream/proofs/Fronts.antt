@@ -167,7 +167,8 @@ unfolding first
 unit_cut dialect [] words n h = absurd (cc)
 unit_cut dialect (b ∷ bs) words n h = by_blank (begins_blank b) h
   where
-    of_rest : begins_unit dialect b ≡ true → has_words dialect ≡ true → (r : Rest) → rest (form_of dialect) [] [] 0 bs ≡ r →
+    of_rest : begins_unit dialect b ≡ true → has_words dialect ≡ true → (r : Rest) →
+        rest (form_of dialect) [] [] 0 bs ≡ r →
         of_unit r ≡ Whole (item.Unit words) n → UnitOf dialect (take n (b ∷ bs)) words × (0 < n)
         × (n ≤ length (b ∷ bs))
     of_rest u w Lacks e h = absurd (cc)
@@ -233,7 +234,8 @@ unit_cut dialect (b ∷ bs) words n h = by_blank (begins_blank b) h
 
     by_unit : (v : Bool) → begins_unit dialect b ≡ v →
         cond v (of_caret dialect bs (rest (form_of dialect) [] [] 0 bs))
-        (of_char dialect (char_at (b ∷ bs))) ≡ Whole (item.Unit words) n → UnitOf dialect (take n (b ∷ bs)) words × (0 < n)
+        (of_char dialect (char_at (b ∷ bs))) ≡ Whole (item.Unit words) n →
+        UnitOf dialect (take n (b ∷ bs)) words × (0 < n)
         × (n ≤ length (b ∷ bs))
     by_unit true u h =
         of_caret_at u (has_chunks dialect) refl (rest (form_of dialect) [] [] 0 bs) refl h

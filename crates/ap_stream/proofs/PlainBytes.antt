@@ -138,7 +138,8 @@ module _ (c n : ℕ) (bytes : List ℕ) (e : encode_utf8 c ≡ take n bytes) whe
   ) at w
 
   is_letter : is_stop c ≡ false → eqb c 60 ≡ false → eqb c 123 ≡ false →
-      is_barred false c ≡ false → eqb c 43 ≡ false → eqb c 35 ≡ false → eqb c 126 ≡ false → eqb c 42 ≡ false → eqb c 64 ≡ false →
+      is_barred false c ≡ false → eqb c 43 ≡ false → eqb c 35 ≡ false → eqb c 126 ≡ false →
+      eqb c 42 ≡ false → eqb c 64 ≡ false →
       symbol_bytes (symbol.Letter c) ≡ take n bytes
   is_letter h angle brace bars j q a s t =
       rw (

@@ -140,7 +140,8 @@ module _ (dialect : Dialect) where
       (subst (λ (q : List (List ℕ)). RunCut dialect [] q (blank 0 [])) (sym f) here)
   run_cut text supers (piece front rest own more p h e f) = by p (run_cut rest more h)
     where
-      whole : (given : List (List ℕ)) → IsWhole dialect given front → RunCut dialect text supers (blank 0 text)
+      whole : (given : List (List ℕ)) → IsWhole dialect given front →
+          RunCut dialect text supers (blank 0 text)
       whole given w = no_blank text supers (let l = ap length e ∙ length-append front rest in
           omega (arith, l, w.some)) (ap blank_first e ∙ on front w.some w.dark)
           (piece front rest own more p h e f)

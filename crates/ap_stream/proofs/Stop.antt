@@ -39,7 +39,8 @@ module _ {H : Type 0} (is_finished : H → Bool) (held : H → ℕ) (dialect : H
       }
 
   -- how many bytes of the piece are held now
-  pub used_at_stop : (old new : Begun) (piece : List ℕ) (f : StreamFault) (shown : Shows f old piece new) → length new.held - length old.held ≡ shown.used
+  pub used_at_stop : (old new : Begun) (piece : List ℕ) (f : StreamFault)
+      (shown : Shows f old piece new) → length new.held - length old.held ≡ shown.used
   used_at_stop old new piece f shown =
       let e : length new.held ≡ length old.held + length (take shown.used piece) =
       ap length shown.held ∙ length-append old.held (take shown.used piece) in

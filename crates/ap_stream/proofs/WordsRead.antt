@@ -429,7 +429,8 @@ pub name_spelt : (bs : List ℕ) (words : List (List Symbol)) (n : ℕ) →
 name_spelt bs words n e =
     by words (subst (Good (form_of Chunked)) e (rest_good (form_of Chunked) [] [] 0 bs tt))
   where
-    by : (ws : List (List Symbol)) → Good (form_of Chunked) (Ends ws n) → AreSpelt false (name_in ws)
+    by : (ws : List (List Symbol)) → Good (form_of Chunked) (Ends ws n) →
+        AreSpelt false (name_in ws)
     by [] h = tt
     by (word ∷ ws) h = h.1
 
@@ -487,7 +488,8 @@ fine_body dialect name parts n (Closes more m) = tt
 fine_chunk : (dialect : Dialect) (bytes : List ℕ) (r : Rest) → Fine dialect (of_chunk bytes r)
 fine_chunk dialect bytes Lacks = tt
 fine_chunk dialect bytes (Wrong kind) = tt
-fine_chunk dialect bytes (Ends words n) = fine_body dialect (name_in words) [] (1 + n) (body n bytes)
+fine_chunk dialect bytes (Ends words n) = fine_body dialect (name_in words) [] (1 + n)
+    (body n bytes)
 
 fine_caret : (dialect : Dialect) (bytes : List ℕ) (r : Rest) → has_units dialect ≡ true →
     Good (form_of dialect) r → Fine dialect (of_caret dialect bytes r)

@@ -8,7 +8,8 @@ use Rattle.ap_stream.specs.Reading.{Whole, first}
 
 -- such bytes are the chunk, whatever follows
 abbrev pub ChunkOf : List ℕ → Chunk → Type 0
-ChunkOf bytes chunk = (x : List ℕ) → first Chunked (bytes ++ x) ≡ Whole (item.Chunk chunk) (length bytes)
+ChunkOf bytes chunk = (x : List ℕ) → first Chunked (bytes ++ x)
+    ≡ Whole (item.Chunk chunk) (length bytes)
 
 -- the character at the front has so many bytes, if it is one
 abbrev pub CharSize : List ℕ → ℕ → Type 0

@@ -100,7 +100,8 @@ stands_byte dialect held b false h e =
           record { old = []; byte = b; part_is = h; stands = (refl, nothing_part, refl) };
     }
 
-pub stands_waits : (dialect : Dialect) (at : Level) (done : ℕ) (held : List ℕ) → done ≤ length held →
+pub stands_waits : (dialect : Dialect) (at : Level) (done : ℕ) (held : List ℕ) →
+    done ≤ length held →
     Looks dialect at done held shown.Waits → Standing dialect true at done held
 stands_waits dialect at done held fits h = record { fits = fits; short = λ _. h.1; stands = h.0 }
 

@@ -178,7 +178,8 @@ name_ends dialect at done h braced =
           rest_brace (form_of dialect) h.words h.word x ∙ rw braced refl in
           let back : drop (length h.tail + 1) (h.tail ++ (123 ∷ x)) ≡ x =
           drop-append-add h.tail (123 ∷ x) 1 in
-          let none : drop (length all) all ++ x ≡ x = ap (λ (q : List ℕ). q ++ x) (drop-length all) in
+          let none : drop (length all) all ++ x ≡ x = ap (λ (q : List ℕ). q ++ x)
+          (drop-length all) in
           unit_front dialect at done h (123 ∷ []) x (Ends words 1) e ∙ rw chunks
           (ap (of_body (name_in words) [] (1 + (length h.tail + 1)))
           (body_skip (length h.tail + 1) (h.tail ++ (123 ∷ x)) ∙ ap (body 0) (back ∙ sym none))
@@ -227,7 +228,8 @@ module _ (dialect : Dialect) (from : ℕ) (done : List ℕ) (h : InPart dialect 
     begins = h.begins;
     fits = omega arith;
     on = λ x.
-        let none : drop (length done) done ++ x ≡ x = ap (λ (q : List ℕ). q ++ x) (drop-length done) in
+        let none : drop (length done) done ++ x ≡ x = ap (λ (q : List ℕ). q ++ x)
+        (drop-length done) in
         h.on x ∙ ap (of_body h.name h.parts from) (body_held (drop from done) x part some (e x))
         ∙ of_behind h.name h.parts from (length (drop from done)) part (body 0 x)
         ∙ ap (λ n. of_body h.name (h.parts ++ part ∷ []) n (body 0 x)) (sym inner_length)
@@ -280,7 +282,8 @@ module _ (dialect : Dialect) (done : List ℕ) (h : InClosed dialect done) where
   closed_chunk = record { name = h.name; content = h.parts ++ [] }
 
   pub closed_whole : (x : List ℕ) →
-      first dialect ((done ++ 36 ∷ []) ++ x) ≡ Whole (item.Chunk closed_chunk) (length (done ++ 36 ∷ []))
+      first dialect ((done ++ 36 ∷ []) ++ x) ≡ Whole (item.Chunk closed_chunk)
+      (length (done ++ 36 ∷ []))
   closed_whole x =
       let size : h.before + 2 ≡ length (done ++ 36 ∷ []) =
       let l = length-append done (36 ∷ []) in let s = h.size in omega (arith, l, s) in
@@ -296,15 +299,19 @@ only_chunked Bilingual h = absurd (cc)
 only_chunked Chunked h = refl
 only_chunked Generated h = absurd (cc)
 
-pub chunk_bytes_of : (dialect : Dialect) (held : List ℕ) (chunk : Chunk) → has_chunks dialect ≡ true →
+pub chunk_bytes_of : (dialect : Dialect) (held : List ℕ) (chunk : Chunk) →
+    has_chunks dialect ≡ true →
     ((x : List ℕ) → first dialect (held ++ x) ≡ Whole (item.Chunk chunk) (length held)) →
     ChunkOf held chunk
 chunk_bytes_of dialect held chunk has h =
-    subst (λ (d : Dialect). (x : List ℕ) → first d (held ++ x) ≡ Whole (item.Chunk chunk) (length held))
+    subst (λ (d : Dialect). (x : List ℕ) → first d (held ++ x)
+    ≡ Whole (item.Chunk chunk) (length held))
     (only_chunked dialect has) h
 
 pub chunk_always : (dialect : Dialect) (held : List ℕ) (chunk : Chunk) → has_chunks dialect ≡ true →
-    ChunkOf held chunk → (x : List ℕ) → first dialect (held ++ x) ≡ Whole (item.Chunk chunk) (length held)
+    ChunkOf held chunk → (x : List ℕ) → first dialect (held ++ x)
+    ≡ Whole (item.Chunk chunk) (length held)
 chunk_always dialect held chunk has h =
-    subst (λ (d : Dialect). (x : List ℕ) → first d (held ++ x) ≡ Whole (item.Chunk chunk) (length held))
+    subst (λ (d : Dialect). (x : List ℕ) → first d (held ++ x)
+    ≡ Whole (item.Chunk chunk) (length held))
     (sym (only_chunked dialect has)) h

@@ -78,7 +78,8 @@ ReadsWords = (dialect : Dialect) (text : List ℕ) (words : List (List Symbol)) 
 abbrev pub ChunksReadBack : Type 0
 ChunksReadBack = (name : List Symbol) (content : List Inner) (x : List ℕ) → AreSpelt false name →
     AreParts content → first Chunked (chunk_bytes name content ++ x)
-    ≡ Whole (item.Chunk (record { name = name; content = content })) (length (chunk_bytes name content))
+    ≡ Whole (item.Chunk (record { name = name; content = content }))
+    (length (chunk_bytes name content))
 
 -- a chunk that is read can be written: its name is a word, and its content is of such parts
 abbrev pub ChunksAreWritten : Type 0

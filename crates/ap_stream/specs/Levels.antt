@@ -129,7 +129,8 @@ part_begins (mode.Word at) done part e h = unit_part at done h.0
 part_begins (mode.WordEscape at) done part e h =
     ap part_first h.0.done_is ∙ part_on h.0.before (92 ∷ []) (unit_part at h.0.before h.0.unit)
 part_begins (mode.Tag at some) done part e h =
-    ap part_first h.0.done_is ∙ part_on h.0.before (60 ∷ h.0.named) (unit_part at h.0.before h.0.unit)
+    ap part_first h.0.done_is ∙ part_on h.0.before (60 ∷ h.0.named)
+    (unit_part at h.0.before h.0.unit)
 
 pub part_stands : (at : Mode) (done part : List ℕ) → between at ≡ false → StandsPart at done part →
     Stands Lexical at done part
@@ -168,13 +169,15 @@ begun_chunk : (dialect : Dialect) (held : List ℕ) → first dialect held ≡ N
 begun_chunk dialect held n c =
     record { needs = n; whole_is = λ e. absurd (cc); broken_is = λ _. last_caret held c }
 
-open_part : (at : Mode) (done part : List ℕ) → (b : Bool) → between at ≡ b → StandsPart at done part →
+open_part : (at : Mode) (done part : List ℕ) → (b : Bool) → between at ≡ b →
+    StandsPart at done part →
     body 0 (done ++ part) ≡ Opens
 open_part at done part false e h =
     let begins : part_first done ≡ true = part_begins at done part e h in
     let n : first Lexical (done ++ part) ≡ Needs =
     (begun Lexical at done part (part_stands at done part e h)
-    (let l = length-append done part in let s = part_some done begins in omega (arith, l, s))).needs in
+    (let l = length-append done part in let s = part_some done begins in
+    omega (arith, l, s))).needs in
     let a = part_agrees (done ++ part) (part_on done part begins) in
     body_begun (done ++ part) (a.0 ∙ ap portion_of n)
 open_part mode.Start done part true e h = rw (h.0, h.1) body_nil
@@ -186,12 +189,14 @@ open_part (mode.Word at) done part true e h = absurd (cc)
 open_part (mode.WordEscape at) done part true e h = absurd (cc)
 open_part (mode.Tag at some) done part true e h = absurd (cc)
 
-pub begun_in : (dialect : Dialect) (at : Level) (done part : List ℕ) → StandsIn dialect at done part →
+pub begun_in : (dialect : Dialect) (at : Level) (done part : List ℕ) →
+    StandsIn dialect at done part →
     0 < length (done ++ part) → Begins dialect (done ++ part) (at_blank_in at)
 begun_in dialect (level.Item at) done part h some = begun dialect at done part h some
 begun_in dialect (level.Part from at) done part h some =
     let grown : InPart dialect from (done ++ part) = part_grows dialect from done h.0 part in
-    let inner : drop from (done ++ part) ≡ drop from done ++ part = inner_on dialect from done h.0 part in
+    let inner : drop from (done ++ part) ≡ drop from done ++ part =
+    inner_on dialect from done h.0 part in
     begun_chunk dialect (done ++ part)
     (part_needs dialect from (done ++ part) grown
     (ap (body 0) inner ∙ open_part at (drop from done) part (between at) refl h.1))
@@ -205,8 +210,10 @@ pub begun_at : (dialect : Dialect) (held : List ℕ) (done : ℕ) (at : Level) �
     StandsIn dialect at (take done held) (drop done held) → 0 < length held →
     Begins dialect held (at_blank_in at)
 begun_at dialect held done at h some =
-    let more : 0 < length (take done held ++ drop done held) = rw (take-append-drop done held) some in
-    rw (take-append-drop done held) at (begun_in dialect at (take done held) (drop done held) h more)
+    let more : 0 < length (take done held ++ drop done held) =
+    rw (take-append-drop done held) some in
+    rw (take-append-drop done held) at (begun_in dialect at (take done held)
+    (drop done held) h more)
 
 pub in_blank_at : (dialect : Dialect) (held : List ℕ) (done : ℕ) (at : Level) →
     StandsIn dialect at (take done held) (drop done held) → at_blank_in at ≡ true → InBlank held
@@ -263,12 +270,17 @@ module _ (dialect : Dialect) (at : Level) (done : List ℕ) (b from : ℕ)
       (λ e. goes_part mode.Inside
       (subst (λ z. Within false (z ∷ []) []) (sym (eqb-true b 91 e)) begin_bracket))
       (λ k. by_cond Told (eqb b 94) _ _
-      (λ e. goes_part (mode.Word (spot true true))
-      (subst (λ z. InUnit Lexical (spot true true) (z ∷ [])) (sym (eqb-true b 94 e))
-      (unit_begins Lexical refl), nothing_part))
+      (λ e. goes_part (mode.Word (spot true true)) (
+        subst (λ z. InUnit Lexical (spot true true) (z ∷ [])) (sym (eqb-true b 94 e))
+            (unit_begins Lexical refl),
+        nothing_part,
+      ))
       (λ l. by_cond Told (eqb b 125) _ _
-      (λ e. (part_closes dialect from (done ++ b ∷ []) h
-      (inner ∙ ap (λ z. z ∷ []) (eqb-true b 125 e)), refl))
+      (λ e. (
+        part_closes dialect from (done ++ b ∷ []) h
+            (inner ∙ ap (λ z. z ∷ []) (eqb-true b 125 e)),
+        refl,
+      ))
       (λ m. (
         part_fails dialect from (done ++ b ∷ []) h (wrong_byte b)
             (λ x. ap (λ (q : List ℕ). body 0 (q ++ x)) inner
@@ -302,7 +314,8 @@ between_told dialect from (mode.WordEscape spot) done part e h = absurd (cc)
 between_told dialect from (mode.Tag spot some) done part e h = absurd (cc)
 
 -- within a part
-module _ (dialect : Dialect) (from : ℕ) (at : Mode) (done part : List ℕ) (within : between at ≡ false)
+module _ (dialect : Dialect) (from : ℕ) (at : Mode) (done part : List ℕ)
+    (within : between at ≡ false)
     (h : StoodIn dialect (level.Part from at) done part) where
   begins : part_first (drop from done) ≡ true
   begins = part_begins at (drop from done) h.old within h.stands.1
@@ -369,14 +382,16 @@ module _ (dialect : Dialect) (from : ℕ) (at : Mode) (done part : List ℕ) (wi
       λ x. rw inner_is (portion_is (Whole (item.Unit s.0) (length (drop from done ++ part)))
       (unit_always Lexical (drop from done ++ part) s.0 s.1) x) in
       subst
-      (λ n. InPart dialect n (done ++ part) × StandsPart mode.Start (drop n (done ++ part)) []) all
-      (part_ends dialect from (done ++ part) grown (inner.Unit s.0) some there,
-      (drop-length (done ++ part), refl))
+      (λ n. InPart dialect n (done ++ part) × StandsPart mode.Start (drop n (done ++ part)) []) all (
+        part_ends dialect from (done ++ part) grown (inner.Unit s.0) some there,
+        (drop-length (done ++ part), refl),
+      )
 
   pub bad_told : (kind : MalformedKind) → Sees Lexical at (drop from done) part (seen.Bad kind) →
       Tells dialect (level.Part from at) done part (shown.Bad kind)
   bad_told kind s = (
-    part_fails dialect from (done ++ part) grown kind (λ x. ap (λ (q : List ℕ). body 0 (q ++ x)) inner_is
+    part_fails dialect from (done ++ part) grown kind (λ x. ap
+        (λ (q : List ℕ). body 0 (q ++ x)) inner_is
         ∙ body_barred ((drop from done ++ part) ++ x) kind (part_some _ (begins_all x))
         (portion_is (Faulty (Bad kind)) s.0 x)),
     s.1,
@@ -400,14 +415,19 @@ module _ (dialect : Dialect) (done part : List ℕ) (h : StoodIn dialect level.C
       let is : h.byte ≡ 36 =
       eqb-true h.byte 36 (ap (λ (q : List ℕ). eqb (get_or q 0 0) 36) (sym only_byte) ∙ e) in
       let all : part ≡ 36 ∷ [] = only_byte ∙ ap (λ z. z ∷ []) is in
-      subst (λ (q : List ℕ). Tells dialect level.Closed done q shown.ChunkEnds) (sym all)
-      (closed_chunk dialect done h.stands.0, h.stands.0.chunks, closed_whole dialect done h.stands.0)
+      subst (λ (q : List ℕ). Tells dialect level.Closed done q shown.ChunkEnds) (sym all) (
+        closed_chunk dialect done h.stands.0,
+        h.stands.0.chunks,
+        closed_whole dialect done
+            h.stands.0,
+      )
 
   pub no_dollar_told : eqb (get_or part 0 0) 36 ≡ false →
       Tells dialect level.Closed done part (shown.Bad (wrong_front (char_at part)))
   no_dollar_told e =
       let other : eqb h.byte 36 ≡ false =
       ap (λ (q : List ℕ). eqb (get_or q 0 0) 36) (sym only_byte) ∙ e in
-      subst (λ (q : List ℕ). Tells dialect level.Closed done q (shown.Bad (wrong_front (char_at q))))
+      subst (λ (q : List ℕ). Tells dialect level.Closed done q
+      (shown.Bad (wrong_front (char_at q))))
       (sym only_byte)
       (closed_wrong dialect done h.stands.0 h.byte other, wrong_kind (char_at (h.byte ∷ [])))

@@ -157,7 +157,8 @@ module _ (dialect : Dialect) (at : Level) (done : ℕ) (held : List ℕ) where
   looks_short shown.TooLong fits h = absurd h
 
   -- before the byte past the limit, more was needed
-  pub needs_before : StoodIn dialect at (take done held) (drop done held) → length held ≡ begun_max →
+  pub needs_before : StoodIn dialect at (take done held) (drop done held) →
+      length held ≡ begun_max →
       first dialect (take item_max held) ≡ Needs
   needs_before h l =
       let old : List ℕ = take done held ++ h.old in
@@ -205,7 +206,8 @@ module _ (dialect : Dialect) (at : Level) (done : ℕ) (held : List ℕ) where
 
   pub looks_long : (s : Shown) → s ≢ shown.BlankEnds →
       StoodIn dialect at (take done held) (drop done held) → length held ≡ begun_max →
-      Tells dialect at (take done held) (drop done held) s → Looks dialect at done held shown.TooLong
+      Tells dialect at (take done held) (drop done held) s →
+      Looks dialect at done held shown.TooLong
   looks_long shown.Waits differs h l s =
       past_all h l Needs (needs_all at (take done held) (drop done held)
       (take-append-drop done held) s l)
@@ -236,7 +238,7 @@ module _ (dialect : Dialect) (at : Level) (done : ℕ) (held : List ℕ) where
       let n : length all ≡ begun_max = ap length (take-append-drop done held) ∙ l in
       let long : leb (length all) item_max ≡ false = rw (item_max_is, n) refl in
       λ x. past_all h l (Whole (item.Chunk s.0) (length all))
-          (all_now (Whole (item.Chunk s.0) (length all)) s.2) x ∙ rw long refl
+      (all_now (Whole (item.Chunk s.0) (length all)) s.2) x ∙ rw long refl
   looks_long shown.BlankEnds differs h l s = absurd (differs refl)
   looks_long (shown.Bad kind) differs h l s =
       past_all h l (Faulty (Bad kind)) (all_now (Faulty (Bad kind)) s.0)

@@ -69,7 +69,6 @@ pub data IsPiece (dialect : Dialect) (bytes : List ℕ) : List (List ℕ) → Ty
       → IsPiece dialect bytes superblanks
   unit : {superblanks : List (List ℕ)} → IsUnit dialect bytes → superblanks ≡ []
       → IsPiece dialect bytes superblanks
-
   chunk : {superblanks : List (List ℕ)} (c : IsChunk dialect bytes) →
       superblanks ≡ flat_map inner_supers c.chunk.content → IsPiece dialect bytes superblanks
 

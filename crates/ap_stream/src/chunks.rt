@@ -97,8 +97,10 @@ fn symbol_size(bytes: &[u8]) -> usize
 
 /// How many bytes the rest of a unit of one word has, behind its `^`.
 fn unit_size(bytes: &[u8]) -> usize
-    requires { (words : List (List Symbol)) × (n : ℕ) × (rest (form_of Lexical) [] [] 0 bytes.now ≡ Ends words n) }
-    ensures size { (words : List (List Symbol)) × (rest (form_of Lexical) [] [] 0 bytes.now ≡ Ends words result) }
+    requires { (words : List (List Symbol)) × (n : ℕ)
+        × (rest (form_of Lexical) [] [] 0 bytes.now ≡ Ends words n) }
+    ensures size { (words : List (List Symbol))
+        × (rest (form_of Lexical) [] [] 0 bytes.now ≡ Ends words result) }
     ensures most { result ≤ length bytes.now }
 {
     let mut at = 0;
@@ -131,7 +133,8 @@ fn part_at(alloc: Global, bytes: &[u8]) -> Result<PartEnd, Memory>
     requires whole { (parts : List InnerIs) × (n : ℕ) × (body 0 bytes.now ≡ Closes parts n) }
     requires some { 0 < length bytes.now }
     requires open { get_or bytes.now 0 0 ≢ 125 }
-    ensures part { IfOk result (λ end. body 0 bytes.now ≡ behind_part end.part end.size (body 0 (drop end.size bytes.now))) }
+    ensures part { IfOk result (λ end. body 0 bytes.now
+        ≡ behind_part end.part end.size (body 0 (drop end.size bytes.now))) }
     ensures size { IfOk result (λ end. (0 < end.size) × (end.size ≤ length bytes.now)) }
 {
     if bytes[0] == b'^' {
@@ -176,8 +179,11 @@ struct NameEnd {
 
 /// The name of the chunk that these bytes are.
 fn name_at(alloc: Global, held: &[u8]) -> Result<NameEnd, Memory>
-    requires { (words : List (List Symbol)) × (n : ℕ) × (rest (form_of Chunked) [] [] 0 (drop 1 held.now) ≡ Ends words n) }
-    ensures { IfOk result (λ made. (1 ≤ made.end) × (made.end ≤ length held.now) × (rest (form_of Chunked) [] [] 0 (drop 1 held.now) ≡ Ends (made.name ∷ []) (made.end - 1))) }
+    requires { (words : List (List Symbol)) × (n : ℕ)
+        × (rest (form_of Chunked) [] [] 0 (drop 1 held.now) ≡ Ends words n) }
+    ensures { IfOk result (λ made. (1 ≤ made.end) × (made.end ≤ length held.now)
+        × (rest (form_of Chunked) [] [] 0 (drop 1 held.now)
+        ≡ Ends (made.name ∷ []) (made.end - 1))) }
 {
     let mut names = Names::new(alloc);
     let mut name = Word::new(alloc);

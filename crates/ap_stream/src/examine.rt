@@ -251,11 +251,10 @@ fn see_dollar(dialect: Dialect, at: Spot) -> Seen
 fn see_brace(dialect: Dialect) -> Seen
     ensures { result ≡ brace_seen dialect }
 {
-    if is_braced(dialect) {
-        Seen::NameEnds
-    } else {
-        Seen::Bad(MalformedKind::Stray)
+    if !is_braced(dialect) {
+        return Seen::Bad(MalformedKind::Stray);
     }
+    Seen::NameEnds
 }
 
 /// Where the word is once it has one more symbol.

@@ -244,12 +244,7 @@ impl Reader {
         if self.looked {
             return Ok(None);
         }
-        let shown = look(
-            self.dialect,
-            self.level,
-            self.done,
-            self.held.as_slice(),
-        );
+        let shown = look(self.dialect, self.level, self.done, self.held.as_slice());
         match shown {
             Shown::Waits => {
                 self.looked = true;

@@ -1,3 +1,4 @@
+mod chunks;
 mod reading;
 mod units;
 mod writing;

@@ -139,7 +139,12 @@ fn bare_at(surface: bool, bytes: &[u8]) -> Signed
 }
 
 #[tactic(auto, unfolding(crate::specs::Units::sign))]
-pub(crate) fn sign_at(alloc: Global, names: &mut Names, surface: bool, bytes: &[u8]) -> Result<Signed, Memory>
+pub(crate) fn sign_at(
+    alloc: Global,
+    names: &mut Names,
+    surface: bool,
+    bytes: &[u8],
+) -> Result<Signed, Memory>
     ensures { IfOk result (Signs (sign surface bytes.now) (length bytes.now)) }
 {
     match bytes {

@@ -78,8 +78,7 @@ fn read_end(alloc: Global, reader: &mut Reader, log: &mut String) -> Result<(), 
 }
 
 /// The items of the text, read in two pieces.
-fn read_two(alloc: Global, dialect: Dialect, front: &[u8], back: &[u8]) -> Result<String, Memory>
-{
+fn read_two(alloc: Global, dialect: Dialect, front: &[u8], back: &[u8]) -> Result<String, Memory> {
     let mut log = String::new(alloc);
     let mut reader = Reader::new(alloc, dialect);
     if read_piece(alloc, &mut reader, front, &mut log)? {

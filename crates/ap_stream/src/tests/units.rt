@@ -78,8 +78,7 @@ fn reads_bilingual_units(rt: HostRuntime) -> Result<(), Memory> {
 
 /// What the first unit of a text tells of the word at a place: its bytes where they are as they are
 /// written, and its number of symbols.
-fn told_at(alloc: Global, dialect: Dialect, text: &[u8], at: usize) -> Result<String, Memory>
-{
+fn told_at(alloc: Global, dialect: Dialect, text: &[u8], at: usize) -> Result<String, Memory> {
     let mut told = String::new(alloc);
     let mut word = Word::new(alloc);
     let mut reader = Reader::new(alloc, dialect);
@@ -126,8 +125,7 @@ fn tells_the_words_of_a_unit(rt: HostRuntime) -> Result<(), Memory> {
 }
 
 /// What is written of the first unit of a text.
-fn written(alloc: Global, dialect: Dialect, text: &[u8]) -> Result<Bytes, Memory>
-{
+fn written(alloc: Global, dialect: Dialect, text: &[u8]) -> Result<Bytes, Memory> {
     let mut out = Bytes::new(alloc);
     let mut reader = Reader::new(alloc, dialect);
     if let Ok(

@@ -16,14 +16,16 @@ loop-at-preserved-then-is_white c = record {
 
 pub loop-at-preserved : goal.loop-at-preserved
 loop-at-preserved c =
-    let closed : closing false 0 (drop (c.loop-at.at + 1) c.args.bytes.now) ≡ Closed c.in-Some.size =
+    let closed : closing false 0 (drop (c.loop-at.at + 1) c.args.bytes.now)
+    ≡ Closed c.in-Some.size =
     ap (closing false 0) (sym (laws.slice_rest c.args.bytes.now (c.loop-at.at + 1)))
     ∙ c.in-Some.ensures.closed in
     let l = length-drop (c.loop-at.at + 1) c.args.bytes.now in
     let s = ap length (laws.slice_rest c.args.bytes.now (c.loop-at.at + 1)) in
     record {
       fits = omega (arith, l, s, c.in-Some.ensures.within, c.loop-at-test.true);
-      on = walk.past_super c.args.bytes.now c.loop-at.at c.loop-at.invariant.on c.requires c.in-Some.size
+      on = walk.past_super c.args.bytes.now c.loop-at.at c.loop-at.invariant.on c.requires
+          c.in-Some.size
           (omega (arith, c.loop-at-test.true)) (omega (arith, c.if-bytes-at-eq91.true)) closed;
     }
 

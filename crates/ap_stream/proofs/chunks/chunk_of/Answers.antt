@@ -15,13 +15,17 @@ content_of-requires c =
     let n = c.in_ok-name.ensures in
     let s = walk.shape c.args.held.now c.requires.0 c.requires.1 c.in_ok-name.field-0.name
     c.in_ok-name.field-0.end n.0 n.2 in
-    rw (laws.slice_rest c.args.held.now c.in_ok-name.field-0.end)
-    (s.parts, s.size, walk.content_whole c.args.held.now c.requires.0 c.requires.1
-    c.in_ok-name.field-0.name c.in_ok-name.field-0.end n.0 n.2)
+    rw (laws.slice_rest c.args.held.now c.in_ok-name.field-0.end) (
+      s.parts,
+      s.size,
+      walk.content_whole c.args.held.now c.requires.0 c.requires.1
+          c.in_ok-name.field-0.name c.in_ok-name.field-0.end n.0 n.2,
+    )
 
 pub returns : goal.returns
 returns c =
     let n = c.in_ok-name.ensures in
-    let m = rw (laws.slice_rest c.args.held.now c.in_ok-name.field-0.end) at c.in_ok-content.ensures in
+    let m = rw (laws.slice_rest c.args.held.now c.in_ok-name.field-0.end) at
+    c.in_ok-content.ensures in
     walk.chunk_made c.args.held.now c.requires.0 c.requires.1 c.in_ok-name.field-0.name
     c.in_ok-name.field-0.end n.0 n.2 c.in_ok-content.content m.0 m.1

@@ -8,13 +8,15 @@ use Rattle.ap_stream.proofs.chunks.content_of.Goals as goal
 
 pub returns-then-bytes-at-eq125 : goal.returns-then-bytes-at-eq125
 returns-then-bytes-at-eq125 c =
-    walk.content_ends c.args.bytes.now c.loop-at.at c.loop-at.content c.loop-at.invariant.on c.requires
+    walk.content_ends c.args.bytes.now c.loop-at.at c.loop-at.content c.loop-at.invariant.on
+    c.requires
     (omega (arith, c.loop-at-test.true)) (omega (arith, c.if-bytes-at-eq125.true))
 
 pub part_at-requires-clause-whole : goal.part_at-requires-clause-whole
 part_at-requires-clause-whole c =
     rw (laws.slice_rest c.args.bytes.now c.loop-at.at)
-    (walk.content_left c.args.bytes.now c.loop-at.at c.loop-at.content c.loop-at.invariant.on c.requires)
+    (walk.content_left c.args.bytes.now c.loop-at.at c.loop-at.content c.loop-at.invariant.on
+    c.requires)
 
 pub loop-at-preserved : goal.loop-at-preserved
 loop-at-preserved c =
@@ -31,5 +33,6 @@ loop-at-preserved c =
 
 pub unreachable-requires : goal.unreachable-requires
 unreachable-requires c =
-    walk.content_over c.args.bytes.now c.loop-at.at c.loop-at.content c.loop-at.invariant.on c.requires
+    walk.content_over c.args.bytes.now c.loop-at.at c.loop-at.content c.loop-at.invariant.on
+    c.requires
     (omega (arith, c.loop-at-test.false))

@@ -13,7 +13,8 @@ use Rattle.ap_stream.proofs.chunks.name_at.Goals as goal
 
 -- what stands at the front of what is left
 signed : (c : In_ok-symbol) (s : Signed) → c.in_ok-symbol.field-0 ≡ s →
-    Signs (sign false (drop c.loop-at.at c.args.held.now)) (length (drop c.loop-at.at c.args.held.now)) s
+    Signs (sign false (drop c.loop-at.at c.args.held.now))
+    (length (drop c.loop-at.at c.args.held.now)) s
 signed c s e =
     subst (λ (q : Signed). Signs (sign false (drop c.loop-at.at c.args.held.now))
     (length (drop c.loop-at.at c.args.held.now)) q) e

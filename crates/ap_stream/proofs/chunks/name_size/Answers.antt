@@ -10,7 +10,8 @@ use Rattle.ap_stream.proofs.ChunkWalk.{never, unbroken, same}
 use Rattle.ap_stream.proofs.chunks.name_size.Goals.{In-Char}
 use Rattle.ap_stream.proofs.chunks.name_size.Goals as goal
 
-char_is : (c : In-Char) → Char c.in-Char.letter c.in-Char.size ≡ char_at (drop c.loop-at.at c.args.bytes.now)
+char_is : (c : In-Char) → Char c.in-Char.letter c.in-Char.size
+    ≡ char_at (drop c.loop-at.at c.args.bytes.now)
 char_is c = c.in-Char.ensures ∙ ap char_at (laws.slice_rest c.args.bytes.now c.loop-at.at)
 
 pub returns-in-Part-clause-size : goal.returns-in-Part-clause-size
@@ -60,5 +61,6 @@ loop-at-preserved c =
 pub returns-clause-size : goal.returns-clause-size
 returns-clause-size c = λ n d e.
     let none : name 0 c.args.bytes.now ≡ Runs =
-    laws.name_over _ c.loop-at.at 0 0 c.loop-at.invariant.on (omega (arith, c.loop-at-test.false)) in
+    laws.name_over _ c.loop-at.at 0 0 c.loop-at.invariant.on
+    (omega (arith, c.loop-at-test.false)) in
     absurd (never (sym none ∙ e))

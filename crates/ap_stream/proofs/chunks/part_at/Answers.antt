@@ -25,7 +25,8 @@ pub returns-then-bytes-eq94-clause-part : goal.returns-then-bytes-eq94-clause-pa
 returns-then-bytes-eq94-clause-part c =
     let size = rw (laws.slice_rest c.args.bytes.now 1) at c.unit_size-size.ensures.size in
     walk.behind_unit c.args.bytes.now c.requires.whole c.requires.some size.0 c.from_bytes.result
-    c.unit_size-size.result c.if-bytes-eq94.true size.1 (rw c.in_ok-own.ensures at c.from_bytes.ensures)
+    c.unit_size-size.result c.if-bytes-eq94.true size.1
+    (rw c.in_ok-own.ensures at c.from_bytes.ensures)
 
 pub blank_size-size-requires : goal.blank_size-size-requires
 blank_size-size-requires c =

@@ -9,12 +9,14 @@ use Rattle.ap_stream.proofs.chunks.symbol_size.Goals as goal
 
 pub returns-then-first-eq92-clause-size : goal.returns-then-first-eq92-clause-size
 returns-then-first-eq92-clause-size c =
-    walk.symbol_escape c.args.bytes.now c.in-len1-up.len_at_least c.char_size.result c.if-first-eq92.true
+    walk.symbol_escape c.args.bytes.now c.in-len1-up.len_at_least c.char_size.result
+    c.if-first-eq92.true
     (rw (laws.slice_rest c.args.bytes.now 1) at c.char_size.ensures.size)
 
 pub returns-then-first-eq60-clause-size : goal.returns-then-first-eq60-clause-size
 returns-then-first-eq60-clause-size c =
-    walk.symbol_tag c.args.bytes.now c.in-len1-up.len_at_least c.name_size.result c.if-first-eq60.true
+    walk.symbol_tag c.args.bytes.now c.in-len1-up.len_at_least c.name_size.result
+    c.if-first-eq60.true
     (rw (laws.slice_rest c.args.bytes.now 1) at c.name_size.ensures.size)
 
 pub returns-in-empty-clause-size : goal.returns-in-empty-clause-size

@@ -7,7 +7,8 @@ use Rattle.ap_stream.proofs.level.show_part.Goals as goal
 
 pub returns-then-is_between : goal.returns-then-is_between
 returns-then-is_between c = rw c.see_portion.ensures
-    (levels.between_told _ _ _ _ _ (sym c.is_between.ensures ∙ c.if-is_between.true) c.requires.stood)
+    (levels.between_told _ _ _ _ _ (sym c.is_between.ensures
+    ∙ c.if-is_between.true) c.requires.stood)
 
 pub unreachable-requires : goal.unreachable-requires
 unreachable-requires c =
