@@ -106,8 +106,7 @@ fn all_out(alloc: Global, held: &mut Vec<u8>) -> Result<Vec<u8>, Memory>
 }
 
 impl Reader {
-    /// A reader at the start of a text. Chunks aren't read yet, so the dialect is one that has
-    /// none.
+    /// A reader at the start of a text.
     pub fn new(alloc: Global, dialect: Dialect) -> Reader
         ensures dialect { result.dialect ≡ dialect }
         ensures held { result.held ≡ [] }
@@ -158,8 +157,8 @@ impl Reader {
         }
     }
 
-    /// Within a superblank or a unit's word, takes the bytes that only go on with it, as far as a
-    /// look ahead shows.
+    /// Within a superblank or a word, in a chunk too, takes the bytes that only go on with it, as far
+    /// as a look ahead shows.
     fn cross(&mut self, piece: &[u8]) -> Result<usize, StreamFault>
         requires going { self.old.fault ≡ None }
         requires looked { self.old.looked ≡ true }

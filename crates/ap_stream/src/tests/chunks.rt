@@ -90,7 +90,7 @@ fn reads_chunks_in_any_pieces(rt: HostRuntime) -> Result<(), Memory> {
         (b"x^a{ b", "x|Malformed { kind: Stray, place: 1 }"),
     ];
     for (text, want) in table {
-        for size in [1, 2, 3, 4, 5, 6, 7] {
+        for size in 1..8 {
             let got = copied(alloc, text, size)?;
             assert_eq!(rt; got.as_slice(), want.as_bytes(), "in pieces of {size}");
         }
@@ -143,7 +143,7 @@ fn shows_the_faults_of_chunks(rt: HostRuntime) -> Result<(), Memory> {
     ];
     for (text, kind) in table {
         let want = format!(in alloc; "Malformed {{ kind: {kind}, place: 0 }}")?;
-        for size in [1, 2, 3, 4, 5, 6, 7] {
+        for size in 1..8 {
             let got = copied(alloc, text, size)?;
             assert_eq!(rt;
                 got.as_slice(),
@@ -171,7 +171,7 @@ fn bounds_a_chunk(rt: HostRuntime) -> Result<(), Memory> {
         let got = copied(alloc, text.as_slice(), 65_536)?;
         if over == 0 {
             assert_eq!(rt; got.as_slice().len(), UNIT_MAX + 1);
-            assert_eq!(rt; &got.as_slice()[..UNIT_MAX], text.as_slice());
+            assert!(rt; got.as_slice().starts_with(text.as_slice()));
         } else {
             let want = "Limit { kind: ItemTooLong, place: 0 }";
             assert_eq!(rt; got.as_slice(), want.as_bytes());
