@@ -4,15 +4,24 @@
 mod categories;
 mod choice;
 mod choosing;
+mod chunk_work;
 mod keeping;
 mod laws;
+mod matches;
+mod parts;
 mod patterns;
+mod search;
 mod tags;
 #[cfg(test)]
 mod tests;
+mod transfer;
+mod unmatched;
 mod words;
+mod writing;
 
 pub use categories::{row, takes};
 pub use choice::{Choice, Found};
 pub use choosing::Choosing;
+pub use chunk_work::ChunkWork;
 pub use laws::{going_on_chooses, one_is_chosen, rows_tell, trying_all_chooses};
+pub use transfer::Transfer;

@@ -1,0 +1,119 @@
+//! What the first step of some items writes.
+ghost use Rattle.std.specs.Prelude.{◌≡◌, ◌≤◌, ◌<◌, [], length, take, IfOk, Some, None};
+ghost use Rattle.ap_rules.specs.declared.rules.Rules.{Rules};
+ghost use Rattle.ap_chunk.specs.Carrying.{Held, Step};
+ghost use Rattle.ap_chunk.specs.Parts.{parts_of};
+ghost use Rattle.ap_chunk.specs.Stages.{rule_step, unmatched_step, chosen_step, chunk_step};
+ghost use Rattle.ap_chunk.specs.Working.{meant, IsRefused};
+ghost use Rattle.ap_chunk.specs.Searching.{IsFront};
+
+use crate::matches::{blanks_of, matched_of};
+use crate::parts::Room;
+use crate::search::Front;
+use crate::unmatched::write_unmatched;
+use ap_exec::{ExecRefusal, Vars, act, fill};
+use ap_rules::Rules;
+use ap_stream::{LimitKind, Queue, Read, UNIT_MAX};
+use ap_symbol::{Bytes, Memory};
+use std::alloc::Global;
+
+/// What a step does: it uses so many items and writes this, or it stops at a limit.
+#[derive(Drop)]
+pub(crate) enum Written {
+    Gives { count: usize, text: Bytes },
+    Stops { kind: LimitKind },
+}
+
+/// A step that a rule refuses.
+fn refused(refusal: ExecRefusal) -> Result<Written, Memory>
+    ensures { IfOk result (IsRefused refusal) }
+{
+    match refusal {
+        ExecRefusal::ValueTooLong => Ok(Written::Stops {
+            kind: LimitKind::ValueTooLong,
+        }),
+        ExecRefusal::OutputTooLong => Ok(Written::Stops {
+            kind: LimitKind::OutputTooLong,
+        }),
+        ExecRefusal::Memory => Err(Memory),
+    }
+}
+
+/// The step in which a rule is run on these items. Variables are left as the rule leaves them.
+pub(crate) fn rule_step(
+    alloc: Global,
+    rules: &Rules,
+    rule: usize,
+    reads: &[Read],
+    room: &mut Room,
+    vars: &mut Vars,
+) -> Result<Written, Memory>
+    ensures { IfOk result (λ made. meant made vars.new ≡ rule_step rules.now rule vars.old reads.now) }
+{
+    let matched = matched_of(alloc, reads, &mut room.names)?;
+    let blanks = blanks_of(alloc, reads)?;
+    let template = match act(alloc, rules, rule, &matched, vars) {
+        Ok(template) => template,
+        Err(refusal) => return refused(refusal),
+    };
+    let text = match fill(alloc, &template, &blanks) {
+        Ok(text) => text,
+        Err(refusal) => return refused(refusal),
+    };
+    let count = reads.len();
+    Ok(Written::Gives { count, text })
+}
+
+/// The step in which one item is written without a match, into the text, which is empty.
+pub(crate) fn unmatched_step(
+    alloc: Global,
+    rules: &Rules,
+    reads: &[Read],
+    room: &mut Room,
+    mut text: Bytes,
+) -> Result<Written, Memory>
+    requires some { 0 < length reads.now }
+    requires empty { text ≡ [] }
+    ensures { (vars : Held) → IfOk result (λ made. meant made vars ≡ unmatched_step rules.now vars reads.now) }
+{
+    write_unmatched(alloc, rules, &reads[0].item, room, &mut text)?;
+    if text.as_slice().len() > UNIT_MAX {
+        return Ok(Written::Stops {
+            kind: LimitKind::UnitTooLong,
+        });
+    }
+    Ok(Written::Gives { count: 1, text })
+}
+
+/// The first step of the items, by what the search found at their front. It is written into the
+/// text, which is empty, and variables are left as it leaves them.
+pub(crate) fn first_step(
+    alloc: Global,
+    rules: &Rules,
+    items: &Queue,
+    front: Front,
+    room: &mut Room,
+    vars: &mut Vars,
+    text: Bytes,
+) -> Result<Written, Memory>
+    requires some { 0 < length items.now }
+    requires front { IsFront true rules.now items.now front }
+    requires empty { text ≡ [] }
+    ensures { IfOk result (λ made. meant made vars.new ≡ chunk_step rules.now vars.old items.now) }
+{
+    if items.is_over(front.span) {
+        return Ok(Written::Stops {
+            kind: LimitKind::SpanTooLong,
+        });
+    }
+    let reads = items.as_slice();
+    match front.choice {
+        None => unmatched_step(alloc, rules, reads, room, text),
+        Some(choice) => {
+            if choice.size == 0 {
+                return unmatched_step(alloc, rules, reads, room, text);
+            }
+            rule_step(alloc, rules, choice.rule, &reads[..front.taken], room, vars)
+        }
+    }
+}
