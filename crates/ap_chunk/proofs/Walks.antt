@@ -1,7 +1,7 @@
 -- A walk over the items at the front: where it begins, one item more, and where it ends.
 use Rattle.std.proofs.Common.{◌≡◌, ◌⊎◌, ℕ, zero, suc, ◌+◌, ◌<◌, ◌≤◌, Bool, true, false, List, [], ◌∷◌, ◌++◌, length, drop, Option, Some, None, refl, ap, sym, ◌∙◌, arith, inl, inr, subst, length-append, append_assoc, cond}
 use Rattle.std.proofs.Math.Seq.{drop-length}
-use Rattle.std.proofs.lemmas.Bool.{false≢true, or_cases, or_left, or_right, cases_Bool}
+use Rattle.std.proofs.lemmas.Bool.{false≢true, or_cases, or_left, or_right, and_parts, and_from}
 use Rattle.std.proofs.lemmas.List.{append-nil, drop-append-le, length-drop}
 use Rattle.std.specs.List.{list_any}
 use Rattle.std.specs.Prelude.{slice_get}
@@ -58,11 +58,9 @@ goes_less : (p : List ℕ) (units : List (ℕ → Bool)) (u : ℕ → Bool) → 
 goes_less [] [] u h = absurd (false≢true h)
 goes_less [] (v ∷ units) u h = absurd (false≢true h)
 goes_less (c ∷ cs) [] u h = refl
-goes_less (c ∷ cs) (v ∷ units) u h = goes_both (v c) h
-  where
-    goes_both : (b : Bool) → cond b (opens cs (units ++ u ∷ [])) false ≡ true → cond b (goes_on cs units) false ≡ true
-    goes_both true k = goes_less cs units u k
-    goes_both false k = k
+goes_less (c ∷ cs) (v ∷ units) u h =
+    let both = and_parts (v c) (opens cs (units ++ u ∷ [])) h in
+    and_from (v c) (goes_on cs units) both.0 (goes_less cs units u both.1)
 
 -- a unit more than those with which no pattern goes on
 no_opens : (patterns : List (List ℕ)) (units : List (ℕ → Bool)) (u : ℕ → Bool) → (SomeLive patterns units → ⊥) → some_opens patterns (units ++ u ∷ []) ≡ false
@@ -71,9 +69,9 @@ no_opens patterns units u dead = not_true (some_opens patterns (units ++ u ∷ [
     dead (record { rule = s.rule; live = ap (of_rule (λ p. goes_on p units)) s.at ∙ goes_less s.pattern units u s.fit }))
 
 -- no item more is seen together with units with which no pattern goes on
-together_dead : (patterns : List (List ℕ)) (units : List (ℕ → Bool)) (open : Bool) (parts : List Part) → (SomeLive patterns units → ⊥) → together patterns units open parts ≡ 0
-together_dead patterns units open [] dead = refl
-together_dead patterns units open (unit u ∷ parts) dead = ap (λ b. cond b (suc (together patterns (units ++ u ∷ []) true parts)) 0) (no_opens patterns units u dead)
+together_dead : (patterns : List (List ℕ)) (units : List (ℕ → Bool)) (after : Bool) (parts : List Part) → (SomeLive patterns units → ⊥) → together patterns units after parts ≡ 0
+together_dead patterns units after [] dead = refl
+together_dead patterns units after (unit u ∷ parts) dead = ap (λ b. cond b (suc (together patterns (units ++ u ∷ []) true parts)) 0) (no_opens patterns units u dead)
 together_dead patterns units true (gap ∷ parts) dead = ap (λ b. cond b (suc (together patterns units false parts)) 0) (no_longer patterns units dead)
 together_dead patterns units false (gap ∷ parts) dead = refl
 together_dead patterns units true (wall ∷ parts) dead = refl
@@ -85,7 +83,7 @@ taken_first patterns None parts h = tt
 taken_first patterns (Some c) parts h = λ xs. (let le : c.size ≤ 0 = within patterns c.rule [] c.size h.fitting in let z : c.size ≡ 0 = omega (arith, le) in ap (λ n. taken_by n (parts ++ xs)) z)
 
 abbrev walk_of : Standing → ℕ → Bool → Option Choice → ℕ → Walk
-walk_of choosing seen open best taken = record { choosing = choosing; seen = seen; open = open; best = best; taken = taken }
+walk_of choosing seen after best taken = record { choosing = choosing; seen = seen; after = after; best = best; taken = taken }
 
 pub at_start : (parts : List Part) (choosing : Standing) (best : Option Choice) → Stands choosing [] → IsChosen choosing.patterns [] best → IsWalk parts (walk_of choosing 0 false best 0)
 at_start parts choosing best stands is = record {
@@ -96,7 +94,7 @@ at_start parts choosing best stands is = record {
   best_is = is;
   units_on = λ xs. refl;
   span_on = λ xs. omega arith;
-  taken_on = λ n xs. (let e : length [] + suc n ≡ suc n = omega arith in ap (λ k. taken_by k (parts ++ xs)) e ∙ omega arith);
+  taken_on = λ n xs. (let e : 0 + suc n ≡ suc n = omega arith in ap (λ k. taken_by k (parts ++ xs)) e ∙ omega arith);
   taken_is = taken_first choosing.patterns best parts is;
   taken_within = omega arith;
 }
@@ -109,7 +107,7 @@ next_within parts seen p next =
     omega (arith, l, e)
 
 module _ (parts : List Part) (old : Walk) (n : ℕ) (s : n ≡ old.seen + 1) (is : IsLiveWalk parts old) where
-  w : IsWalk parts old
+  abbrev w : IsWalk parts old
   w = is.walked
 
   next_is : (p : Part) → IsNext parts old.seen p → drop old.seen parts ≡ p ∷ drop n parts
@@ -124,7 +122,7 @@ module _ (parts : List Part) (old : Walk) (n : ℕ) (s : n ≡ old.seen + 1) (is
   taken_within_on : old.taken ≤ n
   taken_within_on = let t = w.taken_within in omega (arith, t, s)
 
-  pub gap_on : old.open ≡ true → IsNext parts old.seen gap → IsWalk parts (walk_of old.choosing n false old.best old.taken)
+  pub gap_on : old.after ≡ true → IsNext parts old.seen gap → IsWalk parts (walk_of old.choosing n false old.best old.taken)
   gap_on o next = record {
     units = w.units;
     stands = w.stands;
@@ -135,7 +133,7 @@ module _ (parts : List Part) (old : Walk) (n : ℕ) (s : n ≡ old.seen + 1) (is
     (ap (λ b. units_in b (drop old.seen parts ++ xs)) o ∙ ap (λ (ps : List Part). units_in true (ps ++ xs)) (next_is gap next));
     span_on = λ xs. (
         let a = w.span_on xs in
-        let b : together old.choosing.patterns w.units old.open (drop old.seen parts ++ xs) ≡ suc (together old.choosing.patterns w.units false (drop n parts ++ xs)) =
+        let b : together old.choosing.patterns w.units old.after (drop old.seen parts ++ xs) ≡ suc (together old.choosing.patterns w.units false (drop n parts ++ xs)) =
         ap (λ b. together old.choosing.patterns w.units b (drop old.seen parts ++ xs)) o
         ∙ ap (λ (ps : List Part). together old.choosing.patterns w.units true (ps ++ xs)) (next_is gap next)
         ∙ ap (λ b. cond b (suc (together old.choosing.patterns w.units false (drop n parts ++ xs))) 0) (longer_to old.choosing.patterns w.units is.live) in
@@ -155,21 +153,20 @@ module _ (parts : List Part) (old : Walk) (n : ℕ) (s : n ≡ old.seen + 1) (is
     more_length : length (w.units ++ u ∷ []) ≡ length w.units + 1
     more_length = length-append w.units (u ∷ [])
 
-    units_next : (xs : List Part) → units_in old.open (drop old.seen parts ++ xs) ≡ u ∷ units_in true (drop n parts ++ xs)
-    units_next xs = ap (λ (ps : List Part). units_in old.open (ps ++ xs)) (next_is (unit u) next)
+    units_next : (xs : List Part) → units_in old.after (drop old.seen parts ++ xs) ≡ u ∷ units_in true (drop n parts ++ xs)
+    units_next xs = ap (λ (ps : List Part). units_in old.after (ps ++ xs)) (next_is (unit u) next)
 
     units_more : (xs : List Part) → units_in false (parts ++ xs) ≡ (w.units ++ u ∷ []) ++ units_in true (drop n parts ++ xs)
     units_more xs = w.units_on xs ∙ ap (λ us. w.units ++ us) (units_next xs) ∙ sym (append_assoc w.units (u ∷ []) (units_in true (drop n parts ++ xs)))
 
-    together_next : (xs : List Part) → together old.choosing.patterns w.units old.open (drop old.seen parts ++ xs)
-    ≡ cond (some_opens old.choosing.patterns (w.units ++ u ∷ [])) (suc (together old.choosing.patterns (w.units ++ u ∷ []) true (drop n parts ++ xs))) 0
-    together_next xs = ap (λ (ps : List Part). together old.choosing.patterns w.units old.open (ps ++ xs)) (next_is (unit u) next)
+    together_next : (xs : List Part) → together old.choosing.patterns w.units old.after (drop old.seen parts ++ xs) ≡ cond (some_opens old.choosing.patterns (w.units ++ u ∷ [])) (suc (together old.choosing.patterns (w.units ++ u ∷ []) true (drop n parts ++ xs))) 0
+    together_next xs = ap (λ (ps : List Part). together old.choosing.patterns w.units old.after (ps ++ xs)) (next_is (unit u) next)
 
     taken_next : (k : ℕ) (xs : List Part) → taken_by (suc k) (drop old.seen parts ++ xs) ≡ suc (taken_by k (drop n parts ++ xs))
     taken_next k xs = ap (λ (ps : List Part). taken_by (suc k) (ps ++ xs)) (next_is (unit u) next)
 
     unit_on : (best : Option Choice) (taken : ℕ) → SomeOpens choosing.patterns (w.units ++ u ∷ []) → IsChosen choosing.patterns (w.units ++ u ∷ []) best → IsTaken best taken parts → taken ≤ n
-    → IsWalk parts (walk_of choosing n true best taken)
+        → IsWalk parts (walk_of choosing n true best taken)
     unit_on best taken opens is_best is_taken le = record {
       units = w.units ++ u ∷ [];
       stands = stands;
@@ -211,7 +208,7 @@ module _ (parts : List Part) (old : Walk) (n : ℕ) (s : n ≡ old.seen + 1) (is
         unit_on old.best old.taken (live_opens choosing.patterns (w.units ++ u ∷ []) live) (none_more choosing old.best o w.units u stands best_old) w.taken_is taken_within_on
 
     -- none does
-    pub unit_end : choosing.over ≡ None → (SomeLive choosing.patterns (w.units ++ u ∷ []) → ⊥) → IsEnd false parts (walk_of choosing old.seen old.open old.best old.taken)
+    pub unit_end : choosing.over ≡ None → (SomeLive choosing.patterns (w.units ++ u ∷ []) → ⊥) → IsEnd false parts (walk_of choosing old.seen old.after old.best old.taken)
     unit_end o dead =
         let none = subst (λ (o : Option ℕ). IsLeast (is_over choosing.patterns (w.units ++ u ∷ [])) o) o stands.least in
         let shut : some_opens old.choosing.patterns (w.units ++ u ∷ []) ≡ false =
@@ -238,20 +235,20 @@ module _ (parts : List Part) (walk : Walk) (w : IsWalk parts walk) where
   dead_end dead = record {
     within = w.within;
     chosen_is = λ xs last. (
-        let more = units_in walk.open (drop walk.seen parts ++ xs) in
+        let more = units_in walk.after (drop walk.seen parts ++ xs) in
         ap (chosen_of walk.choosing.patterns) (w.units_on xs)
         ∙ sym (one_choice walk.choosing.patterns (w.units ++ more) walk.best (chosen_of walk.choosing.patterns (w.units ++ more))
         (choice_dead walk.choosing.patterns w.units more walk.best dead w.best_is) (chosen_is walk.choosing.patterns (w.units ++ more))));
     span_is = λ xs last. (
         let a = w.span_on xs in
-        let b = together_dead walk.choosing.patterns w.units walk.open (drop walk.seen parts ++ xs) dead in
+        let b = together_dead walk.choosing.patterns w.units walk.after (drop walk.seen parts ++ xs) dead in
         omega (arith, a, b));
     taken_is = w.taken_is;
     taken_within = w.taken_within;
   }
 
-  stop_end : (last : Bool) → ((xs : List Part) → (last ≡ true → xs ≡ []) → units_in walk.open (drop walk.seen parts ++ xs) ≡ [])
-  → ((xs : List Part) → (last ≡ true → xs ≡ []) → together walk.choosing.patterns w.units walk.open (drop walk.seen parts ++ xs) ≡ 0) → IsEnd last parts walk
+  stop_end : (last : Bool) → ((xs : List Part) → (last ≡ true → xs ≡ []) → units_in walk.after (drop walk.seen parts ++ xs) ≡ [])
+      → ((xs : List Part) → (last ≡ true → xs ≡ []) → together walk.choosing.patterns w.units walk.after (drop walk.seen parts ++ xs) ≡ 0) → IsEnd last parts walk
   stop_end last no_units no_more = record {
     within = w.within;
     chosen_is = λ xs e.
@@ -263,31 +260,21 @@ module _ (parts : List Part) (walk : Walk) (w : IsWalk parts walk) where
   }
 
   pub wall_end : IsNext parts walk.seen wall → IsEnd false parts walk
-  wall_end next = stop_end false (λ xs e. ap (λ (ps : List Part). units_in walk.open (ps ++ xs)) next)
-  (λ xs e. ap (λ (ps : List Part). together walk.choosing.patterns w.units walk.open (ps ++ xs)) next)
+  wall_end next = stop_end false (λ xs e. ap (λ (ps : List Part). units_in walk.after (ps ++ xs)) next)
+      (λ xs e. ap (λ (ps : List Part). together walk.choosing.patterns w.units walk.after (ps ++ xs)) next)
 
-  pub gap_end : walk.open ≡ false → IsNext parts walk.seen gap → IsEnd false parts walk
+  pub gap_end : walk.after ≡ false → IsNext parts walk.seen gap → IsEnd false parts walk
   gap_end o next = stop_end false (λ xs e. ap (λ b. units_in b (drop walk.seen parts ++ xs)) o ∙ ap (λ (ps : List Part). units_in false (ps ++ xs)) next)
-  (λ xs e. ap (λ b. together walk.choosing.patterns w.units b (drop walk.seen parts ++ xs)) o ∙ ap (λ (ps : List Part). together walk.choosing.patterns w.units false (ps ++ xs)) next)
+      (λ xs e. ap (λ b. together walk.choosing.patterns w.units b (drop walk.seen parts ++ xs)) o ∙ ap (λ (ps : List Part). together walk.choosing.patterns w.units false (ps ++ xs)) next)
 
   -- no item is left, and none follows
   pub last_end : walk.seen ≡ length parts → IsEnd true parts walk
   last_end e = stop_end true
-  (λ xs last. ap (λ (ps : List Part). units_in walk.open ps) (nothing xs last))
-  (λ xs last. ap (λ (ps : List Part). together walk.choosing.patterns w.units walk.open ps) (nothing xs last))
+      (λ xs last. ap (λ (ps : List Part). units_in walk.after ps) (nothing xs last))
+      (λ xs last. ap (λ (ps : List Part). together walk.choosing.patterns w.units walk.after ps) (nothing xs last))
     where
       nothing : (xs : List Part) → (true ≡ true → xs ≡ []) → drop walk.seen parts ++ xs ≡ []
       nothing xs last = ap (λ (ps : List Part). drop walk.seen parts ++ ps) (last refl) ∙ append-nil (drop walk.seen parts) ∙ ap (λ k. drop k parts) e ∙ drop-length parts
-
-  -- nothing follows after all
-  pub end_last : (last : Bool) → IsEnd false parts walk → IsEnd last parts walk
-  end_last last ends = record {
-    within = ends.within;
-    chosen_is = λ xs e. ends.chosen_is xs (λ f. absurd (false≢true f));
-    span_is = λ xs e. ends.span_is xs (λ f. absurd (false≢true f));
-    taken_is = ends.taken_is;
-    taken_within = ends.taken_within;
-  }
 
   -- more items come
   pub walk_more : (ys : List Part) → IsWalk (parts ++ ys) walk
@@ -297,9 +284,9 @@ module _ (parts : List Part) (walk : Walk) (w : IsWalk parts walk) where
     few = w.few;
     within = (let l = length-append parts ys in let le = w.within in omega (arith, l, le));
     best_is = w.best_is;
-    units_on = λ xs. ap (units_in false) (append_assoc parts ys xs) ∙ w.units_on (ys ++ xs) ∙ ap (λ (ps : List Part). w.units ++ units_in walk.open ps) (sym (behind xs));
+    units_on = λ xs. ap (units_in false) (append_assoc parts ys xs) ∙ w.units_on (ys ++ xs) ∙ ap (λ (ps : List Part). w.units ++ units_in walk.after ps) (sym (behind xs));
     span_on = λ xs. ap (together walk.choosing.patterns [] false) (append_assoc parts ys xs) ∙ w.span_on (ys ++ xs)
-    ∙ ap (λ (ps : List Part). walk.seen + together walk.choosing.patterns w.units walk.open ps) (sym (behind xs));
+    ∙ ap (λ (ps : List Part). walk.seen + together walk.choosing.patterns w.units walk.after ps) (sym (behind xs));
     taken_on = λ k xs. ap (taken_by (length w.units + suc k)) (append_assoc parts ys xs) ∙ w.taken_on k (ys ++ xs) ∙ ap (λ (ps : List Part). walk.seen + taken_by (suc k) ps) (sym (behind xs));
     taken_is = taken_more walk.best w.taken_is;
     taken_within = w.taken_within;
@@ -320,5 +307,19 @@ module _ (parts : List Part) (walk : Walk) (w : IsWalk parts walk) where
   span_all e =
       let a = w.span_on [] in
       let b = ap (together walk.choosing.patterns [] false) (append-nil parts) in
-      let d : together walk.choosing.patterns w.units walk.open (drop walk.seen parts ++ []) ≡ 0 = ap (together walk.choosing.patterns w.units walk.open) (append-nil (drop walk.seen parts) ∙ ap (λ k. drop k parts) e ∙ drop-length parts) in
+      let d : together walk.choosing.patterns w.units walk.after (drop walk.seen parts ++ []) ≡ 0 = ap (together walk.choosing.patterns w.units walk.after) (append-nil (drop walk.seen parts) ∙ ap (λ k. drop k parts) e ∙ drop-length parts) in
       omega (arith, a, b, d, e)
+
+-- a unit more can be counted
+pub units_fit : (parts : List Part) (walk : Walk) (w : IsWalk parts walk) → walk.seen + 1 < 18446744073709551616 → length w.units + 1 < 18446744073709551616
+units_fit parts walk w h = let f = w.few in omega (arith, f, h)
+
+-- nothing follows after all
+pub end_last : (parts : List Part) (walk : Walk) (last : Bool) → IsEnd false parts walk → IsEnd last parts walk
+end_last parts walk last ends = record {
+  within = ends.within;
+  chosen_is = λ xs e. ends.chosen_is xs (λ f. absurd (false≢true f));
+  span_is = λ xs e. ends.span_is xs (λ f. absurd (false≢true f));
+  taken_is = ends.taken_is;
+  taken_within = ends.taken_within;
+}

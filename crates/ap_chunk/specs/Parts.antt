@@ -47,11 +47,11 @@ parts_of rules reads = map (λ read. part_of rules read.item) reads
 
 -- the units of the row at the front, where a blank may come first or not
 abbrev pub units_in : Bool → List Part → List (ℕ → Bool)
-units_in open [] = []
-units_in open (unit u ∷ parts) = u ∷ units_in true parts
+units_in after [] = []
+units_in after (unit u ∷ parts) = u ∷ units_in true parts
 units_in true (gap ∷ parts) = units_in false parts
 units_in false (gap ∷ parts) = []
-units_in open (wall ∷ parts) = []
+units_in after (wall ∷ parts) = []
 
 -- how many items the first so many units take, with the blanks between them
 abbrev pub taken_by : ℕ → List Part → ℕ
@@ -72,8 +72,8 @@ some_longer patterns units = list_any (λ pattern. goes_on pattern units) patter
 -- How many items more are seen together with those before, which hold these units, where a blank may come next or not: a unit
 -- while the units so far fit the beginning of a pattern, and one blank behind a unit while that pattern is longer.
 abbrev pub together : List (List ℕ) → List (ℕ → Bool) → Bool → List Part → ℕ
-together patterns units open [] = 0
-together patterns units open (unit u ∷ parts) = if some_opens patterns (units ++ u ∷ []) then suc (together patterns (units ++ u ∷ []) true parts) else 0
+together patterns units after [] = 0
+together patterns units after (unit u ∷ parts) = if some_opens patterns (units ++ u ∷ []) then suc (together patterns (units ++ u ∷ []) true parts) else 0
 together patterns units true (gap ∷ parts) = if some_longer patterns units then suc (together patterns units false parts) else 0
 together patterns units false (gap ∷ parts) = 0
-together patterns units open (wall ∷ parts) = 0
+together patterns units after (wall ∷ parts) = 0

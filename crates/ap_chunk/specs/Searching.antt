@@ -8,18 +8,18 @@ use Rattle.ap_chunk.specs.Live.{Stands, SomeLive}
 use Rattle.ap_chunk.specs.Parts.{Part, unit, gap, wall, parts_of, units_in, taken_by, together}
 use Rattle.ap_chunk.specs.Patterns.{patterns_of}
 use Rattle.ap_chunk.specs.declared.choice.Choice.{Choice}
-use Rattle.ap_chunk.specs.declared.parts.Part.{Part as Kind}
-use Rattle.ap_chunk.specs.declared.parts.Part.TheVariants as kind
+use Rattle.ap_chunk.specs.declared.parts.Kind.{Kind}
+use Rattle.ap_chunk.specs.declared.parts.Kind.TheVariants as kind
 use Rattle.ap_chunk.specs.declared.search.Walk.{Walk}
 use Rattle.ap_chunk.specs.declared.search.Search.{Search}
 use Rattle.ap_chunk.specs.declared.search.Front.{Front}
 use Rattle.ap_chunk.specs.Stages.{span, choice}
 
 -- what the code found of an item, and the row of a unit
-abbrev pub IsPart : Kind → List Bool → Part → Type 0
-IsPart kind.Unit row part = part ≡ unit (unit_of row)
-IsPart kind.Blank row part = part ≡ gap
-IsPart kind.Other row part = part ≡ wall
+abbrev pub IsKind : Kind → List Bool → Part → Type 0
+IsKind kind.Unit row part = part ≡ unit (unit_of row)
+IsKind kind.Blank row part = part ≡ gap
+IsKind kind.Other row part = part ≡ wall
 
 -- such a part stands there
 abbrev pub IsNext : List Part → ℕ → Part → Type 0
@@ -38,8 +38,8 @@ pub record IsWalk (parts : List Part) (walk : Walk) : Type 0 where
   pub few : length units ≤ walk.seen
   pub within : walk.seen ≤ length parts
   pub best_is : IsChosen walk.choosing.patterns units walk.best
-  pub units_on : (xs : List Part) → units_in false (parts ++ xs) ≡ units ++ units_in walk.open (drop walk.seen parts ++ xs)
-  pub span_on : (xs : List Part) → together walk.choosing.patterns [] false (parts ++ xs) ≡ walk.seen + together walk.choosing.patterns units walk.open (drop walk.seen parts ++ xs)
+  pub units_on : (xs : List Part) → units_in false (parts ++ xs) ≡ units ++ units_in walk.after (drop walk.seen parts ++ xs)
+  pub span_on : (xs : List Part) → together walk.choosing.patterns [] false (parts ++ xs) ≡ walk.seen + together walk.choosing.patterns units walk.after (drop walk.seen parts ++ xs)
   pub taken_on : (n : ℕ) (xs : List Part) → taken_by (length units + suc n) (parts ++ xs) ≡ walk.seen + taken_by (suc n) (drop walk.seen parts ++ xs)
   pub taken_is : IsTaken walk.best walk.taken parts
   pub taken_within : walk.taken ≤ walk.seen

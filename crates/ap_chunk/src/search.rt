@@ -11,7 +11,7 @@ ghost use Rattle.ap_chunk.specs.Searching.{IsNext, IsWalk, IsLiveWalk, IsEnd, Is
 
 use crate::choice::Choice;
 use crate::choosing::Choosing;
-use crate::parts::{Part, Room, look};
+use crate::parts::{Kind, Room, look};
 use ap_rules::Rules;
 use ap_stream::Read;
 use ap_symbol::Memory;
@@ -33,7 +33,7 @@ pub(crate) struct Front {
 pub(crate) struct Walk {
     pub(crate) choosing: Choosing,
     pub(crate) seen: usize,
-    pub(crate) open: bool,
+    pub(crate) after: bool,
     pub(crate) best: Option<Choice>,
     pub(crate) taken: usize,
 }
@@ -49,7 +49,7 @@ impl Walk {
         Ok(Walk {
             choosing,
             seen: 0,
-            open: false,
+            after: false,
             best,
             taken: 0,
         })
@@ -62,7 +62,7 @@ impl Walk {
     {
         self.choosing.begin();
         self.seen = 0;
-        self.open = false;
+        self.after = false;
         self.best = self.choosing.better(None);
         self.taken = 0;
     }
@@ -71,12 +71,13 @@ impl Walk {
     fn step_blank(&mut self) -> bool
         requires bounded { self.old.seen + 1 < 2 ^ 64 }
         ensures patterns { self.new.choosing.patterns ≡ self.old.choosing.patterns }
+        ensures further { result ≡ true → self.new.seen ≡ self.old.seen + 1 }
         ensures on { result ≡ true → (parts : List Part) → IsLiveWalk parts self.old → IsNext parts self.old.seen gap → IsWalk parts self.new }
         ensures ends { result ≡ false → (parts : List Part) → IsLiveWalk parts self.old → IsNext parts self.old.seen gap → IsEnd false parts self.new }
     {
-        if self.open {
+        if self.after {
             self.seen += 1;
-            self.open = false;
+            self.after = false;
             return true;
         }
         false
@@ -86,6 +87,7 @@ impl Walk {
     fn step_unit(&mut self, row: &[bool]) -> Result<bool, Memory>
         requires bounded { self.old.seen + 1 < 2 ^ 64 }
         ensures patterns { self.new.choosing.patterns ≡ self.old.choosing.patterns }
+        ensures further { result ≡ Ok true → self.new.seen ≡ self.old.seen + 1 }
         ensures on { result ≡ Ok true → (parts : List Part) → IsLiveWalk parts self.old → IsNext parts self.old.seen (unit (unit_of row.now)) → IsWalk parts self.new }
         ensures ends { result ≡ Ok false → (parts : List Part) → IsLiveWalk parts self.old → IsNext parts self.old.seen (unit (unit_of row.now)) → IsEnd false parts self.new }
     {
@@ -102,10 +104,13 @@ impl Walk {
                     size: self.choosing.count(),
                 });
                 self.taken = self.seen + 1;
+                self.seen += 1;
+                self.after = true;
+                return Ok(true);
             }
         }
         self.seen += 1;
-        self.open = true;
+        self.after = true;
         Ok(true)
     }
 
@@ -119,9 +124,9 @@ impl Walk {
         ensures ends { result ≡ Ok false → IsEnd false (parts_of rules.now reads.now) self.new }
     {
         match look(rules, &reads[self.seen].item, room)? {
-            Part::Other => Ok(false),
-            Part::Blank => Ok(self.step_blank()),
-            Part::Unit => self.step_unit(room.row.as_slice()),
+            Kind::Other => Ok(false),
+            Kind::Blank => Ok(self.step_blank()),
+            Kind::Unit => self.step_unit(room.row.as_slice()),
         }
     }
 
@@ -188,6 +193,19 @@ impl Search {
         self.lost = true;
     }
 
+    /// The walk begins anew, where it is to. It is lost until it waits for an item.
+    fn set_out(&mut self)
+        ensures walk { (rules : Rules) (reads : List Read) → IsKnown rules reads self.old → IsWalk (parts_of rules reads) self.new.walk }
+        ensures patterns { self.new.walk.choosing.patterns ≡ self.old.walk.choosing.patterns }
+        ensures lost { self.new.lost ≡ true }
+    {
+        if self.lost {
+            self.walk.restart();
+            return;
+        }
+        self.lost = true;
+    }
+
     /// What stands at the front of the items; none where an item more is wanted.
     pub(crate) fn look(
         &mut self,
@@ -202,10 +220,7 @@ impl Search {
         ensures all { result ≡ Ok None → span rules.now reads.now ≡ length reads.now }
         ensures grows { result ≡ Ok None → (xs : List Read) → length reads.now ≤ span rules.now (reads.now ++ xs) }
     {
-        if self.lost {
-            self.walk.restart();
-        }
-        self.lost = true;
+        self.set_out();
         let ends = self.walk.step_on(rules, reads, &mut self.room)?;
         if !ends && !finished {
             self.lost = false;
