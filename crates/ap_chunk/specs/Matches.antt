@@ -28,8 +28,7 @@ matched_item (Unit words) = translated words ∷ []
 matched_item (Chunk c) = named c.name c.content ∷ []
 
 abbrev pub matched_items : List Read → List MatchedUnit
-matched_items [] = []
-matched_items (read ∷ reads) = matched_item read.item ++ matched_items reads
+matched_items reads = flat_map (λ read. matched_item read.item) reads
 
 -- what is run on the items of a match
 abbrev pub matched_of : Form → List Read → Matched

@@ -1,5 +1,5 @@
 -- Transfer, interchunk and postchunk of the items of a text, and of a whole text.
-use Rattle.std.specs.Prelude.{ℕ, nat_lt, Bool, List, [], ◌∷◌, ◌++◌, length, take, Option, Some, None, Ok, Err, if◌then◌else◌}
+use Rattle.std.specs.Prelude.{ℕ, nat_lt, Bool, false, List, [], ◌∷◌, ◌++◌, length, take, Option, Some, None, Ok, Err, if◌then◌else◌}
 use Rattle.ap_stream.specs.Limits.{span_max, unit_max}
 use Rattle.ap_stream.specs.Reading.{Reads, reads}
 use Rattle.ap_stream.specs.Steps.{bytes_of}
@@ -29,11 +29,11 @@ use Rattle.ap_chunk.specs.declared.choice.Choice.{Choice}
 
 -- how many items must be seen together at the front
 unfoldable pub span : Rules → List Read → ℕ
-span rules reads = together (patterns_of rules) [] false (parts_of rules reads)
+span rules items = together (patterns_of rules) [] false (parts_of rules items)
 
 -- the rule that is chosen for the row of units at the front: every rule is tried on the whole row
 unfoldable pub choice : Rules → List Read → Option Choice
-choice rules reads = chosen_of (patterns_of rules) (units_in false (parts_of rules reads))
+choice rules items = chosen_of (patterns_of rules) (units_in false (parts_of rules items))
 
 -- why a rule gives nothing, as a limit; neither running a rule nor filling wants memory
 abbrev pub limit_of : ExecRefusal → LimitKind
@@ -60,18 +60,18 @@ lone_step vars text = if nat_lt unit_max (length text) then Stops limit.UnitTooL
 -- one item without a match
 abbrev pub unmatched_step : Rules → Held → List Read → Step
 unmatched_step rules vars [] = Gives 0 [] vars
-unmatched_step rules vars (read ∷ reads) = lone_step vars (unmatched_text rules read.item)
+unmatched_step rules vars (read ∷ more) = lone_step vars (unmatched_text rules read.item)
 
 -- a rule matches some units
 abbrev pub chosen_step : Rules → Held → List Read → Option Choice → Step
-chosen_step rules vars reads None = unmatched_step rules vars reads
-chosen_step rules vars reads (Some c) =
-    if nat_lt 0 c.size then rule_step rules c.rule vars (take (taken_by c.size (parts_of rules reads)) reads) else unmatched_step rules vars reads
+chosen_step rules vars items None = unmatched_step rules vars items
+chosen_step rules vars items (Some c) =
+    if nat_lt 0 c.size then rule_step rules c.rule vars (take (taken_by c.size (parts_of rules items)) items) else unmatched_step rules vars items
 
 -- the first step
 unfoldable pub chunk_step : Rules → Held → List Read → Step
-chunk_step rules vars reads =
-    if nat_lt span_max (bytes_of (take (span rules reads) reads)) then Stops limit.SpanTooLong else chosen_step rules vars reads (choice rules reads)
+chunk_step rules vars items =
+    if nat_lt span_max (bytes_of (take (span rules items) items)) then Stops limit.SpanTooLong else chosen_step rules vars items (choice rules items)
 
 -- the items of a text, step by step; the variables begin with what the rules state
 abbrev pub chunked : Rules → Held → List Read → Told

@@ -46,9 +46,13 @@ impl Model for ChunkWork {
     ghost use Rattle.ap_stream.specs.Reading.{IsRead};
     ghost use Rattle.ap_chunk.specs.Stages.{dialect_of};
     ghost use Rattle.ap_chunk.specs.Searching.{IsKnown};
+    ghost use Rattle.std.specs.Coded.{codes};
+    ghost use Rattle.ap_rules.specs.contracts.statement.Statement as statement;
     ghost use Rattle.ap_chunk.specs.Working.{Working};
 
     ghost Value = { Working };
+
+    ghost coded = { Prim.hlevel (codes, statement.the_row.coded) };
 
     ghost view = { λ w. record { rules = w.rules; vars = w.vars; items = w.items; finished = w.finished } };
 

@@ -39,9 +39,13 @@ pub struct Transfer {
 
 impl Model for Transfer {
     ghost use Rattle.ap_stream.specs.Seat.{Seat};
+    ghost use Rattle.std.specs.Coded.{codes};
+    ghost use Rattle.ap_rules.specs.contracts.statement.Statement as statement;
     ghost use Rattle.ap_chunk.specs.Working.{Working};
 
     ghost Value = { Seat Working };
+
+    ghost coded = { Prim.hlevel (codes, statement.the_row.coded) };
 
     ghost view = { λ s. s.stage };
 }

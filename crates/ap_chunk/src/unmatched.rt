@@ -1,5 +1,6 @@
 //! What is written for an item that no match holds.
 ghost use Rattle.std.specs.Prelude.{◌≡◌, ◌++◌, OnOk};
+ghost use Rattle.ap_rules.specs.declared.rules.DefaultPiece.TheVariants as default;
 ghost use Rattle.ap_chunk.specs.Parts.{word_of};
 ghost use Rattle.ap_chunk.specs.Unmatched.{lone_unit, is_unknown as unknown_test, chunk_front, default_text, unit_text, unmatched_text};
 

@@ -1,5 +1,5 @@
 //! What the first step of some items writes.
-ghost use Rattle.std.specs.Prelude.{◌≡◌, ◌≤◌, ◌<◌, [], length, take, IfOk, Some, None};
+ghost use Rattle.std.specs.Prelude.{◌≡◌, ◌≤◌, ◌<◌, [], length, take, true, IfOk, Some, None};
 ghost use Rattle.ap_rules.specs.declared.rules.Rules.{Rules};
 ghost use Rattle.ap_chunk.specs.Carrying.{Held, Step};
 ghost use Rattle.ap_chunk.specs.Parts.{parts_of};
