@@ -1,5 +1,5 @@
 -- What a search finds at the front of items, as the definitions over items say it.
-use Rattle.std.specs.Prelude.{◌≡◌, ℕ, suc, zero, ◌+◌, ◌<◌, ◌≤◌, Bool, true, false, List, [], ◌∷◌, ◌++◌, length, drop, map, refl, Option, Some, None, ◌⊎◌}
+use Rattle.std.specs.Prelude.{◌≡◌, ℕ, suc, zero, ◌+◌, ◌<◌, ◌≤◌, Bool, true, false, List, [], ◌∷◌, ◌++◌, length, drop, map, refl, Option, Some, None, IfSome, ◌⊎◌}
 use Rattle.std.proofs.Common.{arith, ap, sym, ◌∙◌, subst, get_or, inl, inr}
 use Rattle.std.proofs.lemmas.List.{append-nil, map-append}
 use Rattle.ap_stream.specs.declared.item.Read.{Read}
@@ -18,7 +18,7 @@ use Rattle.ap_chunk.specs.declared.search.Search.{Search}
 use Rattle.ap_chunk.proofs.ChunkSteps.{parts_length}
 use Rattle.ap_chunk.proofs.Walks.{walk_more, span_grows, span_all, last_end, end_last}
 
-parts_append : (rules : Rules) (reads xs : List Read) → parts_of rules (reads ++ xs) ≡ parts_of rules reads ++ parts_of rules xs
+pub parts_append : (rules : Rules) (reads xs : List Read) → parts_of rules (reads ++ xs) ≡ parts_of rules reads ++ parts_of rules xs
 parts_append rules reads xs = map-append (λ (read : Read). part_of rules read.item) reads xs
 
 none_parts : (rules : Rules) (last : Bool) (xs : List Read) → (last ≡ true → xs ≡ []) → last ≡ true → parts_of rules xs ≡ []
@@ -114,3 +114,7 @@ known_more rules reads xs search k = record {
   patterns = k.patterns;
   walk = λ e. subst (λ (parts : List Part). IsWalk parts search.walk) (sym (parts_append rules reads xs)) (walk_more (parts_of rules reads) search.walk (k.walk e) (parts_of rules xs));
 }
+
+pub front_in : (last : Bool) (rules : Rules) (reads : List Read) (look : Option Front) (front : Front) → look ≡ Some front → IfSome look (IsFront last rules reads) → IsFront last rules reads front
+front_in last rules reads None front e is = absurd (cc)
+front_in last rules reads (Some other) front e is = let same : other ≡ front = cc in subst (λ (f : Front). IsFront last rules reads f) same is

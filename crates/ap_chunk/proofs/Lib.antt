@@ -14,3 +14,4 @@ mod ChunkSteps
 mod Fronts
 mod Turns
 mod UnitWords
+mod Firsts

@@ -66,8 +66,8 @@ impl ChunkWork {
     /// The work by these rules, which holds nothing; variables hold what the rules state. The error
     /// means want of memory.
     pub fn new(alloc: Global, rules: Rules) -> Result<ChunkWork, Memory>
-        ensures rules { IfOk result (λ work. work.rules ≡ rules.entry) }
-        ensures vars { IfOk result (λ work. work.vars ≡ start_of rules.entry) }
+        ensures rules { IfOk result (λ work. work.rules ≡ rules) }
+        ensures vars { IfOk result (λ work. work.vars ≡ start_of rules) }
         ensures items { IfOk result (λ work. work.items ≡ []) }
         ensures finished { IfOk result (λ work. work.finished ≡ false) }
     {
@@ -128,7 +128,7 @@ impl ChunkWork {
     fn know(&self)
         ensures { AllByRecursion (IsRead (dialect_of self.now.rules.form)) self.now.items }
     {
-        let _ = self.finished;
+        let _ = self.items.len();
     }
 
     /// The first step, or none where an item more is wanted.

@@ -54,7 +54,7 @@ impl Transfer {
     /// A new stage by these rules, which are rules of transfer. The error means want of memory.
     pub fn new(alloc: Global, rules: Rules) -> Result<Transfer, Memory>
         requires { rules.form ≡ form.Transfer }
-        ensures rest { IfOk result (λ made. (x : List ℕ) (e : Ending) → rest_of chunk_work made x e ≡ transferred_text rules.entry x e) }
+        ensures rest { IfOk result (λ made. (x : List ℕ) (e : Ending) → rest_of chunk_work made x e ≡ transferred_text rules x e) }
         ensures pending { IfOk result (λ made. made.pending ≡ []) }
         ensures ended { IfOk result (λ made. made.ended ≡ false) }
         ensures fault { IfOk result (λ made. made.fault ≡ None) }

@@ -1,17 +1,20 @@
 //! What the first step of some items writes.
 ghost use Rattle.std.specs.Prelude.{◌≡◌, ◌≤◌, ◌<◌, [], length, take, true, IfOk, Some, None};
-ghost use Rattle.ap_rules.specs.declared.rules.Rules.{Rules};
-ghost use Rattle.ap_chunk.specs.Carrying.{Held, Step};
-ghost use Rattle.ap_chunk.specs.Parts.{parts_of};
-ghost use Rattle.ap_chunk.specs.Stages.{rule_step, unmatched_step, chosen_step, chunk_step};
-ghost use Rattle.ap_chunk.specs.Working.{meant, IsRefused};
+ghost use Rattle.ap_rules.specs.Views.{plain_rules};
+ghost use Rattle.ap_exec.specs.Acting.{act_of};
+ghost use Rattle.ap_exec.specs.Filling.{fill_of};
+ghost use Rattle.ap_exec.specs.Results.{Gives as Ran};
+ghost use Rattle.ap_chunk.specs.Carrying.{Held};
+ghost use Rattle.ap_chunk.specs.Matches.{matched_of, blanks_of};
+ghost use Rattle.ap_chunk.specs.Stages.{rule_step, unmatched_step, chunk_step};
+ghost use Rattle.ap_chunk.specs.Working.{meant, Gave, IsRefused};
 ghost use Rattle.ap_chunk.specs.Searching.{IsFront};
 
 use crate::matches::{blanks_of, matched_of};
 use crate::parts::Room;
 use crate::search::Front;
 use crate::unmatched::write_unmatched;
-use ap_exec::{ExecRefusal, Vars, act, fill};
+use ap_exec::{ExecRefusal, Template, Vars, act, fill};
 use ap_rules::Rules;
 use ap_stream::{LimitKind, Queue, Read, UNIT_MAX};
 use ap_symbol::{Bytes, Memory};
@@ -22,6 +25,44 @@ use std::alloc::Global;
 pub(crate) enum Written {
     Gives { count: usize, text: Bytes },
     Stops { kind: LimitKind },
+}
+
+/// The template that a rule gives for these items. Variables are left as the rule leaves them.
+fn run(
+    alloc: Global,
+    rules: &Rules,
+    rule: usize,
+    reads: &[Read],
+    room: &mut Room,
+    vars: &mut Vars,
+) -> Result<Template, ExecRefusal>
+    ensures { Ran (λ pieces. record { pieces = pieces; vars = vars.new }) result (act_of (plain_rules rules.now) rule (matched_of rules.now.form reads.now) vars.old) }
+{
+    let matched = matched_of(alloc, reads, &mut room.names)?;
+    act(alloc, rules, rule, &matched, vars)
+}
+
+/// The text of a template, filled with the blanks of these items.
+fn filled(alloc: Global, template: &Template, reads: &[Read]) -> Result<Bytes, ExecRefusal>
+    ensures { Ran (λ b. b) result (fill_of template.now (blanks_of reads.now)) }
+{
+    let blanks = blanks_of(alloc, reads)?;
+    fill(alloc, template, &blanks)
+}
+
+/// What a rule gives for these items. Variables are left as the rule leaves them.
+fn output(
+    alloc: Global,
+    rules: &Rules,
+    rule: usize,
+    reads: &[Read],
+    room: &mut Room,
+    vars: &mut Vars,
+) -> Result<Bytes, ExecRefusal>
+    ensures { Gave result vars.new (length reads.now) (rule_step rules.now rule vars.old reads.now) }
+{
+    let template = run(alloc, rules, rule, reads, room, vars)?;
+    filled(alloc, &template, reads)
 }
 
 /// A step that a rule refuses.
@@ -50,18 +91,13 @@ pub(crate) fn rule_step(
 ) -> Result<Written, Memory>
     ensures { IfOk result (λ made. meant made vars.new ≡ rule_step rules.now rule vars.old reads.now) }
 {
-    let matched = matched_of(alloc, reads, &mut room.names)?;
-    let blanks = blanks_of(alloc, reads)?;
-    let template = match act(alloc, rules, rule, &matched, vars) {
-        Ok(template) => template,
-        Err(refusal) => return refused(refusal),
-    };
-    let text = match fill(alloc, &template, &blanks) {
-        Ok(text) => text,
-        Err(refusal) => return refused(refusal),
-    };
-    let count = reads.len();
-    Ok(Written::Gives { count, text })
+    match output(alloc, rules, rule, reads, room, vars) {
+        Ok(text) => {
+            let count = reads.len();
+            Ok(Written::Gives { count, text })
+        }
+        Err(refusal) => refused(refusal),
+    }
 }
 
 /// The step in which one item is written without a match, into the text, which is empty.
