@@ -18,7 +18,7 @@ use Rattle.ap_exec.specs.declared.refusal.ExecRefusal.TheVariants.{OutputTooLong
 use Rattle.ap_chunk.specs.Carrying.{Held, Step, Gives, Stops}
 use Rattle.ap_chunk.specs.Matches.{matched_of, blanks_of}
 use Rattle.ap_chunk.specs.Parts.{Part, unit, gap, wall, parts_of, taken_by}
-use Rattle.ap_chunk.specs.Stages.{span, choice, limit_of, filled_step, acted_step, rule_step, lone_step, unmatched_step, chosen_step, chunk_step}
+use Rattle.ap_chunk.specs.Stages.{span, choice, limit_of, filled_step, acted_step, rule_step, lone_step, unmatched_step, chosen_step, is_overfull, tested_step, chunk_step}
 use Rattle.ap_chunk.specs.Unmatched.{unmatched_text}
 use Rattle.ap_chunk.specs.declared.choice.Choice.{Choice}
 
@@ -33,13 +33,16 @@ module _ (rules : Rules) (vars : Held) (reads : List Read) where
   unfolding chunk_step
   step_over h =
       let t : nat_lt span_max (bytes_of (take (span rules reads) reads)) ≡ true = grind (arith, nat_tests) in
-      ap (λ b. if b then Stops limit.SpanTooLong else chosen_step rules vars reads (choice rules reads)) t
+      ap (λ b. if b then Stops limit.SpanTooLong else tested_step rules vars reads) t
 
-  pub step_within : bytes_of (take (span rules reads) reads) ≤ span_max → chunk_step rules vars reads ≡ chosen_step rules vars reads (choice rules reads)
+  pub step_within : bytes_of (take (span rules reads) reads) ≤ span_max → chunk_step rules vars reads ≡ tested_step rules vars reads
   unfolding chunk_step
   step_within h =
       let f : nat_lt span_max (bytes_of (take (span rules reads) reads)) ≡ false = grind (arith, nat_tests) in
-      ap (λ b. if b then Stops limit.SpanTooLong else chosen_step rules vars reads (choice rules reads)) f
+      ap (λ b. if b then Stops limit.SpanTooLong else tested_step rules vars reads) f
+
+  pub tested_by : (b : Bool) → is_overfull rules.form reads ≡ b → tested_step rules vars reads ≡ (if b then Stops limit.UnitTooLong else chosen_step rules vars reads (choice rules reads))
+  tested_by b e = ap (λ b. if b then Stops limit.UnitTooLong else chosen_step rules vars reads (choice rules reads)) e
 
   pub chosen_some : (c : Choice) → 0 < c.size → chosen_step rules vars reads (Some c) ≡ rule_step rules c.rule vars (take (taken_by c.size (parts_of rules reads)) reads)
   chosen_some c h =
@@ -111,7 +114,7 @@ acted_uses : (k : ℕ) (held : Held) (blanks : List (List ℕ)) (ran : Ran Outco
 acted_uses k held blanks (Ok outcome) n text e = filled_uses k outcome.vars held (filled (marks outcome.pieces) blanks) n text e
 acted_uses k held blanks (Err refusal) n text e = absurd (cc)
 
-taken_some : (k : ℕ) (parts : List Part) → 0 < k → 0 < length parts → 0 < taken_by k parts
+pub taken_some : (k : ℕ) (parts : List Part) → 0 < k → 0 < length parts → 0 < taken_by k parts
 taken_some zero parts h some = absurd (omega arith)
 taken_some (suc k) [] h some = absurd (omega arith)
 taken_some (suc k) (unit u ∷ parts) h some = omega arith
@@ -136,8 +139,14 @@ chosen_uses rules vars held reads (Some c) n text some e = elim (cases_lt 0 c.si
   | inr le ↦ unmatched_uses rules vars held reads n text some (sym (chosen_empty rules vars reads c (omega (arith, le))) ∙ e)
 ]
 
+tested_uses : (rules : Rules) (vars held : Held) (reads : List Read) (n : ℕ) (text : List ℕ) → 0 < length reads → tested_step rules vars reads ≡ Gives n text held → Uses reads n text
+tested_uses rules vars held reads n text some e = elim (cases_Bool (is_overfull rules.form reads)) [
+  | inl t ↦ let wrong : Stops limit.UnitTooLong ≡ Gives n text held = sym (tested_by rules vars reads true t) ∙ e in absurd (cc)
+  | inr f ↦ chosen_uses rules vars held reads (choice rules reads) n text some (sym (tested_by rules vars reads false f) ∙ e)
+]
+
 pub step_uses : (rules : Rules) (vars held : Held) (reads : List Read) (n : ℕ) (text : List ℕ) → 0 < length reads → chunk_step rules vars reads ≡ Gives n text held → Uses reads n text
 step_uses rules vars held reads n text some e = elim (cases_lt span_max (bytes_of (take (span rules reads) reads))) [
   | inl lt ↦ let wrong : Stops limit.SpanTooLong ≡ Gives n text held = sym (step_over rules vars reads lt) ∙ e in absurd (cc)
-  | inr le ↦ chosen_uses rules vars held reads (choice rules reads) n text some (sym (step_within rules vars reads le) ∙ e)
+  | inr le ↦ tested_uses rules vars held reads n text some (sym (step_within rules vars reads le) ∙ e)
 ]

@@ -1,12 +1,15 @@
 -- The first step, by what the search found at the front; and that it is the same however the items go on.
-use Rattle.std.specs.Prelude.{◌≡◌, ℕ, ◌+◌, ◌<◌, ◌≤◌, nat_lt, Bool, true, false, List, [], ◌∷◌, ◌++◌, length, take, Option, Some, None, Result, Ok, Err, refl, if◌then◌else◌}
+use Rattle.std.specs.Prelude.{◌≡◌, ℕ, zero, suc, ◌+◌, ◌<◌, ◌≤◌, nat_lt, Bool, true, false, List, [], ◌∷◌, ◌++◌, length, take, Option, Some, None, Result, Ok, Err, refl, if◌then◌else◌}
 use Rattle.std.proofs.Common.{arith, ap, sym, ◌∙◌, subst}
 use Rattle.std.proofs.lemmas.List.{append-nil, take-append-le}
-use Rattle.ap_stream.specs.Limits.{span_max}
+use Rattle.ap_stream.specs.Limits.{span_max, unit_max}
 use Rattle.ap_stream.specs.Steps.{bytes_of}
 use Rattle.ap_stream.specs.declared.fault.LimitKind.TheVariants as limit
 use Rattle.ap_stream.specs.declared.item.Read.{Read}
+use Rattle.ap_rules.specs.declared.rules.Form.{Form}
 use Rattle.ap_rules.specs.declared.rules.Rules.{Rules}
+use Rattle.ap_symbol.specs.declared.symbol.Symbol.{Symbol}
+use Rattle.ap_chunk.specs.Chunks.{first_words, first_text}
 use Rattle.ap_exec.specs.Acting.{Outcome}
 use Rattle.ap_exec.specs.Filling.{fill_of}
 use Rattle.ap_exec.specs.Results.{Ran, Fails} 
@@ -16,11 +19,11 @@ use Rattle.ap_exec.specs.declared.refusal.ExecRefusal.TheVariants.{ValueTooLong,
 use Rattle.ap_chunk.specs.Carrying.{Held, Step, Gives, Stops}
 use Rattle.ap_chunk.specs.Parts.{Part, parts_of, taken_by}
 use Rattle.ap_chunk.specs.Searching.{IsTaken, IsFront}
-use Rattle.ap_chunk.specs.Stages.{span, choice, acted_step, filled_step, rule_step, unmatched_step, chosen_step, chunk_step}
+use Rattle.ap_chunk.specs.Stages.{span, choice, acted_step, filled_step, rule_step, unmatched_step, chosen_step, is_overfull, tested_step, chunk_step}
 use Rattle.ap_chunk.specs.Working.{Gave}
 use Rattle.ap_chunk.specs.declared.choice.Choice.{Choice}
 use Rattle.ap_chunk.specs.declared.search.Front.{Front}
-use Rattle.ap_chunk.proofs.ChunkSteps.{chosen_some, chosen_empty}
+use Rattle.ap_chunk.proofs.ChunkSteps.{tested_by, chosen_some, chosen_empty, taken_some, parts_length}
 use Rattle.ap_chunk.proofs.Fronts.{parts_append}
 
 -- What a rule gives.
@@ -42,10 +45,9 @@ act_gave n blanks o ran r e h = subst (λ (x : Ran Outcome). Gave r o.vars n (ac
 -- By its cases.
 
 step_by : (rules : Rules) (vars : Held) (items : List Read) (n : ℕ) (b : Bool) → span rules items ≡ n → nat_lt span_max (bytes_of (take n items)) ≡ b
-    → chunk_step rules vars items ≡ (if b then Stops limit.SpanTooLong else chosen_step rules vars items (choice rules items))
+    → chunk_step rules vars items ≡ (if b then Stops limit.SpanTooLong else tested_step rules vars items)
 unfolding chunk_step
-step_by rules vars items n b s e =
-    ap (λ b. if b then Stops limit.SpanTooLong else chosen_step rules vars items (choice rules items)) (ap (λ k. nat_lt span_max (bytes_of (take k items))) s ∙ e)
+step_by rules vars items n b s e = ap (λ b. if b then Stops limit.SpanTooLong else tested_step rules vars items) (ap (λ k. nat_lt span_max (bytes_of (take k items))) s ∙ e)
 
 module _ (rules : Rules) (vars : Held) (items : List Read) (front : Front) (f : IsFront true rules items front) where
   choice_here : choice rules items ≡ front.choice
@@ -54,27 +56,56 @@ module _ (rules : Rules) (vars : Held) (items : List Read) (front : Front) (f : 
   span_here : span rules items ≡ front.span
   span_here = ap (span rules) (sym (append-nil items)) ∙ f.span_is [] (λ _. refl)
 
+  -- the words that the code has of the first item
+  overfull_here : (reads : List Read) (words : List (List Symbol)) → reads ≡ items → words ≡ first_words rules.form reads → nat_lt unit_max (length (first_text rules.form reads words)) ≡ is_overfull rules.form items
+  overfull_here reads words r w =
+      ap (λ (ws : List (List Symbol)). nat_lt unit_max (length (first_text rules.form reads ws))) w ∙ ap (λ (rs : List Read). nat_lt unit_max (length (first_text rules.form rs (first_words rules.form rs)))) r
+
   module _ (b : Bool) (is : b ≡ nat_lt span_max (bytes_of (take front.span items))) where
     pub first_over : b ≡ true → Stops limit.SpanTooLong ≡ chunk_step rules vars items
     first_over t = sym (step_by rules vars items front.span true span_here (sym is ∙ t))
 
-    first_within : b ≡ false → chunk_step rules vars items ≡ chosen_step rules vars items front.choice
-    first_within t = step_by rules vars items front.span false span_here (sym is ∙ t) ∙ ap (chosen_step rules vars items) choice_here
+    module _ (t : b ≡ false) (reads : List Read) (words : List (List Symbol)) (r : reads ≡ items) (w : words ≡ first_words rules.form reads) (over : Bool) (o : over ≡ nat_lt unit_max (length (first_text rules.form reads words))) where
+      first_tested : chunk_step rules vars items ≡ tested_step rules vars items
+      first_tested = step_by rules vars items front.span false span_here (sym is ∙ t)
 
-    pub first_none : b ≡ false → front.choice ≡ None → chunk_step rules vars items ≡ unmatched_step rules vars items
-    first_none t e = first_within t ∙ ap (chosen_step rules vars items) e
+      full : over ≡ is_overfull rules.form items
+      full = o ∙ overfull_here reads words r w
 
-    module _ (c : Choice) (t : b ≡ false) (e : front.choice ≡ Some c) where
-      pub first_empty : c.size ≡ 0 → chunk_step rules vars items ≡ unmatched_step rules vars items
-      first_empty z = first_within t ∙ ap (chosen_step rules vars items) e ∙ chosen_empty rules vars items c z
+      pub first_full : over ≡ true → Stops limit.UnitTooLong ≡ chunk_step rules vars items
+      first_full e = sym (first_tested ∙ tested_by rules vars items true (sym full ∙ e))
 
-      taken_here : taken_by c.size (parts_of rules items) ≡ front.taken
-      taken_here =
-          ap (taken_by c.size) (sym (append-nil (parts_of rules items))) ∙ (let h : IsTaken (Some c) front.taken (parts_of rules items) = subst (λ o. IsTaken o front.taken (parts_of rules items)) e f.taken_is in h [])
+      pub first_chosen : over ≡ false → chosen_step rules vars reads front.choice ≡ chunk_step rules vars items
+      first_chosen e =
+          ap (λ (rs : List Read). chosen_step rules vars rs front.choice) r ∙ ap (chosen_step rules vars items) (sym choice_here) ∙ sym (first_tested ∙ tested_by rules vars items false (sym full ∙ e))
 
-      pub first_some : 0 < c.size → chunk_step rules vars items ≡ rule_step rules c.rule vars (take front.taken items)
-      first_some h =
-          first_within t ∙ ap (chosen_step rules vars items) e ∙ chosen_some rules vars items c h ∙ ap (λ k. rule_step rules c.rule vars (take k items)) taken_here
+-- the step that is chosen
+module _ (rules : Rules) (vars : Held) (reads : List Read) (choice : Option Choice) (taken : ℕ) (is : IsTaken choice taken (parts_of rules reads)) where
+  pub none_chosen : choice ≡ None → unmatched_step rules vars reads ≡ chosen_step rules vars reads choice
+  none_chosen e = ap (chosen_step rules vars reads) (sym e)
+
+  module _ (c : Choice) (e : choice ≡ Some c) where
+    pub empty_chosen : c.size ≡ 0 → unmatched_step rules vars reads ≡ chosen_step rules vars reads choice
+    empty_chosen z = sym (chosen_empty rules vars reads c z) ∙ ap (chosen_step rules vars reads) (sym e)
+
+    taken_here : taken_by c.size (parts_of rules reads) ≡ taken
+    taken_here =
+        ap (taken_by c.size) (sym (append-nil (parts_of rules reads))) ∙ (let h : IsTaken (Some c) taken (parts_of rules reads) = subst (λ o. IsTaken o taken (parts_of rules reads)) e is in h [])
+
+    pub some_taken : 0 < c.size → 0 < length reads → 0 < taken
+    some_taken h some =
+        let l = parts_length rules reads in
+        let t = taken_some c.size (parts_of rules reads) h (omega (arith, l, some)) in
+        omega (arith, t, taken_here)
+
+    pub rule_chosen : 0 < c.size → rule_step rules c.rule vars (take taken reads) ≡ chosen_step rules vars reads choice
+    rule_chosen h = ap (λ k. rule_step rules c.rule vars (take k reads)) (sym taken_here) ∙ sym (chosen_some rules vars reads c h) ∙ ap (chosen_step rules vars reads) (sym e)
+
+-- the words of the first item of some
+pub words_taken : (form : Form) (reads : List Read) (k : ℕ) (words : List (List Symbol)) → 0 < k → words ≡ first_words form reads → words ≡ first_words form (take k reads)
+words_taken form reads zero words h e = absurd (omega arith)
+words_taken form [] (suc k) words h e = e
+words_taken form (read ∷ reads) (suc k) words h e = e
 
 -- However the items go on.
 
@@ -93,6 +124,10 @@ chosen_more rules vars items xs (Some c) taken some is le =
     ap (λ (reads : List Read). if nat_lt 0 c.size then rule_step rules c.rule vars reads else unmatched_step rules vars (items ++ xs)) same
     ∙ ap (λ (step : Step). if nat_lt 0 c.size then rule_step rules c.rule vars (take (taken_by c.size (parts_of rules items)) items) else step) (unmatched_more rules vars items xs some)
 
+overfull_more : (form : Form) (items xs : List Read) → 0 < length items → is_overfull form (items ++ xs) ≡ is_overfull form items
+overfull_more form [] xs some = absurd (omega arith)
+overfull_more form (read ∷ items) xs some = refl
+
 pub settled : (last : Bool) (rules : Rules) (vars : Held) (items : List Read) (front : Front) → IsFront last rules items front → 0 < length items → (xs : List Read) → (last ≡ true → xs ≡ [])
     → chunk_step rules vars (items ++ xs) ≡ chunk_step rules vars items
 settled last rules vars items front f some xs e =
@@ -102,5 +137,7 @@ settled last rules vars items front f some xs e =
     let within : front.taken ≤ length items = (let t = f.taken_within in let w = f.within in omega (arith, t, w)) in
     step_by rules vars (items ++ xs) front.span b (f.span_is xs e) (ap (λ (reads : List Read). nat_lt span_max (bytes_of reads)) (take-append-le front.span items xs f.within))
     ∙ ap (λ (step : Step). if b then Stops limit.SpanTooLong else step)
-    (ap (chosen_step rules vars (items ++ xs)) (f.chosen_is xs e) ∙ chosen_more rules vars items xs front.choice front.taken some f.taken_is within ∙ ap (chosen_step rules vars items) (sym alone_choice))
+    (tested_by rules vars (items ++ xs) (is_overfull rules.form items) (overfull_more rules.form items xs some)
+    ∙ ap (λ (step : Step). if is_overfull rules.form items then Stops limit.UnitTooLong else step)
+    (ap (chosen_step rules vars (items ++ xs)) (f.chosen_is xs e) ∙ chosen_more rules vars items xs front.choice front.taken some f.taken_is within ∙ ap (chosen_step rules vars items) (sym alone_choice)))
     ∙ sym (step_by rules vars items front.span b alone_span refl)

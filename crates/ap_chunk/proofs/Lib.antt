@@ -15,3 +15,4 @@ mod Fronts
 mod Turns
 mod UnitWords
 mod Firsts
+mod ChunkWords

@@ -8,6 +8,7 @@ pub mod Going
 pub mod Rows
 pub mod Carrying
 pub mod Parts
+pub mod Chunks
 pub mod Matches
 pub mod Unmatched
 pub mod Stages

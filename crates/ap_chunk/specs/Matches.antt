@@ -1,5 +1,5 @@
 -- What a match gives to a rule, and its blanks.
-use Rattle.std.specs.Prelude.{ℕ, List, [], ◌∷◌, ◌++◌, Option, Some, None}
+use Rattle.std.specs.Prelude.{ℕ, List, [], ◌∷◌, ◌++◌, map, Option, Some, None}
 use Rattle.std.specs.List.{flat_map}
 use Rattle.ap_symbol.specs.declared.symbol.Symbol.{Symbol}
 use Rattle.ap_stream.specs.declared.item.Inner.{Inner}
@@ -11,11 +11,16 @@ use Rattle.ap_rules.specs.declared.rules.Form.{Form}
 use Rattle.ap_rules.specs.declared.rules.Form.TheVariants.{Transfer, Interchunk, Postchunk}
 use Rattle.ap_exec.specs.declared.matched.Matched.{Matched}
 use Rattle.ap_exec.specs.declared.matched.MatchedUnit.{MatchedUnit}
+use Rattle.ap_chunk.specs.Chunks.{first_words}
 use Rattle.ap_chunk.specs.Parts.{word_of}
 
 -- a unit of transfer: its first word and the whole of its second; further words aren't used
 abbrev pub translated : List (List Symbol) → MatchedUnit
 translated words = record { source = word_of 0 words; head = word_of 1 words; queue = []; content = [] }
+
+-- a word of a chunk in postchunk
+abbrev pub worded : List Symbol → MatchedUnit
+worded word = record { source = []; head = word; queue = []; content = [] }
 
 -- a chunk of interchunk: its name with its tags, and what it holds
 abbrev pub named : List Symbol → List Inner → MatchedUnit
@@ -30,9 +35,22 @@ matched_item (Chunk c) = named c.name c.content ∷ []
 abbrev pub matched_items : List Read → List MatchedUnit
 matched_items reads = flat_map (λ read. matched_item read.item) reads
 
--- what is run on the items of a match
+-- the name of a chunk, with its tags
+abbrev pub item_name : Item → List Symbol
+item_name (Plain c) = []
+item_name (Blank bytes) = []
+item_name (Unit words) = []
+item_name (Chunk c) = c.name
+
+abbrev pub first_name : List Read → List Symbol
+first_name [] = []
+first_name (read ∷ reads) = item_name read.item
+
+-- What a rule is run on: the units of the match; in postchunk, where a pattern has one item, its chunk and the words of that.
 abbrev pub matched_of : Form → List Read → Matched
-matched_of form reads = record { chunk = None; units = matched_items reads }
+matched_of Transfer reads = record { chunk = None; units = matched_items reads }
+matched_of Interchunk reads = record { chunk = None; units = matched_items reads }
+matched_of Postchunk reads = record { chunk = Some (first_name reads); units = map worded (first_words Postchunk reads) }
 
 abbrev pub inner_blanks : Inner → List (List ℕ)
 inner_blanks (inner.Unit words) = []

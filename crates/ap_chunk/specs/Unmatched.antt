@@ -1,9 +1,9 @@
 -- What is written for an item that no match holds.
 use Rattle.std.specs.Prelude.{ℕ, Bool, true, false, List, [], ◌∷◌, ◌++◌, codes, if◌then◌else◌}
-use Rattle.ap_symbol.specs.Rendering.{rendering}
 use Rattle.ap_symbol.specs.declared.symbol.Symbol.{Symbol}
 use Rattle.ap_symbol.specs.declared.symbol.Symbol.TheVariants.{Star}
-use Rattle.ap_stream.specs.Spelling.{spelled}
+use Rattle.ap_stream.specs.Spelling.{spelled, chunk_bytes}
+use Rattle.ap_stream.specs.declared.item.Inner.{Inner}
 use Rattle.ap_stream.specs.declared.item.Item.{Item}
 use Rattle.ap_stream.specs.declared.item.Item.TheVariants.{Plain, Blank, Unit, Chunk}
 use Rattle.ap_rules.specs.declared.rules.DefaultPiece.{DefaultPiece}
@@ -11,12 +11,8 @@ use Rattle.ap_rules.specs.declared.rules.DefaultPiece.TheVariants as default
 use Rattle.ap_rules.specs.declared.rules.Form.{Form}
 use Rattle.ap_rules.specs.declared.rules.Form.TheVariants.{Transfer, Interchunk, Postchunk}
 use Rattle.ap_rules.specs.declared.rules.Rules.{Rules}
+use Rattle.ap_chunk.specs.Chunks.{lone_unit, chunk_words, content_text}
 use Rattle.ap_chunk.specs.Parts.{word_of}
-
--- a word as a unit; nothing where it is empty
-abbrev pub lone_unit : List Symbol → List ℕ
-lone_unit [] = []
-lone_unit (x ∷ word) = 94 ∷ (rendering (x ∷ word) ++ 36 ∷ [])
 
 -- the source of a unit is unknown: it begins with a star
 abbrev pub is_unknown : List Symbol → Bool
@@ -38,9 +34,15 @@ unit_text Transfer piece words = default_text piece (word_of 0 words) (word_of 1
 unit_text Interchunk piece words = spelled (Unit words)
 unit_text Postchunk piece words = spelled (Unit words)
 
+-- in postchunk a chunk is replaced by its content
+abbrev pub chunk_text : Form → List Symbol → List Inner → List ℕ
+chunk_text Transfer name content = chunk_bytes name content
+chunk_text Interchunk name content = chunk_bytes name content
+chunk_text Postchunk name content = content_text content (chunk_words name content)
+
 -- every other item as it is spelled
 abbrev pub unmatched_text : Rules → Item → List ℕ
 unmatched_text rules (Plain c) = spelled (Plain c)
 unmatched_text rules (Blank bytes) = spelled (Blank bytes)
 unmatched_text rules (Unit words) = unit_text rules.form rules.default words
-unmatched_text rules (Chunk c) = spelled (Chunk c)
+unmatched_text rules (Chunk c) = chunk_text rules.form c.name c.content

@@ -1,12 +1,13 @@
 //! What a match gives to a rule.
-ghost use Rattle.std.specs.Prelude.{◌≡◌, ◌++◌, ◌∷◌, [], IfOk, OnOk};
+ghost use Rattle.std.specs.Prelude.{◌≡◌, ◌++◌, ◌∷◌, [], map, IfOk, OnOk};
 ghost use Rattle.std.specs.List.{flat_map};
-ghost use Rattle.ap_rules.specs.declared.rules.Form.{Form};
+ghost use Rattle.ap_chunk.specs.Chunks.{first_words};
 ghost use Rattle.ap_chunk.specs.Parts.{word_of};
-ghost use Rattle.ap_chunk.specs.Matches.{translated, named, matched_item, matched_items, matched_of, inner_blanks, item_blanks, blanks_of};
+ghost use Rattle.ap_chunk.specs.Matches.{translated, worded, named, item_name, first_name, matched_item, matched_items, matched_of, inner_blanks, item_blanks, blanks_of};
 
 use crate::parts::put_word;
 use ap_exec::{Blanks, Matched, MatchedUnit, MatchedUnits};
+use ap_rules::Form;
 use ap_stream::{Blank, Chunk, Content, Inner, Item, Names, Read, Unit};
 use ap_symbol::{Memory, Sequence, Word};
 use std::alloc::Global;
@@ -106,19 +107,81 @@ fn push_matched(
     }
 }
 
-/// What a rule is run on, where these items are the match.
-pub(crate) fn matched_of(
-    alloc: Global,
-    reads: &[Read],
-    names: &mut Names,
-) -> Result<Matched, Memory>
-    ensures { (form : Form) → IfOk result (λ made. made ≡ matched_of form reads.now) }
+/// The units of transfer or interchunk that a rule is run on, where these items are the match.
+fn units_of(alloc: Global, reads: &[Read], names: &mut Names) -> Result<MatchedUnits, Memory>
+    ensures { IfOk result (λ made. made ≡ matched_items reads.now) }
 {
     let mut units = Sequence::new(alloc);
     for read in reads {
         push_matched(alloc, &read.item, names, &mut units)?;
     }
-    Ok(Matched { chunk: None, units })
+    Ok(units)
+}
+
+/// A word of a chunk in postchunk, as a rule is run on it.
+fn worded(alloc: Global, word: &Word) -> Result<MatchedUnit, Memory>
+    ensures { IfOk result (λ made. made ≡ worded word.now) }
+{
+    Ok(MatchedUnit {
+        source: Word::new(alloc),
+        head: word.copy(alloc)?,
+        queue: Word::new(alloc),
+        content: Content::new(alloc),
+    })
+}
+
+/// The units of postchunk that a rule is run on.
+fn words_of(alloc: Global, words: &[Word]) -> Result<MatchedUnits, Memory>
+    ensures { IfOk result (λ made. made ≡ map worded words.now) }
+{
+    let mut units = Sequence::new(alloc);
+    for word in words {
+        units.push(worded(alloc, word)?)?;
+    }
+    Ok(units)
+}
+
+/// The name of an item that is a chunk, with its tags.
+fn item_name(alloc: Global, item: &Item) -> Result<Word, Memory>
+    ensures { IfOk result (λ made. made ≡ item_name item.now) }
+{
+    match item {
+        Item::Plain(_) | Item::Blank(_) | Item::Unit(_) => Ok(Word::new(alloc)),
+        Item::Chunk(chunk) => chunk.name.copy(alloc),
+    }
+}
+
+fn first_name(alloc: Global, reads: &[Read]) -> Result<Word, Memory>
+    ensures { IfOk result (λ made. made ≡ first_name reads.now) }
+{
+    match reads {
+        [] => Ok(Word::new(alloc)),
+        [first, ..] => item_name(alloc, &first.item),
+    }
+}
+
+/// What a rule is run on, where these items are the match. In postchunk the words of its chunk are
+/// those.
+pub(crate) fn matched_of(
+    alloc: Global,
+    form: Form,
+    reads: &[Read],
+    words: &[Word],
+    names: &mut Names,
+) -> Result<Matched, Memory>
+    requires { words.now ≡ first_words form reads.now }
+    ensures { IfOk result (λ made. made ≡ matched_of form reads.now) }
+{
+    match form {
+        Form::Transfer | Form::Interchunk => Ok(Matched {
+            chunk: None,
+            units: units_of(alloc, reads, names)?,
+        }),
+        Form::Postchunk => Ok(Matched {
+            chunk: Some(first_name(alloc, reads)?),
+            units: words_of(alloc, words)?,
+        }),
+    }
 }
 
 /// Appends a copy of a blank.

@@ -5,11 +5,14 @@ ghost use Rattle.ap_exec.specs.Acting.{act_of};
 ghost use Rattle.ap_exec.specs.Filling.{fill_of};
 ghost use Rattle.ap_exec.specs.Results.{Gives as Ran};
 ghost use Rattle.ap_chunk.specs.Carrying.{Held};
+ghost use Rattle.ap_chunk.specs.Chunks.{first_words};
 ghost use Rattle.ap_chunk.specs.Matches.{matched_of, blanks_of};
-ghost use Rattle.ap_chunk.specs.Stages.{rule_step, unmatched_step, chunk_step};
+ghost use Rattle.ap_chunk.specs.Parts.{parts_of};
+ghost use Rattle.ap_chunk.specs.Stages.{rule_step, unmatched_step, chosen_step, chunk_step};
 ghost use Rattle.ap_chunk.specs.Working.{meant, Gave, IsRefused};
-ghost use Rattle.ap_chunk.specs.Searching.{IsFront};
+ghost use Rattle.ap_chunk.specs.Searching.{IsTaken, IsFront};
 
+use crate::chunks::{first_words, is_overfull};
 use crate::matches::{blanks_of, matched_of};
 use crate::parts::Room;
 use crate::search::Front;
@@ -17,7 +20,7 @@ use crate::unmatched::write_unmatched;
 use ap_exec::{ExecRefusal, Template, Vars, act, fill};
 use ap_rules::Rules;
 use ap_stream::{LimitKind, Queue, Read, UNIT_MAX};
-use ap_symbol::{Bytes, Memory};
+use ap_symbol::{Bytes, Memory, Word};
 use std::alloc::Global;
 
 /// What a step does: it uses so many items and writes this, or it stops at a limit.
@@ -33,12 +36,14 @@ fn run(
     rules: &Rules,
     rule: usize,
     reads: &[Read],
+    words: &[Word],
     room: &mut Room,
     vars: &mut Vars,
 ) -> Result<Template, ExecRefusal>
+    requires { words.now ≡ first_words rules.now.form reads.now }
     ensures { Ran (λ pieces. record { pieces = pieces; vars = vars.new }) result (act_of (plain_rules rules.now) rule (matched_of rules.now.form reads.now) vars.old) }
 {
-    let matched = matched_of(alloc, reads, &mut room.names)?;
+    let matched = matched_of(alloc, rules.form, reads, words, &mut room.names)?;
     act(alloc, rules, rule, &matched, vars)
 }
 
@@ -56,12 +61,14 @@ fn output(
     rules: &Rules,
     rule: usize,
     reads: &[Read],
+    words: &[Word],
     room: &mut Room,
     vars: &mut Vars,
 ) -> Result<Bytes, ExecRefusal>
+    requires { words.now ≡ first_words rules.now.form reads.now }
     ensures { Gave result vars.new (length reads.now) (rule_step rules.now rule vars.old reads.now) }
 {
-    let template = run(alloc, rules, rule, reads, room, vars)?;
+    let template = run(alloc, rules, rule, reads, words, room, vars)?;
     filled(alloc, &template, reads)
 }
 
@@ -86,12 +93,14 @@ pub(crate) fn rule_step(
     rules: &Rules,
     rule: usize,
     reads: &[Read],
+    words: &[Word],
     room: &mut Room,
     vars: &mut Vars,
 ) -> Result<Written, Memory>
+    requires { words.now ≡ first_words rules.now.form reads.now }
     ensures { IfOk result (λ made. meant made vars.new ≡ rule_step rules.now rule vars.old reads.now) }
 {
-    match output(alloc, rules, rule, reads, room, vars) {
+    match output(alloc, rules, rule, reads, words, room, vars) {
         Ok(text) => {
             let count = reads.len();
             Ok(Written::Gives { count, text })
@@ -105,20 +114,52 @@ pub(crate) fn unmatched_step(
     alloc: Global,
     rules: &Rules,
     reads: &[Read],
+    words: &[Word],
     room: &mut Room,
     mut text: Bytes,
 ) -> Result<Written, Memory>
     requires some { 0 < length reads.now }
+    requires words { words.now ≡ first_words rules.now.form reads.now }
     requires empty { text ≡ [] }
     ensures { (vars : Held) → IfOk result (λ made. meant made vars ≡ unmatched_step rules.now vars reads.now) }
 {
-    write_unmatched(alloc, rules, &reads[0].item, room, &mut text)?;
+    write_unmatched(alloc, rules, &reads[0].item, words, room, &mut text)?;
     if text.as_slice().len() > UNIT_MAX {
         return Ok(Written::Stops {
             kind: LimitKind::UnitTooLong,
         });
     }
     Ok(Written::Gives { count: 1, text })
+}
+
+/// The step that is chosen for the items, where these are the words of the first one in postchunk.
+fn chosen_step(
+    alloc: Global,
+    rules: &Rules,
+    reads: &[Read],
+    front: Front,
+    words: &[Word],
+    room: &mut Room,
+    vars: &mut Vars,
+    text: Bytes,
+) -> Result<Written, Memory>
+    requires some { 0 < length reads.now }
+    requires taken { IsTaken front.choice front.taken (parts_of rules.now reads.now) }
+    requires within { front.taken ≤ length reads.now }
+    requires words { words.now ≡ first_words rules.now.form reads.now }
+    requires empty { text ≡ [] }
+    ensures { IfOk result (λ made. meant made vars.new ≡ chosen_step rules.now vars.old reads.now front.choice) }
+{
+    match front.choice {
+        None => unmatched_step(alloc, rules, reads, words, room, text),
+        Some(choice) => {
+            if choice.size == 0 {
+                return unmatched_step(alloc, rules, reads, words, room, text);
+            }
+            let taken = &reads[..front.taken];
+            rule_step(alloc, rules, choice.rule, taken, words, room, vars)
+        }
+    }
 }
 
 /// The first step of the items, by what the search found at their front. It is written into the
@@ -130,7 +171,7 @@ pub(crate) fn first_step(
     front: Front,
     room: &mut Room,
     vars: &mut Vars,
-    text: Bytes,
+    mut text: Bytes,
 ) -> Result<Written, Memory>
     requires some { 0 < length items.now }
     requires front { IsFront true rules.now items.now front }
@@ -143,13 +184,11 @@ pub(crate) fn first_step(
         });
     }
     let reads = items.as_slice();
-    match front.choice {
-        None => unmatched_step(alloc, rules, reads, room, text),
-        Some(choice) => {
-            if choice.size == 0 {
-                return unmatched_step(alloc, rules, reads, room, text);
-            }
-            rule_step(alloc, rules, choice.rule, &reads[..front.taken], room, vars)
-        }
+    let words = first_words(alloc, rules.form, reads, room)?;
+    if is_overfull(rules.form, reads, words.as_slice(), &mut text)? {
+        return Ok(Written::Stops {
+            kind: LimitKind::UnitTooLong,
+        });
     }
+    chosen_step(alloc, rules, reads, front, words.as_slice(), room, vars, text)
 }
