@@ -252,7 +252,8 @@ pub over_opens : (patterns : List (List ℕ)) (units : List (ℕ → Bool)) (rul
 over_opens patterns units rule h =
     over_opens_at patterns units rule (slice_get patterns rule) refl h
 
-pub opens_none : (patterns : List (List ℕ)) (units : List (ℕ → Bool)) → (SomeLive patterns units → ⊥) →
+pub opens_none : (patterns : List (List ℕ)) (units : List (ℕ → Bool)) →
+    (SomeLive patterns units → ⊥) →
     IsLeast (is_over patterns units) None → SomeOpens patterns units → ⊥
 opens_none patterns units dead none s = elim (opens_parts s.pattern units s.fit) [
   | inl g ↦ dead (record { rule = s.rule; live = ap (of_rule (λ p. goes_on p units)) s.at ∙ g })

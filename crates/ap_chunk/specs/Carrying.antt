@@ -1,4 +1,5 @@
--- Tools that go over the items of a text from left to right, step by step, and carry what variables hold from step to step.
+-- Tools that go over the items of a text from left to right, step by step, and carry what variables
+-- hold from step to step.
 use Rattle.std.specs.Prelude.{ℕ, zero, suc, pred, List, [], ◌∷◌}
 use Rattle.ap_symbol.specs.declared.symbol.Symbol.{Symbol}
 use Rattle.ap_stream.specs.declared.fault.LimitKind.{LimitKind}
@@ -10,7 +11,8 @@ use Rattle.ap_stream.specs.Told.{Told, silent, behind, ends_in}
 abbrev pub Held : Type 0
 Held = List (List Symbol)
 
--- what a step does: it uses so many items, writes this, and leaves this in the variables, or it stops at a limit
+-- what a step does: it uses so many items, writes this, and leaves this in the variables, or it
+-- stops at a limit
 pub data Step : Type 0 where
   Gives : ℕ → List ℕ → Held → Step
   Stops : LimitKind → Step
@@ -20,8 +22,10 @@ abbrev pub goes_on : ℕ → Step → (ℕ → Held → Told) → Told
 goes_on place (Gives n text vars) more = behind text (more (pred n) vars)
 goes_on place (Stops kind) more = ends_in [] (Limit kind place)
 
--- the steps from left to right, by the first step of some items, where so many items are used already
+-- the steps from left to right, by the first step of some items, where so many items are used
+-- already
 unfoldable pub carried : (Held → List Read → Step) → Held → ℕ → List Read → Told
 carried first vars skip [] = silent
 carried first vars (suc skip) (read ∷ reads) = carried first vars skip reads
-carried first vars zero (read ∷ reads) = goes_on read.place (first vars (read ∷ reads)) (λ n held. carried first held n reads)
+carried first vars zero (read ∷ reads) = goes_on read.place (first vars (read ∷ reads))
+    (λ n held. carried first held n reads)

@@ -42,7 +42,8 @@ tag_of tags (suc n) = alone (slice_get tags n)
 
 -- a tag whose name is decimal digits is replaced by the chunk's tag of that number
 abbrev pub fill_symbol : List Symbol → Symbol → List Symbol
-fill_symbol tags (Tag name) = if list_all is_digit name then tag_of tags (number_from 0 name) else Tag name ∷ []
+fill_symbol tags (Tag name) = if list_all is_digit name then tag_of tags (number_from 0 name) else
+    Tag name ∷ []
 fill_symbol tags x = x ∷ []
 
 abbrev pub fill_word : List Symbol → List Symbol → List Symbol
@@ -70,12 +71,15 @@ carry_one All first word = carry_lem All word
 
 -- the word of a part, where it is a unit
 abbrev pub part_words : Case → List Symbol → Bool → Inner → List (List Symbol)
-part_words c tags first (inner.Unit words) = carry_one c first (fill_word tags (word_of 0 words)) ∷ []
+part_words c tags first (inner.Unit words) = carry_one c first (fill_word tags (word_of 0 words)) ∷
+    []
 part_words c tags first (inner.Blank bytes) = []
 
--- the words of a chunk: their numbered tags are filled with all tags of its name, and then the case of its lemma is carried
+-- the words of a chunk: their numbered tags are filled with all tags of its name, and then the case
+-- of its lemma is carried
 abbrev pub chunk_words : List Symbol → List Inner → List (List Symbol)
-chunk_words name content = carry_words (case_of_lem (take (first_tag name) name)) (map (fill_word (filter is_tag name)) (content_words content))
+chunk_words name content = carry_words (case_of_lem (take (first_tag name) name))
+    (map (fill_word (filter is_tag name)) (content_words content))
 
 -- the blanks of a content, and these words as its units
 abbrev pub content_text : List Inner → List (List Symbol) → List ℕ

@@ -16,7 +16,13 @@ use Rattle.ap_chunk.specs.Parts.{word_of}
 
 -- a unit of transfer: its first word and the whole of its second; further words aren't used
 abbrev pub translated : List (List Symbol) → MatchedUnit
-translated words = record { source = word_of 0 words; head = word_of 1 words; queue = []; content = [] }
+translated words = record {
+  source = word_of 0 words;
+  head = word_of 1 words;
+  queue = [];
+  content =
+      [];
+}
 
 -- a word of a chunk in postchunk
 abbrev pub worded : List Symbol → MatchedUnit
@@ -46,11 +52,16 @@ abbrev pub first_name : List Read → List Symbol
 first_name [] = []
 first_name (read ∷ reads) = item_name read.item
 
--- What a rule is run on: the units of the match; in postchunk, where a pattern has one item, its chunk and the words of that.
+-- What a rule is run on: the units of the match; in postchunk, where a pattern has one item, its
+-- chunk and the words of that.
 abbrev pub matched_of : Form → List Read → Matched
 matched_of Transfer reads = record { chunk = None; units = matched_items reads }
 matched_of Interchunk reads = record { chunk = None; units = matched_items reads }
-matched_of Postchunk reads = record { chunk = Some (first_name reads); units = map worded (first_words Postchunk reads) }
+matched_of Postchunk reads = record {
+  chunk = Some (first_name reads);
+  units =
+      map worded (first_words Postchunk reads);
+}
 
 abbrev pub inner_blanks : Inner → List (List ℕ)
 inner_blanks (inner.Unit words) = []

@@ -69,11 +69,15 @@ some_opens patterns units = list_any (λ pattern. opens pattern units) patterns
 abbrev pub some_longer : List (List ℕ) → List (ℕ → Bool) → Bool
 some_longer patterns units = list_any (λ pattern. goes_on pattern units) patterns
 
--- How many items more are seen together with those before, which hold these units, where a blank may come next or not: a unit
--- while the units so far fit the beginning of a pattern, and one blank behind a unit while that pattern is longer.
+-- How many items more are seen together with those before, which hold these units, where a blank
+-- may come next or not: a unit
+-- while the units so far fit the beginning of a pattern, and one blank behind a unit while that
+-- pattern is longer.
 abbrev pub together : List (List ℕ) → List (ℕ → Bool) → Bool → List Part → ℕ
 together patterns units after [] = 0
-together patterns units after (unit u ∷ parts) = if some_opens patterns (units ++ u ∷ []) then suc (together patterns (units ++ u ∷ []) true parts) else 0
-together patterns units true (gap ∷ parts) = if some_longer patterns units then suc (together patterns units false parts) else 0
+together patterns units after (unit u ∷ parts) = if some_opens patterns (units ++ u ∷ []) then suc
+    (together patterns (units ++ u ∷ []) true parts) else 0
+together patterns units true (gap ∷ parts) = if some_longer patterns units then suc
+    (together patterns units false parts) else 0
 together patterns units false (gap ∷ parts) = 0
 together patterns units after (wall ∷ parts) = 0

@@ -30,7 +30,8 @@ abbrev pub IsTaken : Option Choice → ℕ → List Part → Type 0
 IsTaken None taken parts = Unit {0}
 IsTaken (Some c) taken parts = (xs : List Part) → taken_by c.size (parts ++ xs) ≡ taken
 
--- The items that were looked at hold these units and are seen together; whatever follows, what the definitions give from the
+-- The items that were looked at hold these units and are seen together; whatever follows, what the
+-- definitions give from the
 -- front on is what they give from there on.
 pub record IsWalk (parts : List Part) (walk : Walk) : Type 0 where
   pub units : List (ℕ → Bool)
@@ -38,9 +39,12 @@ pub record IsWalk (parts : List Part) (walk : Walk) : Type 0 where
   pub few : length units ≤ walk.seen
   pub within : walk.seen ≤ length parts
   pub best_is : IsChosen walk.choosing.patterns units walk.best
-  pub units_on : (xs : List Part) → units_in false (parts ++ xs) ≡ units ++ units_in walk.after (drop walk.seen parts ++ xs)
-  pub span_on : (xs : List Part) → together walk.choosing.patterns [] false (parts ++ xs) ≡ walk.seen + together walk.choosing.patterns units walk.after (drop walk.seen parts ++ xs)
-  pub taken_on : (n : ℕ) (xs : List Part) → taken_by (length units + suc n) (parts ++ xs) ≡ walk.seen + taken_by (suc n) (drop walk.seen parts ++ xs)
+  pub units_on : (xs : List Part) → units_in false (parts ++ xs) ≡ units ++ units_in walk.after
+      (drop walk.seen parts ++ xs)
+  pub span_on : (xs : List Part) → together walk.choosing.patterns [] false (parts ++ xs)
+      ≡ walk.seen + together walk.choosing.patterns units walk.after (drop walk.seen parts ++ xs)
+  pub taken_on : (n : ℕ) (xs : List Part) → taken_by (length units + suc n) (parts ++ xs)
+      ≡ walk.seen + taken_by (suc n) (drop walk.seen parts ++ xs)
   pub taken_is : IsTaken walk.best walk.taken parts
   pub taken_within : walk.taken ≤ walk.seen
 
@@ -52,8 +56,10 @@ pub record IsLiveWalk (parts : List Part) (walk : Walk) : Type 0 where
 -- what the definitions give is what was found, whatever follows, or where nothing does
 pub record IsEnd (last : Bool) (parts : List Part) (walk : Walk) : Type 0 where
   pub within : walk.seen ≤ length parts
-  pub chosen_is : (xs : List Part) → (last ≡ true → xs ≡ []) → chosen_of walk.choosing.patterns (units_in false (parts ++ xs)) ≡ walk.best
-  pub span_is : (xs : List Part) → (last ≡ true → xs ≡ []) → together walk.choosing.patterns [] false (parts ++ xs) ≡ walk.seen
+  pub chosen_is : (xs : List Part) → (last ≡ true → xs ≡ []) →
+      chosen_of walk.choosing.patterns (units_in false (parts ++ xs)) ≡ walk.best
+  pub span_is : (xs : List Part) → (last ≡ true → xs ≡ []) →
+      together walk.choosing.patterns [] false (parts ++ xs) ≡ walk.seen
   pub taken_is : IsTaken walk.best walk.taken parts
   pub taken_within : walk.taken ≤ walk.seen
 
@@ -62,10 +68,12 @@ pub record IsKnown (rules : Rules) (reads : List Read) (search : Search) : Type 
   pub patterns : search.walk.choosing.patterns ≡ patterns_of rules
   pub walk : search.lost ≡ false → IsWalk (parts_of rules reads) search.walk
 
--- what stands at the front of the items is what the definitions say, whatever follows, or where nothing does
+-- what stands at the front of the items is what the definitions say, whatever follows, or where
+-- nothing does
 pub record IsFront (last : Bool) (rules : Rules) (reads : List Read) (front : Front) : Type 0 where
   pub within : front.span ≤ length reads
-  pub chosen_is : (xs : List Read) → (last ≡ true → xs ≡ []) → choice rules (reads ++ xs) ≡ front.choice
+  pub chosen_is : (xs : List Read) → (last ≡ true → xs ≡ []) → choice rules (reads ++ xs)
+      ≡ front.choice
   pub span_is : (xs : List Read) → (last ≡ true → xs ≡ []) → span rules (reads ++ xs) ≡ front.span
   pub taken_is : IsTaken front.choice front.taken (parts_of rules reads)
   pub taken_within : front.taken ≤ front.span

@@ -53,11 +53,13 @@ acted_step n blanks (Err refusal) = Stops (limit_of refusal)
 
 -- a rule is run on these items, and its template is filled with their blanks
 abbrev pub rule_step : Rules → ℕ → Held → List Read → Step
-rule_step rules rule vars taken = acted_step (length taken) (blanks_of taken) (act_of (plain_rules rules) rule (matched_of rules.form taken) vars)
+rule_step rules rule vars taken = acted_step (length taken) (blanks_of taken)
+    (act_of (plain_rules rules) rule (matched_of rules.form taken) vars)
 
 -- one item gives this, unless that has too many bytes
 abbrev pub lone_step : Held → List ℕ → Step
-lone_step vars text = if nat_lt unit_max (length text) then Stops limit.UnitTooLong else Gives 1 text vars
+lone_step vars text = if nat_lt unit_max (length text) then Stops limit.UnitTooLong else Gives 1
+    text vars
 
 -- one item without a match
 abbrev pub unmatched_step : Rules → Held → List Read → Step
@@ -68,7 +70,8 @@ unmatched_step rules vars (read ∷ more) = lone_step vars (unmatched_text rules
 abbrev pub chosen_step : Rules → Held → List Read → Option Choice → Step
 chosen_step rules vars items None = unmatched_step rules vars items
 chosen_step rules vars items (Some c) =
-    if nat_lt 0 c.size then rule_step rules c.rule vars (take (taken_by c.size (parts_of rules items)) items) else unmatched_step rules vars items
+    if nat_lt 0 c.size then rule_step rules c.rule vars
+    (take (taken_by c.size (parts_of rules items)) items) else unmatched_step rules vars items
 
 -- what postchunk writes of the first item, a chunk, has too many bytes
 abbrev pub is_overfull : Form → List Read → Bool
@@ -76,12 +79,14 @@ is_overfull form items = nat_lt unit_max (length (first_text form items (first_w
 
 -- that is tested before a rule is chosen
 abbrev pub tested_step : Rules → Held → List Read → Step
-tested_step rules vars items = if is_overfull rules.form items then Stops limit.UnitTooLong else chosen_step rules vars items (choice rules items)
+tested_step rules vars items = if is_overfull rules.form items then Stops limit.UnitTooLong else
+    chosen_step rules vars items (choice rules items)
 
 -- the first step
 unfoldable pub chunk_step : Rules → Held → List Read → Step
 chunk_step rules vars items =
-    if nat_lt span_max (bytes_of (take (span rules items) items)) then Stops limit.SpanTooLong else tested_step rules vars items
+    if nat_lt span_max (bytes_of (take (span rules items) items)) then Stops limit.SpanTooLong else
+    tested_step rules vars items
 
 -- the items of a text, step by step; the variables begin with what the rules state
 abbrev pub chunked : Rules → Held → List Read → Told
@@ -89,7 +94,12 @@ chunked rules vars items = carried (chunk_step rules) vars 0 items
 
 -- a limit that it meets is the fault; otherwise what stops reading is
 abbrev pub chunked_by : Rules → Reads → Ending → Told
-chunked_by rules read ending = record { text = (chunked rules (start_of rules) read.items).text; fault = or_else (chunked rules (start_of rules) read.items).fault (stop_at ending read.stop) }
+chunked_by rules read ending =
+    record {
+      text = (chunked rules (start_of rules) read.items).text;
+      fault =
+          or_else (chunked rules (start_of rules) read.items).fault (stop_at ending read.stop);
+    }
 
 -- transfer of a bilingual text
 abbrev pub transferred_text : Rules → List ℕ → Ending → Told

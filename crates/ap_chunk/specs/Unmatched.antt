@@ -26,7 +26,8 @@ chunk_front false = codes "^default<default>{"
 
 -- a unit of transfer: its target as it is, or in a chunk of its own
 abbrev pub default_text : DefaultPiece → List Symbol → List Symbol → List ℕ
-default_text default.Chunk source target = chunk_front (is_unknown source) ++ (lone_unit target ++ codes "}$")
+default_text default.Chunk source target = chunk_front (is_unknown source) ++
+    (lone_unit target ++ codes "}$")
 default_text default.Lu source target = lone_unit target
 
 abbrev pub unit_text : Form → DefaultPiece → List (List Symbol) → List ℕ

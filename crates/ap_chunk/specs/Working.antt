@@ -1,4 +1,5 @@
--- The work of transfer, interchunk and postchunk: what is seen of it, and what is still to come of it.
+-- The work of transfer, interchunk and postchunk: what is seen of it, and what is still to come of
+-- it.
 use Rattle.std.specs.Prelude.{◌≡◌, ◌≤◌, ℕ, Bool, true, List, [], ◌∷◌, ◌++◌, length, slice_index_or, Result, Ok, Err}
 use Rattle.std.proofs.Common.{arith}
 use Rattle.ap_stream.specs.Limits.{span_max}
@@ -30,7 +31,8 @@ abbrev pub meant : Written → Held → Step
 meant (code.Gives count text) vars = Gives count text vars
 meant (code.Stops kind) vars = Stops kind
 
--- what a rule gives for so many items is their step, with what is left in the variables; want of memory tells nothing
+-- what a rule gives for so many items is their step, with what is left in the variables; want of
+-- memory tells nothing
 abbrev pub Gave : Result (List ℕ) ExecRefusal → Held → ℕ → Step → Type 0
 Gave (Ok text) vars n step = step ≡ Gives n text vars
 Gave (Err ValueTooLong) vars n step = step ≡ Stops limit.ValueTooLong
@@ -39,11 +41,13 @@ Gave (Err Memory) vars n step = Unit {0}
 
 -- a step that a rule refuses
 abbrev pub IsRefused : ExecRefusal → Written → Type 0
-IsRefused refusal made = (vars held : Held) (n : ℕ) (step : Step) → Gave (Err refusal) held n step → meant made vars ≡ step
+IsRefused refusal made = (vars held : Held) (n : ℕ) (step : Step) → Gave (Err refusal) held n step →
+    meant made vars ≡ step
 
 -- it is the first step of the work, whatever items follow, and leaves this in the variables
 abbrev pub IsFirstStep : Working → Held → Written → Type 0
-IsFirstStep h vars made = (xs : List Read) → (h.finished ≡ true → xs ≡ []) → chunk_step h.rules h.vars (h.items ++ xs) ≡ meant made vars
+IsFirstStep h vars made = (xs : List Read) → (h.finished ≡ true → xs ≡ []) →
+    chunk_step h.rules h.vars (h.items ++ xs) ≡ meant made vars
 
 -- the place of the first item
 pub record IsFirstPlace (reads : List Read) (place : ℕ) : Type 0 where

@@ -16,11 +16,11 @@ use std::alloc::Global;
 use std::marker::Model;
 use std::mem;
 
-/// Transfer, interchunk or postchunk of items, by the form of its rules: a `Handler` over the items
-/// of a Bilingual text in transfer, and of a Chunked text in the others. It holds the items that one
-/// match must see together, and looks at each of them once while further ones come. What variables
-/// hold goes on from match to match. The text has room for what a step writes, which is kept from
-/// step to step.
+/// Transfer, interchunk or postchunk of items, by the form of its rules: a `Handler` over the
+/// items of a Bilingual text in transfer, and of a Chunked text in the others. It holds the items
+/// that one match must see together, and looks at each of them once while further ones come. What
+/// variables hold goes on from match to match. The text has room for what a step writes, which is
+/// kept from step to step.
 #[derive(Drop)]
 pub struct ChunkWork {
     alloc: Global,
@@ -54,9 +54,15 @@ impl Model for ChunkWork {
 
     ghost coded = { Prim.hlevel (codes, statement.the_row.coded) };
 
-    ghost view = { λ w. record { rules = w.rules; vars = w.vars; items = w.items; finished = w.finished } };
+    ghost view = { λ w. record {
+      rules = w.rules;
+      vars = w.vars;
+      items = w.items;
+      finished = w.finished;
+    } };
 
-    ghost invariant = { λ w. AllByRecursion (IsRead (dialect_of w.rules.form)) w.items × IsKnown w.rules w.items w.search };
+    ghost invariant = { λ w. AllByRecursion (IsRead (dialect_of w.rules.form)) w.items
+        × IsKnown w.rules w.items w.search };
 }
 
 impl ChunkWork {
@@ -138,8 +144,10 @@ impl ChunkWork {
         ensures items { self.new.items ≡ self.old.items }
         ensures finished { self.new.finished ≡ self.old.finished }
         ensures step { IfOk result (λ step. IfSome step (IsFirstStep self.old self.new.vars)) }
-        ensures waits { result ≡ Ok None → (self.new ≡ self.old) × (self.old.finished ≡ false) × (span self.old.rules self.old.items ≡ length self.old.items) }
-        ensures grows { result ≡ Ok None → (xs : List Read) → length self.old.items ≤ span self.old.rules (self.old.items ++ xs) }
+        ensures waits { result ≡ Ok None → (self.new ≡ self.old) × (self.old.finished ≡ false) ×
+            (span self.old.rules self.old.items ≡ length self.old.items) }
+        ensures grows { result ≡ Ok None → (xs : List Read) →
+            length self.old.items ≤ span self.old.rules (self.old.items ++ xs) }
     {
         let reads = self.items.as_slice();
         match self.search.look(&self.rules, reads, self.finished)? {

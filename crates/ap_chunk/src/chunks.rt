@@ -57,12 +57,7 @@ fn number_within(digits: &[u8], most: usize) -> Option<usize>
 }
 
 /// Appends the tag of a number, counted from 1; nothing where there is none.
-fn push_numbered(
-    alloc: Global,
-    tags: &Word,
-    digits: &[u8],
-    into: &mut Word,
-) -> Result<(), Memory>
+fn push_numbered(alloc: Global, tags: &Word, digits: &[u8], into: &mut Word) -> Result<(), Memory>
     ensures { OnOk result (into.new ≡ into.old ++ tag_of tags.now (number_from 0 digits.now)) }
 {
     let symbols = tags.symbols();
@@ -78,12 +73,7 @@ fn push_numbered(
 }
 
 /// Appends a tag, or the tag that its digits number.
-fn push_tag(
-    alloc: Global,
-    tags: &Word,
-    name: &TagName,
-    into: &mut Word,
-) -> Result<(), Memory>
+fn push_tag(alloc: Global, tags: &Word, name: &TagName, into: &mut Word) -> Result<(), Memory>
     ensures { OnOk result (into.new ≡ into.old ++ fill_symbol tags.now (Tag name.now)) }
 {
     let digits = name.text().as_bytes();
@@ -94,12 +84,7 @@ fn push_tag(
 }
 
 /// Appends a symbol of a word, a numbered tag filled.
-fn push_symbol(
-    alloc: Global,
-    tags: &Word,
-    symbol: &Symbol,
-    into: &mut Word,
-) -> Result<(), Memory>
+fn push_symbol(alloc: Global, tags: &Word, symbol: &Symbol, into: &mut Word) -> Result<(), Memory>
     requires { IsTrue (is_word_symbol symbol.now) }
     ensures { OnOk result (into.new ≡ into.old ++ fill_symbol tags.now symbol.now) }
 {
@@ -133,7 +118,8 @@ fn tags_of(alloc: Global, word: &Word) -> Result<Word, Memory>
     Ok(made)
 }
 
-/// A word with a case carried to it, as it is carried to the first word of a chunk or to a later one.
+/// A word with a case carried to it, as it is carried to the first word of a chunk or to a later
+/// one.
 fn carry_one(alloc: Global, case: Case, first: bool, word: Word) -> Result<Word, Memory>
     ensures { IfOk result (λ made. made ≡ carry_one case first word) }
 {
@@ -166,7 +152,8 @@ fn push_part(
     room: &mut Room,
     into: &mut Words,
 ) -> Result<(), Memory>
-    ensures { OnOk result (into.new ≡ into.old ++ part_words case tags.now (length into.old == 0) part.now) }
+    ensures { OnOk result
+        (into.new ≡ into.old ++ part_words case tags.now (length into.old == 0) part.now) }
 {
     match part {
         Inner::Blank(_) => Ok(()),
@@ -194,7 +181,8 @@ fn words_of(
     parts: &[Inner],
     room: &mut Room,
 ) -> Result<Words, Memory>
-    ensures { IfOk result (λ made. made ≡ carry_words case (map (fill_word tags.now) (content_words parts.now))) }
+    ensures { IfOk result
+        (λ made. made ≡ carry_words case (map (fill_word tags.now) (content_words parts.now))) }
 {
     let mut made = Words::new(alloc);
     for part in parts {
@@ -239,15 +227,12 @@ pub(crate) fn first_words(
     }
 }
 
-/// Appends a part of a content, with the word at a place in place of a unit. Answers the place of the
-/// next word.
-fn write_part(
-    part: &Inner,
-    words: &[Word],
-    at: usize,
-    into: &mut Bytes,
-) -> Result<usize, Memory>
-    ensures { IfOk result (λ n. (rest : List Inner) → into.new ++ content_text rest (drop n words.now) ≡ into.old ++ content_text (part.now ∷ rest) (drop at words.now)) }
+/// Appends a part of a content, with the word at a place in place of a unit. Answers the place of
+/// the next word.
+fn write_part(part: &Inner, words: &[Word], at: usize, into: &mut Bytes) -> Result<usize, Memory>
+    ensures { IfOk result (λ n. (rest : List Inner) →
+        into.new ++ content_text rest (drop n words.now) ≡ into.old ++ content_text
+        (part.now ∷ rest) (drop at words.now)) }
 {
     match part {
         Inner::Blank(blank) => {
@@ -265,11 +250,7 @@ fn write_part(
 }
 
 /// Appends the blanks of a content, and these words as its units.
-pub(crate) fn write_content(
-    parts: &[Inner],
-    words: &[Word],
-    into: &mut Bytes,
-) -> Result<(), Memory>
+pub(crate) fn write_content(parts: &[Inner], words: &[Word], into: &mut Bytes) -> Result<(), Memory>
     ensures { OnOk result (into.new ≡ into.old ++ content_text parts.now words.now) }
 {
     let mut at = 0;
@@ -279,12 +260,7 @@ pub(crate) fn write_content(
     Ok(())
 }
 
-fn write_item_text(
-    form: Form,
-    item: &Item,
-    words: &[Word],
-    into: &mut Bytes,
-) -> Result<(), Memory>
+fn write_item_text(form: Form, item: &Item, words: &[Word], into: &mut Bytes) -> Result<(), Memory>
     ensures { OnOk result (into.new ≡ into.old ++ item_text form item.now words.now) }
 {
     match form {
@@ -320,7 +296,8 @@ pub(crate) fn is_overfull(
 ) -> Result<bool, Memory>
     requires { text.old ≡ [] }
     ensures text { OnOk result (text.new ≡ []) }
-    ensures over { IfOk result (λ over. over ≡ nat_lt UNIT_MAX (length (first_text form reads.now words.now))) }
+    ensures over { IfOk result
+        (λ over. over ≡ nat_lt UNIT_MAX (length (first_text form reads.now words.now))) }
 {
     write_first_text(form, reads, words, text)?;
     let over = text.as_slice().len() > UNIT_MAX;

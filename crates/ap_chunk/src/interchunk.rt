@@ -48,7 +48,8 @@ impl Interchunk {
     /// A new stage by these rules, which are rules of interchunk. The error means want of memory.
     pub fn new(alloc: Global, rules: Rules) -> Result<Interchunk, Memory>
         requires { rules.form ≡ form.Interchunk }
-        ensures rest { IfOk result (λ made. (x : List ℕ) (e : Ending) → rest_of chunk_work made x e ≡ interchunked_text rules x e) }
+        ensures rest { IfOk result (λ made. (x : List ℕ) (e : Ending) → rest_of chunk_work made x e
+            ≡ interchunked_text rules x e) }
         ensures pending { IfOk result (λ made. made.pending ≡ []) }
         ensures ended { IfOk result (λ made. made.ended ≡ false) }
         ensures fault { IfOk result (λ made. made.fault ≡ None) }

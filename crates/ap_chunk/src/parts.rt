@@ -55,7 +55,8 @@ pub(crate) fn put_word(
 
 /// A unit of transfer is matched by its first word.
 fn look_at_unit(rules: &Rules, unit: &Unit, room: &mut Room) -> Result<Kind, Memory>
-    ensures { IfOk result (λ kind. IsKind kind room.new.row.items (unit_part rules.now rules.now.form unit.now)) }
+    ensures { IfOk result
+        (λ kind. IsKind kind room.new.row.items (unit_part rules.now rules.now.form unit.now)) }
 {
     match rules.form {
         Form::Transfer => {
@@ -69,7 +70,8 @@ fn look_at_unit(rules: &Rules, unit: &Unit, room: &mut Room) -> Result<Kind, Mem
 
 /// In interchunk and postchunk a chunk is matched by its name.
 fn look_at_chunk(rules: &Rules, name: &[Symbol], room: &mut Room) -> Result<Kind, Memory>
-    ensures { IfOk result (λ kind. IsKind kind room.new.row.items (chunk_part rules.now rules.now.form name.now)) }
+    ensures { IfOk result
+        (λ kind. IsKind kind room.new.row.items (chunk_part rules.now rules.now.form name.now)) }
 {
     match rules.form {
         Form::Transfer => Ok(Kind::Other),

@@ -13,23 +13,24 @@ use ap_symbol::Memory;
 use std::alloc::Global;
 use std::marker::Model;
 
-/// Postchunk of a Chunked text, by the rules of a postchunk file (the Apertium transfer format): a
-/// `Stage` over bytes. It gives a Lexical text.
+/// Postchunk of a Chunked text, by the rules of a postchunk file (the Apertium transfer format):
+/// a `Stage` over bytes. It gives a Lexical text.
 ///
 /// When a chunk is read, each tag of a word in it whose name is decimal digits is replaced by the
-/// tag of the chunk's name with that number, counted from 1, and dropped where there is none. Then
-/// the case of the name's lemma is carried: a capital at its start to the first word, capitals
-/// throughout to every word. A word that became empty keeps its place and isn't written.
+/// tag of the chunk's name with that number, counted from 1, and dropped where there is none.
+/// Then the case of the name's lemma is carried: a capital at its start to the first word,
+/// capitals throughout to every word. A word that became empty keeps its place and isn't written.
 ///
-/// A rule takes one chunk, by the lemma of its name; among equal ones the rule earlier in the file is
-/// taken. It is run on the words of the chunk, and the slots of what it gives are filled with the
-/// blanks in it, in order; the superblanks of the blanks left over follow. What variables hold goes
-/// on from chunk to chunk, and begins with what the rules state. A chunk that no rule takes is
-/// replaced by its content. Every other item is copied.
+/// A rule takes one chunk, by the lemma of its name; among equal ones the rule earlier in the
+/// file is taken. It is run on the words of the chunk, and the slots of what it gives are filled
+/// with the blanks in it, in order; the superblanks of the blanks left over follow. What
+/// variables hold goes on from chunk to chunk, and begins with what the rules state. A chunk that
+/// no rule takes is replaced by its content. Every other item is copied.
 ///
-/// A content that comes to more than `UNIT_MAX` bytes, before a rule is sought, more than `UNIT_MAX`
-/// bytes for another item, a value of a rule of more than `UNIT_MAX` bytes and an output of more
-/// than `SPAN_MAX` bytes are answered by their limits, at the first byte of the item.
+/// A content that comes to more than `UNIT_MAX` bytes, before a rule is sought, more than
+/// `UNIT_MAX` bytes for another item, a value of a rule of more than `UNIT_MAX` bytes and an
+/// output of more than `SPAN_MAX` bytes are answered by their limits, at the first byte of the
+/// item.
 #[derive(Drop)]
 pub struct Postchunk {
     stage: Staged<ChunkWork>,
@@ -52,7 +53,8 @@ impl Postchunk {
     /// A new stage by these rules, which are rules of postchunk. The error means want of memory.
     pub fn new(alloc: Global, rules: Rules) -> Result<Postchunk, Memory>
         requires { rules.form ≡ form.Postchunk }
-        ensures rest { IfOk result (λ made. (x : List ℕ) (e : Ending) → rest_of chunk_work made x e ≡ postchunked_text rules x e) }
+        ensures rest { IfOk result (λ made. (x : List ℕ) (e : Ending) → rest_of chunk_work made x e
+            ≡ postchunked_text rules x e) }
         ensures pending { IfOk result (λ made. made.pending ≡ []) }
         ensures ended { IfOk result (λ made. made.ended ≡ false) }
         ensures fault { IfOk result (λ made. made.fault ≡ None) }

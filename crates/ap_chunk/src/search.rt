@@ -72,8 +72,10 @@ impl Walk {
         requires bounded { self.old.seen + 1 < 2 ^ 64 }
         ensures patterns { self.new.choosing.patterns ≡ self.old.choosing.patterns }
         ensures further { result ≡ true → self.new.seen ≡ self.old.seen + 1 }
-        ensures on { result ≡ true → (parts : List Part) → IsLiveWalk parts self.old → IsNext parts self.old.seen gap → IsWalk parts self.new }
-        ensures ends { result ≡ false → (parts : List Part) → IsLiveWalk parts self.old → IsNext parts self.old.seen gap → IsEnd false parts self.new }
+        ensures on { result ≡ true → (parts : List Part) → IsLiveWalk parts self.old →
+            IsNext parts self.old.seen gap → IsWalk parts self.new }
+        ensures ends { result ≡ false → (parts : List Part) → IsLiveWalk parts self.old →
+            IsNext parts self.old.seen gap → IsEnd false parts self.new }
     {
         if self.after {
             self.seen += 1;
@@ -88,8 +90,10 @@ impl Walk {
         requires bounded { self.old.seen + 1 < 2 ^ 64 }
         ensures patterns { self.new.choosing.patterns ≡ self.old.choosing.patterns }
         ensures further { result ≡ Ok true → self.new.seen ≡ self.old.seen + 1 }
-        ensures on { result ≡ Ok true → (parts : List Part) → IsLiveWalk parts self.old → IsNext parts self.old.seen (unit (unit_of row.now)) → IsWalk parts self.new }
-        ensures ends { result ≡ Ok false → (parts : List Part) → IsLiveWalk parts self.old → IsNext parts self.old.seen (unit (unit_of row.now)) → IsEnd false parts self.new }
+        ensures on { result ≡ Ok true → (parts : List Part) → IsLiveWalk parts self.old →
+            IsNext parts self.old.seen (unit (unit_of row.now)) → IsWalk parts self.new }
+        ensures ends { result ≡ Ok false → (parts : List Part) → IsLiveWalk parts self.old →
+            IsNext parts self.old.seen (unit (unit_of row.now)) → IsEnd false parts self.new }
     {
         self.choosing.step(row)?;
         match self.choosing.over() {
@@ -132,20 +136,17 @@ impl Walk {
 
     /// Whether an item more may be seen together with those that were looked at.
     fn is_live(&self) -> bool
-        ensures live { result ≡ true → (parts : List Part) → IsWalk parts self.now → IsLiveWalk parts self.now }
-        ensures dead { result ≡ false → (parts : List Part) → IsWalk parts self.now → IsEnd false parts self.now }
+        ensures live { result ≡ true → (parts : List Part) → IsWalk parts self.now →
+            IsLiveWalk parts self.now }
+        ensures dead { result ≡ false → (parts : List Part) → IsWalk parts self.now →
+            IsEnd false parts self.now }
     {
         self.choosing.goes_on()
     }
 
     /// Looks at items while they are seen together, and answers whether it is known that no further
     /// one is.
-    fn step_on(
-        &mut self,
-        rules: &Rules,
-        reads: &[Read],
-        room: &mut Room,
-    ) -> Result<bool, Memory>
+    fn step_on(&mut self, rules: &Rules, reads: &[Read], room: &mut Room) -> Result<bool, Memory>
         requires { IsWalk (parts_of rules.now reads.now) self.old }
         ensures patterns { self.new.choosing.patterns ≡ self.old.choosing.patterns }
         ensures ends { result ≡ Ok true → IsEnd false (parts_of rules.now reads.now) self.new }
@@ -165,8 +166,8 @@ impl Walk {
     }
 }
 
-/// A search for a match at the front of the held items. It goes on from where it stands when further
-/// items come.
+/// A search for a match at the front of the held items. It goes on from where it stands when
+/// further items come.
 #[derive(Drop)]
 pub(crate) struct Search {
     pub(crate) walk: Walk,
@@ -188,14 +189,16 @@ impl Search {
 
     /// Begins anew at the front of other items.
     pub(crate) fn restart(&mut self)
-        ensures { (rules : Rules) (old new : List Read) → IsKnown rules old self.old → IsKnown rules new self.new }
+        ensures { (rules : Rules) (old new : List Read) → IsKnown rules old self.old →
+            IsKnown rules new self.new }
     {
         self.lost = true;
     }
 
     /// The walk begins anew, where it is to. It is lost until it waits for an item.
     fn set_out(&mut self)
-        ensures walk { (rules : Rules) (reads : List Read) → IsKnown rules reads self.old → IsWalk (parts_of rules reads) self.new.walk }
+        ensures walk { (rules : Rules) (reads : List Read) → IsKnown rules reads self.old →
+            IsWalk (parts_of rules reads) self.new.walk }
         ensures patterns { self.new.walk.choosing.patterns ≡ self.old.walk.choosing.patterns }
         ensures lost { self.new.lost ≡ true }
     {
@@ -218,7 +221,8 @@ impl Search {
         ensures found { IfOk result (λ look. IfSome look (IsFront finished rules.now reads.now)) }
         ensures waits { result ≡ Ok None → finished ≡ false }
         ensures all { result ≡ Ok None → span rules.now reads.now ≡ length reads.now }
-        ensures grows { result ≡ Ok None → (xs : List Read) → length reads.now ≤ span rules.now (reads.now ++ xs) }
+        ensures grows { result ≡ Ok None → (xs : List Read) →
+            length reads.now ≤ span rules.now (reads.now ++ xs) }
     {
         self.set_out();
         let ends = self.walk.step_on(rules, reads, &mut self.room)?;

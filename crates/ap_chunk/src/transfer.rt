@@ -13,25 +13,27 @@ use ap_symbol::Memory;
 use std::alloc::Global;
 use std::marker::Model;
 
-/// Transfer of a Bilingual text, by the rules of a transfer file (the Apertium transfer format): a
-/// `Stage` over bytes. It gives a Chunked text where the rules write chunks by default, and else a
-/// Lexical one.
+/// Transfer of a Bilingual text, by the rules of a transfer file (the Apertium transfer format):
+/// a `Stage` over bytes. It gives a Chunked text where the rules write chunks by default, and
+/// else a Lexical one.
 ///
-/// The source of a unit is its first word and the target its second one; further words aren't used.
-/// A match is a row of units with at most one blank between two of them, and any other item ends it.
-/// At each place the longest pattern of a rule from the left is taken, and among equally long ones
-/// the rule earlier in the file; then it goes on behind the match. The rule is run, and the slots of
-/// what it gives are filled with the blanks of the match, in order; the superblanks of the blanks
-/// left over follow. What variables hold goes on from match to match, and begins with what the rules
-/// state.
+/// The source of a unit is its first word and the target its second one; further words aren't
+/// used. A match is a row of units with at most one blank between two of them, and any other item
+/// ends it. At each place the longest pattern of a rule from the left is taken, and among equally
+/// long ones the rule earlier in the file; then it goes on behind the match. The rule is run, and
+/// the slots of what it gives are filled with the blanks of the match, in order; the superblanks
+/// of the blanks left over follow. What variables hold goes on from match to match, and begins
+/// with what the rules state.
 ///
 /// A unit that no match holds gives its target: as a unit, or nothing where it is empty; where
 /// chunks are the default, in a chunk of its own, `^default<default>{^target$}$`, or
-/// `^unknown<unknown>{^target$}$` where the source begins with a star. Every other item is copied.
+/// `^unknown<unknown>{^target$}$` where the source begins with a star. Every other item is
+/// copied.
 ///
-/// Items that must be seen together with more than `SPAN_MAX` bytes, more than `UNIT_MAX` bytes for
-/// an item without a match, a value of a rule of more than `UNIT_MAX` bytes and an output of more
-/// than `SPAN_MAX` bytes are answered by their limits, at the first byte of the item or the match.
+/// Items that must be seen together with more than `SPAN_MAX` bytes, more than `UNIT_MAX` bytes
+/// for an item without a match, a value of a rule of more than `UNIT_MAX` bytes and an output of
+/// more than `SPAN_MAX` bytes are answered by their limits, at the first byte of the item or the
+/// match.
 #[derive(Drop)]
 pub struct Transfer {
     stage: Staged<ChunkWork>,
@@ -54,7 +56,8 @@ impl Transfer {
     /// A new stage by these rules, which are rules of transfer. The error means want of memory.
     pub fn new(alloc: Global, rules: Rules) -> Result<Transfer, Memory>
         requires { rules.form ≡ form.Transfer }
-        ensures rest { IfOk result (λ made. (x : List ℕ) (e : Ending) → rest_of chunk_work made x e ≡ transferred_text rules x e) }
+        ensures rest { IfOk result (λ made. (x : List ℕ) (e : Ending) → rest_of chunk_work made x e
+            ≡ transferred_text rules x e) }
         ensures pending { IfOk result (λ made. made.pending ≡ []) }
         ensures ended { IfOk result (λ made. made.ended ≡ false) }
         ensures fault { IfOk result (λ made. made.fault ≡ None) }

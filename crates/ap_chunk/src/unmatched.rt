@@ -43,7 +43,8 @@ fn write_target(unit: &Unit, room: &mut Room, into: &mut Bytes) -> Result<(), Me
 
 /// Appends the target of a unit in a chunk of its own.
 fn write_default_chunk(unit: &Unit, room: &mut Room, into: &mut Bytes) -> Result<(), Memory>
-    ensures { OnOk result (into.new ≡ into.old ++ default_text default.Chunk (word_of 0 unit.now) (word_of 1 unit.now)) }
+    ensures { OnOk result (into.new ≡ into.old ++ default_text default.Chunk (word_of 0 unit.now)
+        (word_of 1 unit.now)) }
 {
     put_word(unit, &mut room.names, 0, &mut room.word)?;
     write_front(is_unknown(room.word.symbols()), into)?;
@@ -57,7 +58,8 @@ fn write_default(
     room: &mut Room,
     into: &mut Bytes,
 ) -> Result<(), Memory>
-    ensures { OnOk result (into.new ≡ into.old ++ default_text piece (word_of 0 unit.now) (word_of 1 unit.now)) }
+    ensures { OnOk result (into.new ≡ into.old ++ default_text piece (word_of 0 unit.now)
+        (word_of 1 unit.now)) }
 {
     match piece {
         DefaultPiece::Chunk => write_default_chunk(unit, room, into),
@@ -65,8 +67,8 @@ fn write_default(
     }
 }
 
-/// Appends what is written for a chunk: in postchunk its content with these words, and else the chunk
-/// as it is spelled.
+/// Appends what is written for a chunk: in postchunk its content with these words, and else the
+/// chunk as it is spelled.
 fn write_chunk(
     alloc: Global,
     form: Form,
@@ -77,7 +79,8 @@ fn write_chunk(
 ) -> Result<(), Memory>
     requires item { item.now ≡ kinds.Chunk chunk.now }
     requires words { words.now ≡ item_words form item.now }
-    ensures { OnOk result (into.new ≡ into.old ++ chunk_text form chunk.now.name chunk.now.content) }
+    ensures { OnOk result
+        (into.new ≡ into.old ++ chunk_text form chunk.now.name chunk.now.content) }
 {
     match form {
         Form::Transfer | Form::Interchunk => write_item(alloc, item, into),
@@ -87,7 +90,8 @@ fn write_chunk(
 
 /// Appends what is written for an item that no match holds (the Apertium transfer format): for a
 /// unit of transfer its target, as it is or in a chunk of its own; every other item as it is
-/// spelled, but in postchunk for a chunk its content with these words. After a refusal, which means want of memory, a part of it may stand there.
+/// spelled, but in postchunk for a chunk its content with these words. After a refusal, which
+/// means want of memory, a part of it may stand there.
 pub(crate) fn write_unmatched(
     alloc: Global,
     rules: &Rules,

@@ -41,7 +41,8 @@ fn run(
     vars: &mut Vars,
 ) -> Result<Template, ExecRefusal>
     requires { words.now ≡ first_words rules.now.form reads.now }
-    ensures { Ran (λ pieces. record { pieces = pieces; vars = vars.new }) result (act_of (plain_rules rules.now) rule (matched_of rules.now.form reads.now) vars.old) }
+    ensures { Ran (λ pieces. record { pieces = pieces; vars = vars.new }) result
+        (act_of (plain_rules rules.now) rule (matched_of rules.now.form reads.now) vars.old) }
 {
     let matched = matched_of(alloc, rules.form, reads, words, &mut room.names)?;
     act(alloc, rules, rule, &matched, vars)
@@ -66,7 +67,8 @@ fn output(
     vars: &mut Vars,
 ) -> Result<Bytes, ExecRefusal>
     requires { words.now ≡ first_words rules.now.form reads.now }
-    ensures { Gave result vars.new (length reads.now) (rule_step rules.now rule vars.old reads.now) }
+    ensures { Gave result vars.new (length reads.now)
+        (rule_step rules.now rule vars.old reads.now) }
 {
     let template = run(alloc, rules, rule, reads, words, room, vars)?;
     filled(alloc, &template, reads)
@@ -98,7 +100,8 @@ pub(crate) fn rule_step(
     vars: &mut Vars,
 ) -> Result<Written, Memory>
     requires { words.now ≡ first_words rules.now.form reads.now }
-    ensures { IfOk result (λ made. meant made vars.new ≡ rule_step rules.now rule vars.old reads.now) }
+    ensures { IfOk result
+        (λ made. meant made vars.new ≡ rule_step rules.now rule vars.old reads.now) }
 {
     match output(alloc, rules, rule, reads, words, room, vars) {
         Ok(text) => {
@@ -121,7 +124,8 @@ pub(crate) fn unmatched_step(
     requires some { 0 < length reads.now }
     requires words { words.now ≡ first_words rules.now.form reads.now }
     requires empty { text ≡ [] }
-    ensures { (vars : Held) → IfOk result (λ made. meant made vars ≡ unmatched_step rules.now vars reads.now) }
+    ensures { (vars : Held) →
+        IfOk result (λ made. meant made vars ≡ unmatched_step rules.now vars reads.now) }
 {
     write_unmatched(alloc, rules, &reads[0].item, words, room, &mut text)?;
     if text.as_slice().len() > UNIT_MAX {
@@ -148,7 +152,8 @@ fn chosen_step(
     requires within { front.taken ≤ length reads.now }
     requires words { words.now ≡ first_words rules.now.form reads.now }
     requires empty { text ≡ [] }
-    ensures { IfOk result (λ made. meant made vars.new ≡ chosen_step rules.now vars.old reads.now front.choice) }
+    ensures { IfOk result (λ made. meant made vars.new
+        ≡ chosen_step rules.now vars.old reads.now front.choice) }
 {
     match front.choice {
         None => unmatched_step(alloc, rules, reads, words, room, text),
@@ -190,5 +195,14 @@ pub(crate) fn first_step(
             kind: LimitKind::UnitTooLong,
         });
     }
-    chosen_step(alloc, rules, reads, front, words.as_slice(), room, vars, text)
+    chosen_step(
+        alloc,
+        rules,
+        reads,
+        front,
+        words.as_slice(),
+        room,
+        vars,
+        text,
+    )
 }

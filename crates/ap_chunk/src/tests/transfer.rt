@@ -52,12 +52,7 @@ pub(crate) fn run<S: Stage>(
     Ok(out)
 }
 
-fn transferred(
-    alloc: Global,
-    rules: &str,
-    text: &str,
-    size: usize,
-) -> Result<Bytes, Fail> {
+fn transferred(alloc: Global, rules: &str, text: &str, size: usize) -> Result<Bytes, Fail> {
     let read = read_rules(alloc, rules.as_bytes(), Form::Transfer)?;
     let mut stage = Transfer::new(alloc, read)?;
     Ok(run(alloc, &mut stage, text.as_bytes(), size)?)
@@ -97,15 +92,15 @@ fn variables_and_blanks_go_on(rt: HostRuntime) -> Result<(), Fail> {
     let alloc = rt.alloc();
     for (text, want) in [
         ("^x<a>/p<a>$ ^y<a>/q<a>$.^z<a>/r<a>$", "^-p$ ^-pq$.^-pqr$"),
-        (
-            "^x<b>/p<b>$[1] [2]^y<c>/q<c>/s$ ",
-            "^q<c>$[1] [2]^p<b>$ ",
-        ),
+        ("^x<b>/p<b>$[1] [2]^y<c>/q<c>/s$ ", "^q<c>$[1] [2]^p<b>$ "),
         (
             "^x<b>/p<b>$[1]^x<b>/q<b>$[2] ^x<b>/r<b>$[3]^x<b>/$",
             "^p<b>$[1][2][3]",
         ),
-        ("^x<b>/p<b>$ ^x<b>/q<b>$ ^y<c>/r<c>$", "^p<b>$ ^r<c>$ ^q<b>$"),
+        (
+            "^x<b>/p<b>$ ^x<b>/q<b>$ ^y<c>/r<c>$",
+            "^p<b>$ ^r<c>$ ^q<b>$",
+        ),
         ("^x<b>/p<b>$\\,^y<c>/r<c>$", "^p<b>$\\,^r<c>$"),
     ] {
         for size in [1, 7, 64] {

@@ -7,5 +7,6 @@ use Rattle.ap_chunk.proofs.writing.run.Goals as goal
 
 pub returns : goal.returns
 returns c =
-    subst (λ (m : Matched). Gives (λ pieces. record { pieces = pieces; vars = c.act.new.vars }) c.act.result (act_of (plain_rules c.args.rules.now) c.args.rule m c.args.vars.now))
+    subst (λ (m : Matched). Gives (λ pieces. record { pieces = pieces; vars = c.act.new.vars })
+    c.act.result (act_of (plain_rules c.args.rules.now) c.args.rule m c.args.vars.now))
     c.in_ok-matched.ensures c.act.ensures.gives

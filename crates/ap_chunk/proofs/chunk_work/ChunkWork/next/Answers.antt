@@ -10,6 +10,11 @@ pub returns-in_ok-made-in-Some-clause-step : goal.returns-in_ok-made-in-Some-cla
 returns-in_ok-made-in-Some-clause-step c =
     let some = subst (λ (h : Working). 0 < length h.items) (sym c.self.view_is) c.requires in
     let front = c.in-Some.front in
-    let found = front_in c.self.inside.finished c.self.inside.rules c.as_slice-reads.result.now c.in_ok-look.field-0 front c.in-Some.is c.in_ok-look.ensures.found in
-    let is = subst (λ (reads : List Read). IsFront c.self.inside.finished c.self.inside.rules reads front) c.as_slice-reads.ensures found in
-    rw (← c.self.view_is) (λ xs last. settled c.self.inside.finished c.self.inside.rules c.self.inside.vars c.self.inside.items front is some xs last ∙ sym c.in_ok-made-in-Some.ensures)
+    let found = front_in c.self.inside.finished c.self.inside.rules c.as_slice-reads.result.now
+    c.in_ok-look.field-0 front c.in-Some.is c.in_ok-look.ensures.found in
+    let is =
+    subst (λ (reads : List Read). IsFront c.self.inside.finished c.self.inside.rules reads
+    front) c.as_slice-reads.ensures found in
+    rw (← c.self.view_is)
+    (λ xs last. settled c.self.inside.finished c.self.inside.rules c.self.inside.vars
+    c.self.inside.items front is some xs last ∙ sym c.in_ok-made-in-Some.ensures)
