@@ -16,3 +16,5 @@ mod Turns
 mod UnitWords
 mod Firsts
 mod ChunkWords
+mod FilledKept
+mod TransferKept

@@ -14,3 +14,4 @@ pub mod Unmatched
 pub mod Stages
 pub mod Searching
 pub mod Working
+pub mod Laws

@@ -25,5 +25,7 @@ pub use categories::{row, takes};
 pub use choice::{Choice, Found};
 pub use choosing::Choosing;
 pub use chunk_work::ChunkWork;
-pub use laws::{going_on_chooses, one_is_chosen, rows_tell, trying_all_chooses};
+pub use laws::{
+    going_on_chooses, one_is_chosen, rows_tell, transfer_keeps_superblanks, trying_all_chooses,
+};
 pub use transfer::Transfer;
