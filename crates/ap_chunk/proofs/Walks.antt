@@ -180,7 +180,8 @@ module _ (parts : List Part) (old : Walk) (n : ℕ) (s : n ≡ old.seen + 1) (is
           ∙ ap (λ (ps : List Part). together old.choosing.patterns w.units true (ps ++ xs))
           (next_is gap next)
           ∙ ap (λ b. cond b
-          (suc (together old.choosing.patterns w.units false (drop n parts ++ xs))) 0) (longer_to old.choosing.patterns w.units is.live) in
+          (suc (together old.choosing.patterns w.units false (drop n parts ++ xs))) 0)
+          (longer_to old.choosing.patterns w.units is.live) in
           omega (arith, a, b, s));
       taken_on = λ k xs. (
           let a = w.taken_on k xs in
