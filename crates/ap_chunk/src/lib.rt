@@ -7,11 +7,13 @@ mod choice;
 mod choosing;
 mod chunk_work;
 mod chunks;
+mod interchunk;
 mod keeping;
 mod laws;
 mod matches;
 mod parts;
 mod patterns;
+mod postchunk;
 mod search;
 mod tags;
 #[cfg(test)]
@@ -25,7 +27,9 @@ pub use categories::{row, takes};
 pub use choice::{Choice, Found};
 pub use choosing::Choosing;
 pub use chunk_work::ChunkWork;
+pub use interchunk::Interchunk;
 pub use laws::{
     going_on_chooses, one_is_chosen, rows_tell, transfer_keeps_superblanks, trying_all_chooses,
 };
+pub use postchunk::Postchunk;
 pub use transfer::Transfer;

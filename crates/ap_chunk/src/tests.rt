@@ -1,2 +1,3 @@
 mod choice;
+mod chunks;
 mod transfer;
