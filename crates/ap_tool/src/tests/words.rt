@@ -25,6 +25,10 @@ fn other_words_are_no_command(rt: HostRuntime) -> Result<(), Fail> {
         "first P",
         "pretransfer -a",
         "transfer P",
+        "transfer -b",
+        "transfer P -b",
+        "transfer -b -b",
+        "transfer -b P Q",
         "interchunk P P",
         "postchunk -a",
     ] {
