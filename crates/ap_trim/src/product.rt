@@ -54,7 +54,8 @@ fn add_out(
     let state = exit.to;
     let to = pairs.number(Pair { state, watch })?;
     let label = exit.label.copy(alloc)?;
-    edges.push(Edge { from, label, to })
+    edges.push(Edge { from, label, to })?;
+    Ok(())
 }
 
 /// Adds the edges of a pair's number, one for each of these edges from its state.

@@ -11,11 +11,17 @@ use ap_fst::{Edge, Fst};
 use ap_symbol::{Memory, Symbol, lower};
 use std::alloc::Global;
 
+fn edge_at(edges: &[Edge], place: usize) -> Option<&Edge>
+    ensures { option_copied result ≡ slice_get edges.now place }
+{
+    edges.get(place)
+}
+
 /// Adds the state that the edge at a place enters.
 fn add_target(edges: &[Edge], place: usize, targets: &mut Vec<usize>) -> Result<(), Memory>
     ensures { OnOk result (AddsWhere (LeadsAt (slice_get edges.now) place) targets.old.items targets.new.items) }
 {
-    if let Some(edge) = edges.get(place) {
+    if let Some(edge) = edge_at(edges, place) {
         targets.push(edge.to)?;
     }
     Ok(())
@@ -46,7 +52,8 @@ pub(crate) fn add_by(
     ensures { OnOk result (AddsWhere (LeavesBy fst.now state (option_copied left.entry)) targets.old.items targets.new.items) }
 {
     let (low, high) = fst.span_by(state, left);
-    add_span(fst.edges(), low, high, targets)
+    add_span(fst.edges(), low, high, targets)?;
+    Ok(())
 }
 
 /// The lower partner of a letter, where it is another letter.
@@ -85,7 +92,10 @@ fn add_fitting(
     add_by(fst, state, Some(symbol), targets)?;
     match other {
         None => Ok(()),
-        Some(small) => add_by(fst, state, Some(small), targets),
+        Some(small) => {
+            add_by(fst, state, Some(small), targets)?;
+            Ok(())
+        }
     }
 }
 

@@ -49,7 +49,8 @@ fn next_set(
 {
     let targets = targets_of(alloc, fst, sets.get(number), symbol)?;
     let set = closed(alloc, fst, targets.as_slice())?;
-    sets.number(alloc, set.as_slice())
+    let next = sets.number(alloc, set.as_slice())?;
+    Ok(next)
 }
 
 /// A symbol more, behind which the word has a tag: it is kept from now on where what was read so far
@@ -92,7 +93,8 @@ fn step_lemma(
     if holds_final(fst, sets.get(number)) {
         return Ok(Watch::Kept);
     }
-    step_behind(alloc, fst, symbol, number, sets)
+    let watch = step_behind(alloc, fst, symbol, number, sets)?;
+    Ok(watch)
 }
 
 /// A symbol more.
@@ -112,8 +114,14 @@ fn step_by(
     }
     match watch {
         Watch::Kept => Ok(Watch::Kept),
-        Watch::Lemma(number) => step_lemma(alloc, fst, symbol, number, sets),
-        Watch::Tags(number) => step_behind(alloc, fst, symbol, number, sets),
+        Watch::Lemma(number) => {
+            let next = step_lemma(alloc, fst, symbol, number, sets)?;
+            Ok(next)
+        }
+        Watch::Tags(number) => {
+            let next = step_behind(alloc, fst, symbol, number, sets)?;
+            Ok(next)
+        }
     }
 }
 
@@ -131,7 +139,10 @@ pub(crate) fn step(
 {
     match side {
         None => Ok(watch),
-        Some(symbol) => step_by(alloc, fst, symbol, watch, sets),
+        Some(symbol) => {
+            let next = step_by(alloc, fst, symbol, watch, sets)?;
+            Ok(next)
+        }
     }
 }
 

@@ -1,0 +1,10 @@
+pub mod Readings
+pub mod Adding
+pub mod Reaching
+pub mod Lemmas
+pub mod Watches
+pub mod Steps
+pub mod Numbered
+pub mod Pairing
+pub mod Growths
+pub mod Products
