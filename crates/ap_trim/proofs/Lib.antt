@@ -8,3 +8,7 @@ pub mod Numbered
 pub mod Pairing
 pub mod Growths
 pub mod Products
+pub mod Unions
+pub mod Keeping
+pub mod Sectioning
+pub mod Uniqueness

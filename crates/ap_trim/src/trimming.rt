@@ -62,7 +62,6 @@ pub fn trim_by(
     ensures { IfOk result (λ made. IsTrimmedBy mono.now bilingual.now made) }
 {
     let words = union_of(alloc, bilingual)?;
-    let _words = words.states();
     let _bilingual = bilingual.alphabet();
     let alphabet = copy_letters(alloc, mono.alphabet())?;
     let standard = trimmed_section(alloc, mono.section(Kind2::Standard), &words)?;
