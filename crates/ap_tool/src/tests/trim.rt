@@ -11,7 +11,7 @@ fn trim_leaves_what_can_be_translated(rt: HostRuntime) -> Result<(), Fail> {
         fault: 6,
         line: 2,
     };
-    let mono = "standard 25 28\ninconditional 3 2\npostblank 1 0\npreblank 1 0\n";
+    let mono = "standard 19 23\ninconditional 3 2\npostblank 1 0\npreblank 1 0\n";
     let point = "standard 1 0\ninconditional 3 2\npostblank 1 0\npreblank 1 0\n";
     for row in [
         done("trim M BI OUT", "not taken", point),
@@ -29,7 +29,7 @@ fn trim_leaves_what_can_be_translated(rt: HostRuntime) -> Result<(), Fail> {
         done(
             "lt-comp rl BI OUT3",
             "",
-            "standard 1 0\ninconditional 1 0\npostblank 1 0\npreblank 1 0\n",
+            "standard 22 26\ninconditional 1 0\npostblank 1 0\npreblank 1 0\n",
         ),
         case(
             "trim OUT3 BI OUT4",
