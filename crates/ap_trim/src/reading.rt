@@ -28,12 +28,7 @@ fn add_target(edges: &[Edge], place: usize, targets: &mut Vec<usize>) -> Result<
 }
 
 /// Adds the states that the edges from low up to high enter.
-fn add_span(
-    edges: &[Edge],
-    low: usize,
-    high: usize,
-    targets: &mut Vec<usize>,
-) -> Result<(), Memory>
+fn add_span(edges: &[Edge], low: usize, high: usize, targets: &mut Vec<usize>) -> Result<(), Memory>
     ensures { OnOk result (AddsWhere (LeadsWithin (slice_get edges.now) low high) targets.old.items targets.new.items) }
 {
     for place in low..high {

@@ -100,7 +100,13 @@ fn what_can_be_translated_stays(rt: HostRuntime) -> Result<(), Fail> {
     let alloc = rt.alloc();
     let (made, wanted) = both(
         alloc,
-        &["dogs:dog<n><pl>", "dog:dog<n><sg>", "fox:fox<n><sg>", "do:do<v>", "dig:dig"],
+        &[
+            "dogs:dog<n><pl>",
+            "dog:dog<n><sg>",
+            "fox:fox<n><sg>",
+            "do:do<v>",
+            "dig:dig",
+        ],
         &["dog<n>:perro<n><m>", "do<n>:x<n>", "dig:y"],
         &["dogs:dog<n><pl>", "dog:dog<n><sg>", "dig:dig"],
     )?;

@@ -54,11 +54,7 @@ pub(crate) fn trimmed_section(alloc: Global, section: &Fst, bilingual: &Fst) -> 
 /// to case. Each section of the result is the canonical transducer of the label strings that stay; the
 /// alphabet and the direction are the analyser's. The rule is this program's own. The error means want
 /// of memory.
-pub fn trim_by(
-    alloc: Global,
-    mono: &Compiled,
-    bilingual: &Compiled,
-) -> Result<Compiled, Memory>
+pub fn trim_by(alloc: Global, mono: &Compiled, bilingual: &Compiled) -> Result<Compiled, Memory>
     ensures { IfOk result (λ made. IsTrimmedBy mono.now bilingual.now made) }
 {
     let words = union_of(alloc, bilingual)?;
