@@ -3,7 +3,7 @@
 use Rattle.std.proofs.Common.{◌≡◌, ℕ, true, List, [], ◌∷◌, ap, sym, ◌∙◌, subst, refl, Some, None}
 use Rattle.ap_tool.specs.Said.{Said, Entries, Sections, Rules}
 use Rattle.ap_tool.specs.declared.words.Command.{Command}
-use Rattle.ap_tool.specs.declared.words.Command.TheVariants.{Proc, Expand, Comp, First, Pretransfer, TransferAlone, Transfer, Interchunk, Postchunk}
+use Rattle.ap_tool.specs.declared.words.Command.TheVariants.{Proc, Expand, Comp, Trim, First, Pretransfer, TransferAlone, Transfer, Interchunk, Postchunk}
 use Rattle.ap_tool.specs.Words.{out_of, has_stream}
 use Rattle.ap_tool.specs.Rows.{Stage, AreJoined}
 use Rattle.ap_tool.specs.Gives.{Gives, Streams, Lists, Stores, Nothing, gives_of, Making}
@@ -32,6 +32,10 @@ fits (Comp way dix out) (Entries d ∷ []) = stores _ _ refl refl
 fits (Comp way dix out) (Entries d ∷ c ∷ cs) = nothing refl
 fits (Comp way dix out) (Sections p ∷ cs) = nothing refl
 fits (Comp way dix out) (Rules r ∷ cs) = nothing refl
+fits (Trim mono bi out) [] = nothing refl
+fits (Trim mono bi out) (m ∷ []) = nothing refl
+fits (Trim mono bi out) (m ∷ b ∷ []) = stores _ _ refl refl
+fits (Trim mono bi out) (m ∷ b ∷ c ∷ cs) = nothing refl
 fits First [] = streams _ refl tt refl refl
 fits First (c ∷ cs) = nothing refl
 fits Pretransfer [] = streams _ refl tt refl refl
