@@ -1,5 +1,5 @@
 -- A row of stages keeps superblanks, and so does a command whose stream went through to its end.
-use Rattle.std.proofs.Common.{◌≡◌, ℕ, suc, List, [], ◌∷◌, ◌++◌, ap, sym, ◌∙◌, subst, refl, inl, inr, Option, Some, None, Ok, append-nil}
+use Rattle.std.proofs.Common.{◌≡◌, ℕ, suc, List, [], ◌∷◌, ap, sym, ◌∙◌, subst, refl, inl, inr, Option, Some, None, Ok, append-nil}
 use Rattle.ap_stream.specs.declared.fault.StreamFault.{StreamFault}
 use Rattle.ap_stream.specs.declared.fault.StreamFault.TheVariants as fault
 use Rattle.ap_stream.specs.Pieces.{HaveSameSuperblanks}
@@ -11,22 +11,20 @@ use Rattle.ap_pipe.specs.declared.round.Outcome.{Outcome}
 use Rattle.ap_pipe.specs.declared.round.Outcome.TheVariants as outcome
 use Rattle.ap_pipe.specs.declared.station.RowFault.{RowFault}
 use Rattle.ap_pipe.specs.Row.{RowTold, last_fault, meaning}
-use Rattle.ap_pipe.specs.Answers.{ending_of as text_ending}
 use Rattle.ap_pipe.specs.Flow.{WentThrough, Came, IsTaken}
-use Rattle.ap_tool.specs.declared.content.Content.{Content}
+use Rattle.ap_tool.specs.Said.{Said}
 use Rattle.ap_tool.specs.declared.status.Status.{Status}
 use Rattle.ap_tool.specs.declared.status.Status.TheVariants.{Done, ReadFault, WriteFault, FileFault, BadDictionary, BadRules, BadCompiled, Limit, Memory}
 use Rattle.ap_tool.specs.declared.words.Command.{Command}
-use Rattle.ap_tool.specs.declared.words.Command.TheVariants.{Proc, Expand, Comp, First, Pretransfer, Transfer, Interchunk, Postchunk}
-use Rattle.ap_tool.specs.declared.content.Content.TheVariants.{Entries, Sections}
 use Rattle.ap_tool.specs.Words.{command_of, files_of}
-use Rattle.ap_tool.specs.Outside.{FilesStanding, Outside}
+use Rattle.ap_tool.specs.Outside.{Outside}
 use Rattle.ap_tool.specs.Rows.{Stage, Meaning, AreJoined, stage_reads, row_reads, row_writes, EachKeepsSuperblanks}
 use Rattle.ap_tool.specs.Gives.{Gives, Streams, Lists, Stores, Nothing, gives_of}
 use Rattle.ap_tool.specs.Reading.{Flaw, TooLong, OfDictionary, OfCompiled, OfRules, status_of_flaw}
-use Rattle.ap_tool.specs.Stream.{status_at, status_of_outcome, Flows}
+use Rattle.ap_tool.specs.Stream.{status_at, status_of_outcome}
 use Rattle.ap_tool.specs.Answer.{IsRun, IsCommandAnswer, IsAnswer}
 use Rattle.ap_tool.specs.Account.{StreamsSuperblanks, GivesSuperblanks, OnAccepted}
+use Rattle.ap_tool.proofs.Fitting.{streams-joined}
 use Rattle.ap_tool.proofs.Flowing.{no-more}
 use Rattle.ap_tool.proofs.Reasons.{Refused, Unloaded, Flawed, Starved, refused-so, by-command}
 
@@ -59,31 +57,6 @@ row-keeps n (s ∷ t ∷ ss) (m ∷ ms) x j k e =
     (meaning n (m ∷ ms) x Whole).text
     (subst (λ d. HaveSameSuperblanks (stage_reads s) d x (m x Whole).text) (sym j.0) (k.0 x own))
     (row-keeps (suc n) (t ∷ ss) ms (m x Whole).text j.1 k.1 behind)
-
--- the stages of each command are joined
-streams-joined : (command : Command) (said : List Content) (stages : List Stage) →
-    Streams stages ≡ gives_of command said → AreJoined stages
-streams-joined (Proc mode sensitive file) [] stages e = absurd (cc)
-streams-joined (Proc mode sensitive file) (c ∷ []) (s ∷ []) e = tt
-streams-joined (Proc mode sensitive file) (c ∷ []) stages e = absurd (cc)
-streams-joined (Proc mode sensitive file) (c ∷ b ∷ cs) stages e = absurd (cc)
-streams-joined (Expand dix) [] stages e = absurd (cc)
-streams-joined (Expand dix) (Entries d ∷ []) stages e = absurd (cc)
-streams-joined (Expand dix) (Entries d ∷ c ∷ cs) stages e = absurd (cc)
-streams-joined (Expand dix) (Sections p ∷ cs) stages e = absurd (cc)
-streams-joined (Comp way dix out) [] stages e = absurd (cc)
-streams-joined (Comp way dix out) (Entries d ∷ []) stages e = absurd (cc)
-streams-joined (Comp way dix out) (Entries d ∷ c ∷ cs) stages e = absurd (cc)
-streams-joined (Comp way dix out) (Sections p ∷ cs) stages e = absurd (cc)
-streams-joined First [] (s ∷ []) e = tt
-streams-joined First [] stages e = absurd (cc)
-streams-joined First (c ∷ cs) stages e = absurd (cc)
-streams-joined Pretransfer [] (s ∷ []) e = tt
-streams-joined Pretransfer [] stages e = absurd (cc)
-streams-joined Pretransfer (c ∷ cs) stages e = absurd (cc)
-streams-joined (Transfer t1x bidix) said stages e = absurd (cc)
-streams-joined (Interchunk t2x) said stages e = absurd (cc)
-streams-joined (Postchunk t3x) said stages e = absurd (cc)
 
 not-fault : {A : Type 0} (status : Status) (file : ℕ) → status ≡ Done → status ≡ FileFault file → A
 not-fault status file e f = let x : Done ≡ FileFault file = sym e ∙ f in cc
@@ -142,7 +115,7 @@ module _ (words : List (List ℕ)) (command : Command) (before after : Outside) 
   came-kept stages ms input intake outcome.InputTooLong e j k taken c = absurd (cc)
   came-kept stages ms input intake (outcome.Fault n f) e j k taken c = not-done n f e
 
-  run-kept : (said : List Content) (g : Gives) (status : Status) → g ≡ gives_of command said →
+  run-kept : (said : List Said) (g : Gives) (status : Status) → g ≡ gives_of command said →
       status ≡ Done → IsRun words g before after status → GivesSuperblanks g before after
   run-kept said (Streams stages) status g e r =
       came-kept stages r.1.meanings r.1.went.input r.1.went.intake r.1.outcome

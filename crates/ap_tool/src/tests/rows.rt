@@ -50,10 +50,15 @@ const F2: &str =
 const F3: &str =
     "<dictionary>\n<section id=\"m\" type=\"standard\">\n<e w=\"1\"><i>b</i></e>\n</section>\n</dictionary>\n";
 
-/// A bilingual dictionary, and one with two words for one.
+/// A bilingual dictionary.
 const BI: &str =
     "<dictionary>\n<sdefs><sdef n=\"n\"/><sdef n=\"m\"/><sdef n=\"det\"/><sdef n=\"adj\"/>\n<sdef n=\"pr\"/><sdef n=\"sent\"/></sdefs>\n<section id=\"main\" type=\"standard\">\n<e><p><l>dog<s n=\"n\"/></l><r>perro<s n=\"n\"/><s n=\"m\"/></r></p></e>\n<e><p><l>cat<s n=\"n\"/></l><r>gato<s n=\"n\"/><s n=\"m\"/></r></p></e>\n<e><p><l>the<s n=\"det\"/></l><r>el<s n=\"det\"/></r></p></e>\n<e><p><l>black<s n=\"adj\"/></l><r>negro<s n=\"adj\"/></r></p></e>\n<e><p><l>of<s n=\"pr\"/></l><r>de<s n=\"pr\"/></r></p></e>\n<e><i>.<s n=\"sent\"/></i></e>\n</section>\n</dictionary>\n";
 
+/// An analyser of the words that it translates.
+const MONO: &str =
+    "<dictionary>\n<alphabet>abcdefghijklmnopqrstuvwxyz</alphabet>\n<sdefs><sdef n=\"n\"/><sdef n=\"sg\"/><sdef n=\"pl\"/><sdef n=\"det\"/>\n<sdef n=\"adj\"/><sdef n=\"pr\"/><sdef n=\"sent\"/></sdefs>\n<pardefs><pardef n=\"dog__n\">\n<e><p><l></l><r><s n=\"n\"/><s n=\"sg\"/></r></p></e>\n<e><p><l>s</l><r><s n=\"n\"/><s n=\"pl\"/></r></p></e>\n</pardef></pardefs>\n<section id=\"main\" type=\"standard\">\n<e><i>dog</i><par n=\"dog__n\"/></e>\n<e><i>cat</i><par n=\"dog__n\"/></e>\n<e><p><l>the</l><r>the<s n=\"det\"/></r></p></e>\n<e><p><l>black</l><r>black<s n=\"adj\"/></r></p></e>\n<e><p><l>of</l><r>of<s n=\"pr\"/></r></p></e>\n</section>\n<section id=\"final\" type=\"inconditional\">\n<e><p><l>.</l><r>.<s n=\"sent\"/></r></p></e>\n</section>\n</dictionary>\n";
+
+/// Two words for one.
 const V: &str =
     "<dictionary>\n<sdefs><sdef n=\"n\"/></sdefs>\n<section id=\"main\" type=\"standard\">\n<e><p><l>dog<s n=\"n\"/></l><r>perro<s n=\"n\"/></r></p></e>\n<e><p><l>dog<s n=\"n\"/></l><r>can<s n=\"n\"/></r></p></e>\n</section>\n</dictionary>\n";
 
@@ -136,6 +141,7 @@ pub(super) fn files_of(alloc: Global, number: u64) -> Result<MemFiles, Fail> {
         ("N", N),
         ("R", R),
         ("BI", BI),
+        ("MONO", MONO),
         ("V", V),
         ("POST", POST),
         ("FR", FR),

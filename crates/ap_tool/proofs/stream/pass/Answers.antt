@@ -1,14 +1,14 @@
-use Rattle.std.proofs.Common.{[], ◌∷◌}
+use Rattle.std.proofs.Common.{map}
 use Rattle.ap_pipe.specs.Any.{any_rest}
-use Rattle.ap_tool.proofs.Flowing.{flows-from, flows-told}
+use Rattle.ap_tool.proofs.Flowing.{flows-by, flows-told}
 use Rattle.ap_tool.proofs.stream.pass.Goals as goal
 
 pub returns-clause-flows : goal.returns-clause-flows
 returns-clause-flows g c =
-    λ s mean keeps. flows-from s (any_rest c.args.stage) _ _ _ _ c.stream_one.result
-    c.status_of.result mean keeps c.stream_one.ensures c.status_of.ensures
+    λ stages mean keeps. flows-by stages (map any_rest c.args.row) _ _ _ _ c.stream_row.result
+    c.status_of.result mean keeps c.stream_row.ensures c.status_of.ensures
 
 pub returns-clause-told : goal.returns-clause-told
 returns-clause-told g c =
-    λ words. flows-told (any_rest c.args.stage ∷ []) _ _ _ _ c.stream_one.result c.status_of.result
-    words c.stream_one.ensures c.status_of.ensures
+    λ words. flows-told (map any_rest c.args.row) _ _ _ _ c.stream_row.result c.status_of.result
+    words c.stream_row.ensures c.status_of.ensures

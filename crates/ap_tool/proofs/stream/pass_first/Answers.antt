@@ -8,5 +8,5 @@ use Rattle.ap_tool.proofs.stream.pass_first.Goals as goal
 pub returns-clause-flows : goal.returns-clause-flows
 returns-clause-flows g c =
     let same = one_meaning _ first_pass c.new-stage.ensures.rest in
-    c.pass.ensures.flows FirstReadings same
+    c.pass_one.ensures.flows FirstReadings same
     (subst (KeepsSuperblanks Analysed Lexical) (sym same) c.first_keeps_superblanks.ensures)

@@ -1,0 +1,14 @@
+pub mod Readings
+pub mod Adding
+pub mod Reaching
+pub mod Lemmas
+pub mod Watches
+pub mod Steps
+pub mod Numbered
+pub mod Pairing
+pub mod Growths
+pub mod Products
+pub mod Unions
+pub mod Keeping
+pub mod Sectioning
+pub mod Uniqueness

@@ -1,0 +1,42 @@
+-- Which analyses a bilingual dictionary can translate.
+use Rattle.std.specs.Prelude.{◌≡◌, ◌↔◌, Bool, true, false, ◌||◌, IsTrue, List}
+use Rattle.std.specs.List.{list_any}
+use Rattle.ap_symbol.specs.declared.symbol.Symbol.{Symbol}
+use Rattle.ap_symbol.specs.declared.symbol.Symbol.TheVariants.{Join, Queue}
+use Rattle.ap_fst.specs.Sections.{Parts, section_of}
+use Rattle.ap_fst.specs.Sides.{right_word}
+use Rattle.ap_fst.specs.Walks.{AcceptsLabels}
+use Rattle.ap_fst.specs.declared.compiled.Kind2.{Kind2}
+use Rattle.ap_fst.specs.declared.label.Label.{Label}
+use Rattle.ap_min.specs.Canonical.{IsCanonical}
+use Rattle.ap_live.specs.Found.{has_words}
+use Rattle.ap_live.specs.Lexicon.{Lexicon, lexicon_of}
+use Rattle.ap_lookup.specs.Translation.{translation}
+
+-- where a word is taken apart before its parts are looked up
+abbrev pub is_joint : Symbol → Bool
+is_joint Join = true
+is_joint Queue = true
+is_joint _ = false
+
+abbrev pub holds_joint : List Symbol → Bool
+holds_joint word = list_any is_joint word
+
+-- translation takes a prefix of the word, where letters fit without regard to case
+abbrev pub is_translated : Lexicon → List Symbol → Bool
+is_translated lexicon word = has_words (translation lexicon false word).heads
+
+abbrev pub is_kept : Lexicon → List Symbol → Bool
+is_kept lexicon word = holds_joint word || is_translated lexicon word
+
+-- the analyser accepts the labels in that kind, and their right word is kept
+abbrev pub Trimmed : Parts → Parts → Kind2 → List Label → Type 0
+Trimmed mono bilingual kind labels = AcceptsLabels (section_of mono kind) labels × IsTrue (is_kept (lexicon_of bilingual false) (right_word labels))
+
+-- What is left of an analyser: its alphabet and its direction, and of each kind the canonical transducer of the labels
+-- that are kept.
+pub record IsTrimmedBy (mono bilingual made : Parts) : Type 0 where
+  pub alphabet : made.alphabet ≡ mono.alphabet
+  pub way : made.way ≡ mono.way
+  pub exactly : (kind : Kind2) (labels : List Label) → AcceptsLabels (section_of made kind) labels ↔ Trimmed mono bilingual kind labels
+  pub canonical : (kind : Kind2) → IsCanonical (section_of made kind)

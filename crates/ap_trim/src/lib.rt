@@ -1,0 +1,19 @@
+//! Trimming of an analyser: what a bilingual dictionary can translate is left.
+#![tactic(auto)]
+
+mod closing;
+mod laws;
+mod pairs;
+mod product;
+mod reading;
+mod sets;
+mod states;
+mod stepping;
+#[cfg(test)]
+mod tests;
+mod trimming;
+mod union;
+mod watch;
+
+pub use laws::trimmed_is_one;
+pub use trimming::trim_by;

@@ -1,0 +1,27 @@
+ghost use Rattle.std.specs.Prelude.{◌≡◌};
+ghost use Rattle.ap_lookup.specs.Translation.{is_tag as tag_test};
+ghost use Rattle.ap_trim.specs.Trimming.{is_joint as joint_test};
+
+use ap_symbol::Symbol;
+
+/// What is known of a right word so far. `Kept`: it is kept however it goes on. `Lemma`: it has no
+/// tag and no joint, and the set with this number has the states that read it. `Tags`: it has a tag
+/// and no joint, nothing of it is taken, and the set with this number has the states that read it.
+#[derive(Clone, Copy, Debug, PartialEq, Eq, Hash)]
+pub(crate) enum Watch {
+    Kept,
+    Lemma(usize),
+    Tags(usize),
+}
+
+pub(crate) fn is_joint(symbol: &Symbol) -> bool
+    ensures { result ≡ joint_test symbol.now }
+{
+    matches!(symbol, Symbol::Join | Symbol::Queue)
+}
+
+pub(crate) fn is_tag(symbol: &Symbol) -> bool
+    ensures { result ≡ tag_test symbol.now }
+{
+    matches!(symbol, Symbol::Tag(_))
+}
