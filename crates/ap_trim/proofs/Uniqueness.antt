@@ -11,11 +11,14 @@ use Rattle.ap_min.specs.Canonical.{IsCanonical}
 use Rattle.ap_trim.specs.Trimming.{IsTrimmedBy}
 
 abbrev pub One : Type 0
-One = (a b : Machine) → IsCanonical a → IsCanonical b → ((labels : List Label) → AcceptsLabels a labels ↔ AcceptsLabels b labels) → a ≡ b
+One = (a b : Machine) → IsCanonical a → IsCanonical b →
+    ((labels : List Label) → AcceptsLabels a labels ↔ AcceptsLabels b labels) → a ≡ b
 
-module _ (law : One) (mono bilingual a b : Parts) (f : IsTrimmedBy mono bilingual a) (g : IsTrimmedBy mono bilingual b) where
+module _ (law : One) (mono bilingual a b : Parts) (f : IsTrimmedBy mono bilingual a)
+    (g : IsTrimmedBy mono bilingual b) where
   same_section : (kind : Kind2) → section_of a kind ≡ section_of b kind
-  same_section kind = law (section_of a kind) (section_of b kind) (f.canonical kind) (g.canonical kind) (λ w. (
+  same_section kind = law (section_of a kind) (section_of b kind) (f.canonical kind)
+      (g.canonical kind) (λ w. (
     λ h. (g.exactly kind w).1 ((f.exactly kind w).0 h),
     λ h. (f.exactly kind w).1 ((g.exactly kind w).0 h),
   ))
@@ -28,4 +31,5 @@ module _ (law : One) (mono bilingual a b : Parts) (f : IsTrimmedBy mono bilingua
       let inconditional : a.inconditional ≡ b.inconditional = same_section Inconditional in
       let postblank : a.postblank ≡ b.postblank = same_section Postblank in
       let preblank : a.preblank ≡ b.preblank = same_section Preblank in
-      λ i. record { alphabet = alphabet i; way = way i; standard = standard i; inconditional = inconditional i; postblank = postblank i; preblank = preblank i }
+      λ i. record { alphabet = alphabet i; way = way i; standard = standard i; inconditional =
+          inconditional i; postblank = postblank i; preblank = preblank i }

@@ -31,12 +31,15 @@ is_kept lexicon word = holds_joint word || is_translated lexicon word
 
 -- the analyser accepts the labels in that kind, and their right word is kept
 abbrev pub Trimmed : Parts → Parts → Kind2 → List Label → Type 0
-Trimmed mono bilingual kind labels = AcceptsLabels (section_of mono kind) labels × IsTrue (is_kept (lexicon_of bilingual false) (right_word labels))
+Trimmed mono bilingual kind labels = AcceptsLabels (section_of mono kind) labels ×
+    IsTrue (is_kept (lexicon_of bilingual false) (right_word labels))
 
--- What is left of an analyser: its alphabet and its direction, and of each kind the canonical transducer of the labels
+-- What is left of an analyser: its alphabet and its direction, and of each kind the canonical
+-- transducer of the labels
 -- that are kept.
 pub record IsTrimmedBy (mono bilingual made : Parts) : Type 0 where
   pub alphabet : made.alphabet ≡ mono.alphabet
   pub way : made.way ≡ mono.way
-  pub exactly : (kind : Kind2) (labels : List Label) → AcceptsLabels (section_of made kind) labels ↔ Trimmed mono bilingual kind labels
+  pub exactly : (kind : Kind2) (labels : List Label) → AcceptsLabels (section_of made kind) labels ↔
+      Trimmed mono bilingual kind labels
   pub canonical : (kind : Kind2) → IsCanonical (section_of made kind)
