@@ -39,28 +39,42 @@ module _ (edge_of : ℕ → Option Edge) where
       AddsWhere (LeadsWithin edge_of low (at + 1)) xs zs
   span_on low at xs ys zs le a b = adds_both (LeadsWithin edge_of low at) (LeadsAt edge_of at)
       (LeadsWithin edge_of low (at + 1)) xs ys zs (λ t. (
-    λ k. elim k [
-      | inl w ↦ let c : w.number < at = w.below in record { number = w.number; above = w.above;
-          below = omega (arith, c); leads = w.leads }
-      | inr l ↦ record { number = at; above = le; below = omega arith; leads = l }
-    ],
-    λ w. let c : w.number < at + 1 = w.below in elim (cases_lt w.number at) [
-      | inl lt ↦ inl (record { number = w.number; above = w.above; below = lt; leads = w.leads })
-      | inr ge ↦ let same : w.number ≡ at = omega (arith, c, ge) in
-          inr (subst (λ (z : ℕ). LeadsAt edge_of z t) same w.leads)
-    ],
-  )) a b
+        λ k. elim k [
+          | inl w ↦ let c : w.number < at = w.below in record {
+            number = w.number;
+            above = w.above;
+            below = omega (arith, c);
+            leads = w.leads;
+          }
+          | inr l ↦ record { number = at; above = le; below = omega arith; leads = l }
+        ],
+        λ w. let c : w.number < at + 1 = w.below in elim (cases_lt w.number at) [
+          | inl lt ↦ inl (record { number = w.number; above = w.above; below = lt; leads = w.leads })
+          | inr ge ↦ let same : w.number ≡ at = omega (arith, c, ge) in
+              inr (subst (λ (z : ℕ). LeadsAt edge_of z t) same w.leads)
+        ],
+      )) a b
 
   pub span_all : (low high at : ℕ) (xs ys : List ℕ) → at ≤ max low high → high ≤ at →
       AddsWhere (LeadsWithin edge_of low at) xs ys → AddsWhere (LeadsWithin edge_of low high) xs ys
   span_all low high at xs ys le up h = adds_as (LeadsWithin edge_of low at)
       (LeadsWithin edge_of low high) xs ys (λ t. (
-    λ w. let a : low ≤ w.number = w.above in let b : w.number < at = w.below in
-        record { number = w.number; above = w.above; below = omega (arith, a, b, le, up); leads =
-        w.leads },
-    λ w. let b : w.number < high = w.below in record { number = w.number; above = w.above; below =
-        omega (arith, b, up); leads = w.leads },
-  )) h
+        λ w. let a : low ≤ w.number = w.above in let b : w.number < at = w.below in
+            record {
+              number = w.number;
+              above = w.above;
+              below = omega (arith, a, b, le, up);
+              leads =
+                  w.leads;
+            },
+        λ w. let b : w.number < high = w.below in record {
+          number = w.number;
+          above = w.above;
+          below =
+              omega (arith, b, up);
+          leads = w.leads;
+        },
+      )) h
 
 -- the edges of a span are those of a state with a left side
 pub span_leaves : (m : Machine) (edges : List Edge) (state : ℕ) (left : Option Symbol)
@@ -69,19 +83,33 @@ pub span_leaves : (m : Machine) (edges : List Edge) (state : ℕ) (left : Option
     AddsWhere (LeavesBy m state left) xs ys
 span_leaves m edges state left low high xs ys e s h = adds_as
     (LeadsWithin (slice_get edges) low high) (LeavesBy m state left) xs ys (λ t. (
-  λ w.
-      let at : slice_get m.edges w.number ≡ Some w.leads.edge =
+      λ w.
+          let at : slice_get m.edges w.number ≡ Some w.leads.edge =
           ap (λ (z : List Edge). slice_get z w.number) (sym e) ∙ w.leads.at in
-      let i = s.inside w.number w.leads.edge at w.above w.below in
-      record { edge = w.leads.edge; listed = in_from_place m.edges w.number w.leads.edge at;
-          from_is = i.0; left_is = i.1; to_is = w.leads.to_is },
-  λ l.
-      let p : IsPlaced l.edge m.edges = placed_in l.edge m.edges l.listed in
-      let o = s.outside p.place l.edge p.at l.from_is l.left_is in
-      record { number = p.place; above = o.0; below = o.1; leads =
-          record { edge = l.edge; at = ap (λ (z : List Edge). slice_get z p.place) e ∙ p.at; to_is =
-          l.to_is } },
-)) h
+          let i = s.inside w.number w.leads.edge at w.above w.below in
+          record {
+            edge = w.leads.edge;
+            listed = in_from_place m.edges w.number w.leads.edge at;
+            from_is = i.0;
+            left_is = i.1;
+            to_is = w.leads.to_is;
+          },
+      λ l.
+          let p : IsPlaced l.edge m.edges = placed_in l.edge m.edges l.listed in
+          let o = s.outside p.place l.edge p.at l.from_is l.left_is in
+          record {
+            number = p.place;
+            above = o.0;
+            below = o.1;
+            leads =
+                record {
+                  edge = l.edge;
+                  at = ap (λ (z : List Edge). slice_get z p.place) e ∙ p.at;
+                  to_is =
+                      l.to_is;
+                };
+          },
+    )) h
 
 -- ---- what fits a symbol
 
@@ -151,11 +179,19 @@ pub fits_all : (m : Machine) (set : List ℕ) (symbol : Symbol) (n : ℕ) (old n
 fits_all m set symbol n old new none long h t = (
   λ i. let a : AtBelow (FitsAt m set symbol) n t = (adds_all (AtBelow (FitsAt m set symbol) n) old
       new none h t).0 i in
-      record { state = a.holds.state; listed = in_from_place set a.number a.holds.state
-          a.holds.state_at; fits = a.holds.fits },
+      record {
+        state = a.holds.state;
+        listed = in_from_place set a.number a.holds.state
+            a.holds.state_at;
+        fits = a.holds.fits;
+      },
   λ k. let q : IsPlaced k.state set = placed_in k.state set k.listed in
       let lt : q.place < length set = slice_get_within set q.place k.state q.at in
       (adds_all (AtBelow (FitsAt m set symbol) n) old new none h t).1
-          (record { number = q.place; below = omega (arith, lt, long); holds =
-          record { state = k.state; state_at = q.at; fits = k.fits } }),
+      (record {
+        number = q.place;
+        below = omega (arith, lt, long);
+        holds =
+            record { state = k.state; state_at = q.at; fits = k.fits };
+      }),
 )

@@ -48,19 +48,31 @@ has_keeps old new w k h = record { sight = h.sight; at = sight_keeps old new w h
 
 pub good_keeps : (b : Machine) (old new : List (List ℕ)) (w : Watch) → Keeps old new →
     IsGoodSight b old w → IsGoodSight b new w
-good_keeps b old new w k h = record { sight = h.sight; at = sight_keeps old new w h.sight k h.at;
-    good = h.good }
+good_keeps b old new w k h = record {
+  sight = h.sight;
+  at = sight_keeps old new w h.sight k h.at;
+  good = h.good;
+}
 
 pub begins_keeps : (b : Machine) (old new : List (List ℕ)) (w : Watch) → Keeps old new →
     BeginsWith b old w → BeginsWith b new w
-begins_keeps b old new w k h = record { sight = h.sight; at = sight_keeps old new w h.sight k h.at;
-    sees = h.sees }
+begins_keeps b old new w k h = record {
+  sight = h.sight;
+  at = sight_keeps old new w h.sight k h.at;
+  sees = h.sees;
+}
 
 goes_keeps : (b : Machine) (old new : List (List ℕ)) (v w : Watch) (side : List Symbol) →
     Keeps old new → GoesOn b old v w side → GoesOn b new v w side
-goes_keeps b old new v w side k h = record { old = h.old; old_at =
-    sight_keeps old new v h.old k h.old_at; new = h.new; new_at =
-    sight_keeps old new w h.new k h.new_at; sees = h.sees }
+goes_keeps b old new v w side k h = record {
+  old = h.old;
+  old_at =
+      sight_keeps old new v h.old k h.old_at;
+  new = h.new;
+  new_at =
+      sight_keeps old new w h.new k h.new_at;
+  sees = h.sees;
+}
 
 pub target_keeps : (b : Machine) (old_sets sets : List (List ℕ)) (old_pairs pairs : List Pair)
     (w : Watch) (exit e : Edge) → Keeps old_sets sets → Keeps old_pairs pairs →
@@ -80,9 +92,10 @@ module _ (b : Machine) (w : Watch) (n : ℕ) where
   follow_keeps old_sets sets old_pairs pairs [] [] k j f = tt
   follow_keeps old_sets sets old_pairs pairs [] (e ∷ outs) k j f = absurd f
   follow_keeps old_sets sets old_pairs pairs (x ∷ exits) [] k j f = absurd f
-  follow_keeps old_sets sets old_pairs pairs (x ∷ exits) (e ∷ outs) k j f =
-      ((f.0.0, target_keeps b old_sets sets old_pairs pairs w x e k j f.0.1),
-      follow_keeps old_sets sets old_pairs pairs exits outs k j f.1)
+  follow_keeps old_sets sets old_pairs pairs (x ∷ exits) (e ∷ outs) k j f = (
+    (f.0.0, target_keeps b old_sets sets old_pairs pairs w x e k j f.0.1),
+    follow_keeps old_sets sets old_pairs pairs exits outs k j f.1,
+  )
 
   module _ (sets : List (List ℕ)) (pairs : List Pair) where
     follow_append : (exits more outs others : List Edge) → Follow b sets pairs w n exits outs →
@@ -113,8 +126,13 @@ module _ (b : Machine) (w : Watch) (n : ℕ) where
       target = subst (λ (z : Edge). IsTarget b sets pairs w x z) (sym q) f.0.1;
     }
     follow_in (x ∷ exits) (y ∷ outs) e f (inr i) = let r : IsFollowed exits e =
-        follow_in exits outs e f.1 i in record { exit = r.exit; listed = inr r.listed; from_is =
-        r.from_is; target = r.target }
+        follow_in exits outs e f.1 i in record {
+          exit = r.exit;
+          listed = inr r.listed;
+          from_is =
+              r.from_is;
+          target = r.target;
+        }
 
     -- and each of these edges has one
     pub record HasOut (outs : List Edge) (exit : Edge) : Type 0 where
@@ -129,11 +147,20 @@ module _ (b : Machine) (w : Watch) (n : ℕ) where
     follow_each [] (y ∷ outs) exit f i = elim i [ ]
     follow_each (x ∷ exits) [] exit f i = absurd f
     follow_each (x ∷ exits) (y ∷ outs) exit f (inl q) =
-        record { edge = y; listed = inl refl; from_is = f.0.0; target =
-        subst (λ (z : Edge). IsTarget b sets pairs w z y) (sym q) f.0.1 }
+        record {
+          edge = y;
+          listed = inl refl;
+          from_is = f.0.0;
+          target =
+              subst (λ (z : Edge). IsTarget b sets pairs w z y) (sym q) f.0.1;
+        }
     follow_each (x ∷ exits) (y ∷ outs) exit f (inr i) = let r : HasOut outs exit =
-        follow_each exits outs exit f.1 i in record { edge = r.edge; listed = inr r.listed;
-        from_is = r.from_is; target = r.target }
+        follow_each exits outs exit f.1 i in record {
+          edge = r.edge;
+          listed = inr r.listed;
+          from_is = r.from_is;
+          target = r.target;
+        }
 
   -- ---- what is added
 
@@ -161,8 +188,8 @@ module _ (b : Machine) (w : Watch) (n : ℕ) where
           append_assoc edges_a f.outs g.outs;
       follow = subst (λ (z : List Edge). Follow b sets_c pairs_c w n z (f.outs ++ g.outs)) (sym e)
           (follow_append sets_c pairs_c exits more f.outs g.outs
-              (follow_keeps sets_b sets_c pairs_b pairs_c exits f.outs g.keeps_sets g.keeps_pairs
-              f.follow) g.follow);
+          (follow_keeps sets_b sets_c pairs_b pairs_c exits f.outs g.keeps_sets g.keeps_pairs
+          f.follow) g.follow);
       keeps_sets = keeps_then sets_a sets_b sets_c f.keeps_sets g.keeps_sets;
       keeps_pairs = keeps_then pairs_a pairs_b pairs_c f.keeps_pairs g.keeps_pairs;
       sights = λ i pair le at. elim (cases_lt i (length pairs_b)) [
@@ -170,7 +197,7 @@ module _ (b : Machine) (w : Watch) (n : ℕ) where
             let (q, there_at) = there pairs_b i lt in
             let same : q ≡ pair = same_Some q pair (sym (g.keeps_pairs i q there_at) ∙ at) in
             has_keeps sets_b sets_c pair.watch g.keeps_sets
-                (f.sights i pair le (there_at ∙ ap Some same))
+            (f.sights i pair le (there_at ∙ ap Some same))
         | inr ge ↦ g.sights i pair ge at
       ];
     }
@@ -179,23 +206,34 @@ module _ (b : Machine) (w : Watch) (n : ℕ) where
       (old new : List Edge) (next : Watch) (to : ℕ) (label : Label) → Keeps old_sets sets →
       GoesOn b sets w next (option_to_list exit.label.right)
       → HasNumber old_pairs pairs (record { state = exit.to; watch = next }) to →
-          label ≡ exit.label → new ≡ old ++ record { from = n; label = label; to = to } ∷ [] →
-          AddsOuts b w n (exit ∷ []) old_sets sets old_pairs pairs old new
+      label ≡ exit.label → new ≡ old ++ record { from = n; label = label; to = to } ∷ [] →
+      AddsOuts b w n (exit ∷ []) old_sets sets old_pairs pairs old new
   out_added exit old_sets sets old_pairs pairs old new next to label k goes h same grown =
       let pair : Pair = record { state = exit.to; watch = next } in
       let edge : Edge = record { from = n; label = label; to = to } in
       record {
         outs = edge ∷ [];
         grown = grown;
-        follow = ((refl, record { label_is = same; target = pair; target_at = h.at; state_is = refl;
-            goes = goes }), tt);
+        follow = (
+          (
+            refl,
+            record {
+              label_is = same;
+              target = pair;
+              target_at = h.at;
+              state_is = refl;
+              goes = goes;
+            },
+          ),
+          tt,
+        );
         keeps_sets = k;
         keeps_pairs = number_keeps old_pairs pairs pair to h;
         sights = λ i other le at.
             let lt : i < length pairs = slice_get_within pairs i other at in
             let here : i ≡ to = number_fresh old_pairs pairs pair to h i other at le lt in
             let own : pair ≡ other = same_Some pair other
-                (sym h.at ∙ ap (slice_get pairs) (sym here) ∙ at) in
+            (sym h.at ∙ ap (slice_get pairs) (sym here) ∙ at) in
             subst (λ (z : Pair). HasSight sets z.watch) own
-                (record { sight = goes.new; at = goes.new_at });
+            (record { sight = goes.new; at = goes.new_at });
       }

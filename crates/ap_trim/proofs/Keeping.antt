@@ -65,10 +65,10 @@ pub walk_unmarked : (m : Machine) → IsSection m → (s t : ℕ) (w : List Labe
 walk_unmarked m sec s t w (ends e) = refl
 walk_unmarked m sec s t w (goes {labels = labels} j e at from whole rest) =
     let plain = and_parts (is_plain_side e.label.left) (is_plain_side e.label.right)
-        (sec.plain e (in_from_place m.edges j e at)) in
+    (sec.plain e (in_from_place m.edges j e at)) in
     ap (λ (z : List Label). is_marked (right_word z)) whole ∙
-        side_unmarked e.label.right (right_word labels) plain.1
-        (walk_unmarked m sec e.to t labels rest)
+    side_unmarked e.label.right (right_word labels) plain.1
+    (walk_unmarked m sec e.to t labels rest)
 
 -- ---- a word that some section reads
 
@@ -105,24 +105,36 @@ module _ (p : Parts) (u : Machine) (compiled : IsCompiled p) (union : IsUnion p 
       let a : AcceptsAny p r.labels = (union r.labels).0 r.accepted in
       let sec : IsSection (section_of p a.kind) = section_at p a.kind compiled in
       let o : IsOutput (section_of p a.kind) (inputs_of false word) (right_word r.labels) =
-      record { labels = r.labels; accepted = a.accepted; fit =
-          fits_same false (left_word r.labels) word ∙ r.fit; is = refl } in
+      record {
+        labels = r.labels;
+        accepted = a.accepted;
+        fit =
+            fits_same false (left_word r.labels) word ∙ r.fit;
+        is = refl;
+      } in
       of_kind (lexicon_of p false) word a.kind ((output_there (section_of p a.kind)
-          (inputs_of false word) sec.sound sec.cycles).1 (right_word r.labels, o))
+      (inputs_of false word) sec.sound sec.cycles).1 (right_word r.labels, o))
 
   of_read : (word : List Symbol) → IsRead (lexicon_of p false) word → ReadsWhole u word
   of_read word r =
       let o : IsOutput (section_of p r.kind) (inputs_of false word) r.right =
-          found_is_output (section_of p r.kind) (inputs_of false word) r.right r.read in
-      record { labels = o.labels; accepted = (union o.labels).1
-          (record { kind = r.kind; accepted = o.accepted }); fit =
-          sym (fits_same false (left_word o.labels) word) ∙ o.fit }
+      found_is_output (section_of p r.kind) (inputs_of false word) r.right r.read in
+      record {
+        labels = o.labels;
+        accepted = (union o.labels).1
+            (record { kind = r.kind; accepted = o.accepted });
+        fit =
+            sym (fits_same false (left_word o.labels) word) ∙ o.fit;
+      }
 
   nothing_read : ReadsWhole u [] → ⊥
   nothing_read r =
       let a : AcceptsAny p r.labels = (union r.labels).0 r.accepted in
-      (section_at p a.kind compiled).sides (record { labels = r.labels; accepted = a.accepted;
-          empty = nothing_fits (left_word r.labels) r.fit })
+      (section_at p a.kind compiled).sides (record {
+        labels = r.labels;
+        accepted = a.accepted;
+        empty = nothing_fits (left_word r.labels) r.fit;
+      })
 
   some_front : (word : List Symbol) (n : ℕ) → TakesFront u word n → 0 < n
   some_front word n f = elim (cases_lt 0 n) [
@@ -134,9 +146,15 @@ module _ (p : Parts) (u : Machine) (compiled : IsCompiled p) (union : IsUnion p 
   prefix_of : (word : List Symbol) (t : IsTaken u word) → IsPrefix (lexicon_of p false) word t.count
   prefix_of word t =
       let r : IsRead (lexicon_of p false) (take t.count word) =
-          read_of (take t.count word) t.front.whole in
-      record { some = some_front word t.count t.front; within = t.within; whole = t.front.lemma;
-          kind = r.kind; right = r.right; read = r.read }
+      read_of (take t.count word) t.front.whole in
+      record {
+        some = some_front word t.count t.front;
+        within = t.within;
+        whole = t.front.lemma;
+        kind = r.kind;
+        right = r.right;
+        read = r.read;
+      }
 
   module _ (word : List Symbol) (clean : is_marked word ≡ false) where
     no_none : IsTaken u word → HasNone (lexicon_of p false) word → ⊥
@@ -158,23 +176,30 @@ module _ (p : Parts) (u : Machine) (compiled : IsCompiled p) (union : IsUnion p 
         is_match (lexicon_of p false) (lemma_length word) word n ≡ true → IsTaken u word
     taken_by n e h =
         let both = and_parts (nat_le (lemma_length word) n)
-            (has_words (any_words (lexicon_of p false) (take n word))) h in
+        (has_words (any_words (lexicon_of p false) (take n word))) h in
         let within : prefix (lexicon_of p false) word ≤ length word =
-            greatest_within (is_match (lexicon_of p false) (lemma_length word) word) (length word)
-            in
+        greatest_within (is_match (lexicon_of p false) (lemma_length word) word) (length word)
+        in
         let whole : lemma_length word ≤ n = let b : nat_le (lemma_length word) n ≡ true = both.0 in
-            grind (arith, nat_tests) in
-        record { count = n; within = omega (arith, within, e); front =
-            record { lemma = whole; whole = of_read (take n word)
-            (some_kind (lexicon_of p false) (take n word) both.1) } }
+        grind (arith, nat_tests) in
+        record {
+          count = n;
+          within = omega (arith, within, e);
+          front =
+              record {
+                lemma = whole;
+                whole = of_read (take n word)
+                    (some_kind (lexicon_of p false) (take n word) both.1);
+              };
+        }
 
     taken_of : is_translated (lexicon_of p false) word ≡ true → IsTaken u word
     taken_of h = elim (greatest_passes (is_match (lexicon_of p false) (lemma_length word) word)
         (length word)) [
-      | inl none ↦ absurd (true≢false (sym h ∙ ap (λ t. has_words t.heads)
-          (sym (translation_none (lexicon_of p false) false word clean none))))
-      | inr passes ↦ taken_by (prefix (lexicon_of p false) word) refl passes
-    ]
+          | inl none ↦ absurd (true≢false (sym h ∙ ap (λ t. has_words t.heads)
+              (sym (translation_none (lexicon_of p false) false word clean none))))
+          | inr passes ↦ taken_by (prefix (lexicon_of p false) word) refl passes
+        ]
 
     or_left : (a b : Bool) → a ≡ true → (a || b) ≡ true
     or_left true b h = refl
@@ -208,16 +233,16 @@ pub trimmed_as : (mono bilingual : Parts) (u section made : Machine) (kind : Kin
     Trimmed mono bilingual kind labels
 trimmed_as mono bilingual u section made kind cm cb union e kept labels =
     let own : IsKeptOf (section_of mono kind) u made = subst (λ (z : Machine). IsKeptOf z u made) e
-        kept in
+    kept in
     let sec : IsSection (section_of mono kind) = section_at mono kind cm in (
       λ a.
           let k = (own labels).0 a in
           let clean : is_marked (right_word labels) ≡ false =
-              walk_unmarked (section_of mono kind) sec 0 k.0.last labels k.0.walk in
+          walk_unmarked (section_of mono kind) sec 0 k.0.last labels k.0.walk in
           (k.0, (kept_same bilingual u cb union (right_word labels) clean).0 k.1),
       λ t.
           let clean : is_marked (right_word labels) ≡ false =
-              walk_unmarked (section_of mono kind) sec 0 t.0.last labels t.0.walk in
+          walk_unmarked (section_of mono kind) sec 0 t.0.last labels t.0.walk in
           (own labels).1 (t.0, (kept_same bilingual u cb union (right_word labels) clean).1 t.1),
     )
 

@@ -50,7 +50,7 @@ lemma_untagged [] more h = omega arith
 lemma_untagged (x ∷ word) more h =
     let p = or_parts (is_tag x) (has_tag word) h in
     let r : lemma_length (word ++ more) ≡ length word + lemma_length more =
-        lemma_untagged word more p.1 in
+    lemma_untagged word more p.1 in
     cond-false (is_tag x) 0 (suc (lemma_length (word ++ more))) p.0 ∙ omega (arith, r)
 
 pub lemma_at_tag : (x : Symbol) (more : List Symbol) → is_tag x ≡ true → lemma_length (x ∷ more) ≡ 0

@@ -61,8 +61,8 @@ labels_less : (m : Machine) → IsDeterministic m → (d e : Edge) → IsIn d m.
 labels_less m one d e i k from less =
     let start : nat_cmp d.from e.from ≡ Equal = cmp_same d.from e.from from in
     let rest : ordering_then (label_cmp d.label e.label) (nat_cmp d.to e.to) ≡ Less =
-        sym (ap (λ o. ordering_then o (ordering_then (label_cmp d.label e.label)
-        (nat_cmp d.to e.to))) start) ∙ less in
+    sym (ap (λ o. ordering_then o (ordering_then (label_cmp d.label e.label)
+    (nat_cmp d.to e.to))) start) ∙ less in
     elim (then_less (label_cmp d.label e.label) (nat_cmp d.to e.to) rest) [
       | inl l ↦ l
       | inr (q, l) ↦
@@ -84,7 +84,7 @@ exits_ascend m s one (x ∷ edges) h a = (
 exit_of : (m : Machine) (s : ℕ) (e : Edge) → IsIn e (edges_of m s) → IsIn e m.edges × (e.from ≡ s)
 exit_of m s e i =
     let k : IsKept (λ (z : Edge). eqb (edge_from z) s) e m.edges =
-        filter_in (λ (z : Edge). eqb (edge_from z) s) e m.edges i in
+    filter_in (λ (z : Edge). eqb (edge_from z) s) e m.edges i in
     let t : eqb (edge_from e) s ≡ true = k.passes in
     (k.listed, grind (arith, nat_tests))
 
@@ -113,8 +113,11 @@ start_less Greater b c h = cc
 
 ascends_edges : (edges : List Edge) → Ascends start_cmp edges → Ascends edge_cmp edges
 ascends_edges [] a = tt
-ascends_edges (x ∷ edges) a = (λ y i. start_less (nat_cmp x.from y.from) (label_cmp x.label y.label)
-    (nat_cmp x.to y.to) (a.0 y i), ascends_edges edges a.1)
+ascends_edges (x ∷ edges) a = (
+  λ y i. start_less (nat_cmp x.from y.from) (label_cmp x.label y.label)
+      (nat_cmp x.to y.to) (a.0 y i),
+  ascends_edges edges a.1,
+)
 
 follow_ascends : (b : Machine) (sets : List (List ℕ)) (pairs : List Pair) (w : Watch) (n : ℕ)
     (exits outs : List Edge) → Follow b sets pairs w n exits outs → Ascends by_label exits →
@@ -126,7 +129,7 @@ follow_ascends b sets pairs w n (x ∷ exits) (e ∷ outs) f a = (
   λ y i.
       let r : IsFollowed b w n sets pairs exits y = follow_in b w n sets pairs exits outs y f.1 i in
       ap (λ (l : Label). label_cmp l y.label) f.0.1.label_is ∙
-          ap (λ (l : Label). label_cmp x.label l) r.target.label_is ∙ a.0 r.exit r.listed,
+      ap (λ (l : Label). label_cmp x.label l) r.target.label_is ∙ a.0 r.exit r.listed,
   follow_ascends b sets pairs w n exits outs f.1 a.1,
 )
 
@@ -144,20 +147,29 @@ product_begun m b sets none pairs w number edges finals begins bare h no_edges n
       | inr e ↦ e.1 ∙ ap (λ (z : List Pair). z ++ pair ∷ []) bare
     ] in
     record {
-      first = record { pair = pair; pair_at = ap (λ (z : List Pair). slice_get z 0) alone;
-          state_is = refl; begins = begins };
+      first = record {
+        pair = pair;
+        pair_at = ap (λ (z : List Pair). slice_get z 0) alone;
+        state_is = refl;
+        begins = begins;
+      };
       sights = λ i other at.
           let here : slice_get (pair ∷ []) i ≡ Some other =
-              ap (λ (z : List Pair). slice_get z i) (sym alone) ∙ at in
+          ap (λ (z : List Pair). slice_get z i) (sym alone) ∙ at in
           let is : IsIn other (pair ∷ []) = in_from_place (pair ∷ []) i other here in
-          elim is [ inl e ↦ subst (λ (z : Pair). HasSight sets z.watch) (sym e)
-              (record { sight = begins.sight; at = begins.at }) | inr k ↦ elim k [ ] ];
+          elim is [
+            | inl e ↦ subst (λ (z : Pair). HasSight sets z.watch) (sym e)
+                (record { sight = begins.sight; at = begins.at })
+            | inr k ↦ elim k [ ]
+          ];
       sound = λ e i. elim (subst (λ (z : List Edge). IsIn e z) no_edges i) [ ];
       below = λ e i. elim (subst (λ (z : List Edge). IsIn e z) no_edges i) [ ];
       all = λ i other exit lt at listed from. absurd (omega (arith, lt));
       ascend = subst (λ (z : List Edge). Ascends start_cmp z) (sym no_edges) tt;
-      final = λ i. (λ k. elim (subst (λ (z : List ℕ). IsIn i z) no_finals k) [ ],
-          λ f. let l : i < 0 = f.below in absurd (omega (arith, l)));
+      final = λ i. (
+        λ k. elim (subst (λ (z : List ℕ). IsIn i z) no_finals k) [ ],
+        λ f. let l : i < 0 = f.below in absurd (omega (arith, l)),
+      );
       finals_ascend = subst (λ (z : List ℕ). Ascends nat_cmp z) (sym no_finals) tt;
     }
 
@@ -168,8 +180,8 @@ module _ (m b : Machine) (ok : IsMachine m) (one : IsDeterministic m) (n : ℕ)
     (old_finals finals : List ℕ) (pair : Pair) (s : AreProduct m b n old_sets old_pairs old
     old_finals)
     (pair_at : slice_get old_pairs n ≡ Some pair) (f : AddsFinal m b old_sets pair n old_finals
-        finals) (g : AddsOuts b pair.watch n (edges_of m pair.state) old_sets sets old_pairs pairs
-        old new) where
+    finals) (g : AddsOuts b pair.watch n (edges_of m pair.state) old_sets sets old_pairs pairs
+    old new) where
   -- a pair from before
   earlier : (i : ℕ) (other : Pair) → i < n → slice_get pairs i ≡ Some other →
       slice_get old_pairs i ≡ Some other
@@ -196,10 +208,16 @@ module _ (m b : Machine) (ok : IsMachine m) (one : IsDeterministic m) (n : ℕ)
   new_edge : (e : Edge) → IsIn e g.outs → IsPairEdge m b sets pairs e
   new_edge e i =
       let r : IsFollowed b pair.watch n sets pairs (edges_of m pair.state) e =
-          follow_in b pair.watch n sets pairs (edges_of m pair.state) g.outs e g.follow i in
+      follow_in b pair.watch n sets pairs (edges_of m pair.state) g.outs e g.follow i in
       let x = exit_of m pair.state r.exit r.listed in
-      record { pair = pair; pair_at = ap (slice_get pairs) r.from_is ∙ g.keeps_pairs n pair pair_at;
-          exit = r.exit; listed = x.0; from_is = x.1; target = r.target }
+      record {
+        pair = pair;
+        pair_at = ap (slice_get pairs) r.from_is ∙ g.keeps_pairs n pair pair_at;
+        exit = r.exit;
+        listed = x.0;
+        from_is = x.1;
+        target = r.target;
+      }
 
   out_from : (e : Edge) → IsIn e g.outs → e.from ≡ n
   out_from e i = (follow_in b pair.watch n sets pairs (edges_of m pair.state) g.outs e g.follow
@@ -217,26 +235,37 @@ module _ (m b : Machine) (ok : IsMachine m) (one : IsDeterministic m) (n : ℕ)
   all_made i other exit lt at listed from = elim (cases_lt i n) [
     | inl before ↦
         let l : LeavesTo b old_sets old_pairs other.watch old i exit =
-            s.all i other exit before (earlier i other before at) listed from in
-        record { edge = l.edge; listed = in_new l.edge (in_front l.edge old g.outs l.listed);
-            from_is = l.from_is; target = target_keeps b old_sets sets old_pairs pairs other.watch
-            exit l.edge g.keeps_sets g.keeps_pairs l.target }
+        s.all i other exit before (earlier i other before at) listed from in
+        record {
+          edge = l.edge;
+          listed = in_new l.edge (in_front l.edge old g.outs l.listed);
+          from_is = l.from_is;
+          target = target_keeps b old_sets sets old_pairs pairs other.watch
+              exit l.edge g.keeps_sets g.keeps_pairs l.target;
+        }
     | inr ge ↦
         let e : i ≡ n = omega (arith, lt, ge) in
         let own : pair ≡ other = own_pair i other e at in
         let h : HasOut b pair.watch n sets pairs g.outs exit =
-            follow_each b pair.watch n sets pairs (edges_of m pair.state) g.outs exit g.follow
-            (of_exit m pair.state exit listed (from ∙ ap (λ (z : Pair). z.state) (sym own))) in
-        record { edge = h.edge; listed = in_new h.edge (in_back h.edge old g.outs h.listed);
-            from_is = h.from_is ∙ sym e; target = subst
-            (λ (z : Pair). IsTarget b sets pairs z.watch exit h.edge) own h.target }
+        follow_each b pair.watch n sets pairs (edges_of m pair.state) g.outs exit g.follow
+        (of_exit m pair.state exit listed (from ∙ ap (λ (z : Pair). z.state) (sym own))) in
+        record {
+          edge = h.edge;
+          listed = in_new h.edge (in_back h.edge old g.outs h.listed);
+          from_is = h.from_is ∙ sym e;
+          target = subst
+              (λ (z : Pair). IsTarget b sets pairs z.watch exit h.edge) own h.target;
+        }
   ]
 
   -- ---- final pairs
 
   good_on : (other : Pair) → IsGoodPair m b old_sets other → IsGoodPair m b sets other
-  good_on other h = record { final = h.final; good = good_keeps b old_sets sets other.watch
-      g.keeps_sets h.good }
+  good_on other h = record {
+    final = h.final;
+    good = good_keeps b old_sets sets other.watch
+        g.keeps_sets h.good;
+  }
 
   -- a pair from before is good no later than before
   good_back : (i : ℕ) (other : Pair) → slice_get old_pairs i ≡ Some other →
@@ -244,32 +273,53 @@ module _ (m b : Machine) (ok : IsMachine m) (one : IsDeterministic m) (n : ℕ)
   good_back i other at h =
       let k : HasSight old_sets other.watch = s.sights i other at in
       let same_sight : h.good.sight ≡ k.sight = same_Some h.good.sight k.sight
-          (sym h.good.at ∙ sight_keeps old_sets sets other.watch k.sight g.keeps_sets k.at) in
-      record { final = h.final; good = record { sight = k.sight; at = k.at; good =
-          subst (IsGood b) same_sight h.good.good } }
+      (sym h.good.at ∙ sight_keeps old_sets sets other.watch k.sight g.keeps_sets k.at) in
+      record {
+        final = h.final;
+        good = record {
+          sight = k.sight;
+          at = k.at;
+          good =
+              subst (IsGood b) same_sight h.good.good;
+        };
+      }
 
   old_final : (i : ℕ) → IsFinalPair m b n old_sets old_pairs i →
       IsFinalPair m b (n + 1) sets pairs i
-  old_final i h = let l : i < n = h.below in record { below = omega (arith, l); pair = h.pair;
-      pair_at = g.keeps_pairs i h.pair h.pair_at; good = good_on h.pair h.good }
+  old_final i h = let l : i < n = h.below in record {
+    below = omega (arith, l);
+    pair = h.pair;
+    pair_at = g.keeps_pairs i h.pair h.pair_at;
+    good = good_on h.pair h.good;
+  }
 
   before_final : (i : ℕ) → i < n → IsFinalPair m b (n + 1) sets pairs i → IsIn i old_finals
   before_final i lt h =
       let at : slice_get old_pairs i ≡ Some h.pair = earlier i h.pair lt h.pair_at in
-      (s.final i).1 (record { below = lt; pair = h.pair; pair_at = at; good =
-          good_back i h.pair at h.good })
+      (s.final i).1 (record {
+        below = lt;
+        pair = h.pair;
+        pair_at = at;
+        good =
+            good_back i h.pair at h.good;
+      })
 
   final_in : (xs : List ℕ) → AddsFinal m b old_sets pair n old_finals xs → (i : ℕ) → IsIn i xs →
       IsFinalPair m b (n + 1) sets pairs i
   final_in xs (added h e) i k = elim (in_either i old_finals (n ∷ [])
       (subst (λ (z : List ℕ). IsIn i z) e k)) [
-    | inl j ↦ old_final i ((s.final i).0 j)
-    | inr j ↦ elim j [
-      | inl is ↦ record { below = omega (arith, is); pair = pair; pair_at =
-          ap (slice_get pairs) is ∙ g.keeps_pairs n pair pair_at; good = good_on pair h }
-      | inr none ↦ elim none [ ]
-    ]
-  ]
+        | inl j ↦ old_final i ((s.final i).0 j)
+        | inr j ↦ elim j [
+          | inl is ↦ record {
+            below = omega (arith, is);
+            pair = pair;
+            pair_at =
+                ap (slice_get pairs) is ∙ g.keeps_pairs n pair pair_at;
+            good = good_on pair h;
+          }
+          | inr none ↦ elim none [ ]
+        ]
+      ]
   final_in xs (same h e) i k = old_final i ((s.final i).0 (subst (λ (z : List ℕ). IsIn i z) e k))
 
   own_good : (i : ℕ) → i ≡ n → IsFinalPair m b (n + 1) sets pairs i → IsGoodPair m b old_sets pair
@@ -303,7 +353,7 @@ module _ (m b : Machine) (ok : IsMachine m) (one : IsDeterministic m) (n : ℕ)
         let (x, there_at) = there old_pairs i lt in
         let same_pair : x ≡ other = same_Some x other (sym (g.keeps_pairs i x there_at) ∙ at) in
         has_keeps old_sets sets other.watch g.keeps_sets
-            (s.sights i other (there_at ∙ ap Some same_pair))
+        (s.sights i other (there_at ∙ ap Some same_pair))
     | inr ge ↦ g.sights i other ge at
   ]
 
@@ -324,12 +374,12 @@ module _ (m b : Machine) (ok : IsMachine m) (one : IsDeterministic m) (n : ℕ)
     ascend = subst (λ (z : List Edge). Ascends start_cmp z) (sym g.grown)
         (ascends_append start_cmp old g.outs s.ascend
         (ascends_from n g.outs out_from (follow_ascends b sets pairs pair.watch n
-            (edges_of m pair.state) g.outs g.follow
+        (edges_of m pair.state) g.outs g.follow
         (exits_ascend m pair.state one (edges_of m pair.state) (exit_of m pair.state)
-            (ascends_filter edge_cmp (λ (e : Edge). eqb (edge_from e) pair.state) m.edges
-            ok.edges_ascend))))
+        (ascends_filter edge_cmp (λ (e : Edge). eqb (edge_from e) pair.state) m.edges
+        ok.edges_ascend))))
         (λ x y i k. let l : x.from < n = s.below x i in let r : y.from ≡ n = out_from y k in
-            from_less x y (omega (arith, l, r))));
+        from_less x y (omega (arith, l, r))));
     final = λ i. (final_in finals f i, in_final finals f i);
     finals_ascend = finals_rise finals f;
   }
@@ -352,9 +402,13 @@ module _ (m b made : Machine) (ok : IsMachine m) (n : ℕ) (sets : List (List �
         let h : IsPairEdge m b sets pairs e = s.sound e i in
         let f : e.from < length pairs = slice_get_within pairs e.from h.pair h.pair_at in
         let t : e.to < length pairs = slice_get_within pairs e.to h.target.target h.target.target_at
-            in
-        record { from_in = omega (arith, f, long); to_in = omega (arith, t, long); sided =
-            sided e h };
+        in
+        record {
+          from_in = omega (arith, f, long);
+          to_in = omega (arith, t, long);
+          sided =
+              sided e h;
+        };
     finals_in = λ i k.
         let h : IsFinalPair m b n sets pairs i = (s.final i).0 k in
         let f : i < length pairs = slice_get_within pairs i h.pair h.pair_at in
@@ -386,15 +440,15 @@ module _ (m b made : Machine) (ok : IsMachine m) (n : ℕ) (sets : List (List �
   seen i j pair sight w word at sight_at sees (goes {labels = labels} k e here from whole rest) =
       let h : IsPairEdge m b sets pairs e = s.sound e (in_from_place made.edges k e here) in
       let own : h.pair ≡ pair = same_Some h.pair pair (sym h.pair_at ∙
-          ap (slice_get pairs) (sym from) ∙ at) in
+      ap (slice_get pairs) (sym from) ∙ at) in
       let t : IsTarget b sets pairs h.pair.watch h.exit e = h.target in
       let old : t.goes.old ≡ sight = same_Some t.goes.old sight
-          (sym t.goes.old_at ∙ ap (λ (z : Pair). sight_of sets z.watch) own ∙ sight_at) in
+      (sym t.goes.old_at ∙ ap (λ (z : Pair). sight_of sets z.watch) own ∙ sight_at) in
       let next : Sees b t.goes.new (word ++ option_to_list h.exit.label.right) =
-          t.goes.sees word (subst (λ (z : Sight). Sees b z word) (sym old) sees) in
+      t.goes.sees word (subst (λ (z : Sight). Sees b z word) (sym old) sees) in
       let r : IsSeen t.target.state labels (word ++ option_to_list h.exit.label.right) j =
-          seen e.to j t.target t.goes.new labels (word ++ option_to_list h.exit.label.right)
-          t.target_at t.goes.new_at next rest in
+      seen e.to j t.target t.goes.new labels (word ++ option_to_list h.exit.label.right)
+      t.target_at t.goes.new_at next rest in
       let p : IsPlaced h.exit m.edges = placed_in h.exit m.edges h.listed in
       let label : w ≡ h.exit.label ∷ labels = whole ∙ ap (λ (z : Label). z ∷ labels) t.label_is in
       record {
@@ -417,19 +471,30 @@ module _ (m b made : Machine) (ok : IsMachine m) (n : ℕ) (sets : List (List �
 
   paired : length pairs ≤ n → (i t state : ℕ) (pair : Pair) (w : List Label) →
       slice_get pairs i ≡ Some pair → pair.state ≡ state → Walk m.edges state w t → IsPaired i w t
-  paired done i t state pair w at is (ends e) = record { last = i; pair = pair; pair_at = at;
-      state_is = is ∙ e; walk = ends refl }
+  paired done i t state pair w at is (ends e) = record {
+    last = i;
+    pair = pair;
+    pair_at = at;
+    state_is = is ∙ e;
+    walk = ends refl;
+  }
   paired done i t state pair w at is (goes {labels = labels} k d here from whole rest) =
       let low : i < length pairs = slice_get_within pairs i pair at in
       let l : LeavesTo b sets pairs pair.watch made.edges i d =
-          s.all i pair d (omega (arith, low, done)) at (in_from_place m.edges k d here)
-          (sym from ∙ sym is) in
+      s.all i pair d (omega (arith, low, done)) at (in_from_place m.edges k d here)
+      (sym from ∙ sym is) in
       let r : IsPaired l.edge.to labels t = paired done l.edge.to t d.to l.target.target labels
-          l.target.target_at l.target.state_is rest in
+      l.target.target_at l.target.state_is rest in
       let p : IsPlaced l.edge made.edges = placed_in l.edge made.edges l.listed in
-      record { last = r.last; pair = r.pair; pair_at = r.pair_at; state_is = r.state_is; walk =
-          goes {t = r.last} p.place l.edge p.at (sym l.from_is)
-          (whole ∙ ap (λ (z : Label). z ∷ labels) (sym l.target.label_is)) r.walk }
+      record {
+        last = r.last;
+        pair = r.pair;
+        pair_at = r.pair_at;
+        state_is = r.state_is;
+        walk =
+            goes {t = r.last} p.place l.edge p.at (sym l.from_is)
+            (whole ∙ ap (λ (z : Label). z ∷ labels) (sym l.target.label_is)) r.walk;
+      }
 
   -- ---- the label strings
 
@@ -437,7 +502,7 @@ module _ (m b made : Machine) (ok : IsMachine m) (n : ℕ) (sets : List (List �
   from_start w j walk =
       let p : IsFirst b sets pairs = s.first in
       subst (λ (z : ℕ). IsSeen z w [] j) p.state_is (seen 0 j p.pair p.begins.sight w [] p.pair_at
-          p.begins.at p.begins.sees walk)
+      p.begins.at p.begins.sees walk)
 
   accepts_out : (w : List Label) → AcceptsLabels made w → AcceptsLabels m w ×
       IsKeptBy b (right_word w)
@@ -447,15 +512,16 @@ module _ (m b made : Machine) (ok : IsMachine m) (n : ℕ) (sets : List (List �
       let own : f.pair ≡ r.pair = same_Some f.pair r.pair (sym f.pair_at ∙ r.pair_at) in
       let good : IsGoodPair m b sets r.pair = subst (IsGoodPair m b sets) own f.good in
       let sight : good.good.sight ≡ r.sight = same_Some good.good.sight r.sight
-          (sym good.good.at ∙ r.sight_at) in
-      (record { last = r.pair.state; final = good.final; walk = r.walk },
-          (good_sight b r.sight (right_word w) r.sees).0 (subst (IsGood b) sight good.good.good))
+      (sym good.good.at ∙ r.sight_at) in (
+        record { last = r.pair.state; final = good.final; walk = r.walk },
+        (good_sight b r.sight (right_word w) r.sees).0 (subst (IsGood b) sight good.good.good),
+      )
 
   accepts_in : length pairs ≤ n → (w : List Label) → AcceptsLabels m w × IsKeptBy b (right_word w) →
       AcceptsLabels made w
   accepts_in done w (h, k) =
       let p : IsPaired 0 w h.last = paired done 0 h.last 0 s.first.pair w s.first.pair_at
-          s.first.state_is h.walk in
+      s.first.state_is h.walk in
       let r : IsSeen 0 w [] p.last = from_start w p.last p.walk in
       let own : p.pair ≡ r.pair = same_Some p.pair r.pair (sym p.pair_at ∙ r.pair_at) in
       let low : p.last < length pairs = slice_get_within pairs p.last p.pair p.pair_at in
@@ -468,8 +534,12 @@ module _ (m b made : Machine) (ok : IsMachine m) (n : ℕ) (sets : List (List �
           good = record {
             final = subst (λ (z : ℕ). IsIn z m.finals) (sym p.state_is ∙
                 ap (λ (z : Pair). z.state) own) h.final;
-            good = record { sight = r.sight; at = r.sight_at; good =
-                (good_sight b r.sight (right_word w) r.sees).1 k };
+            good = record {
+              sight = r.sight;
+              at = r.sight_at;
+              good =
+                  (good_sight b r.sight (right_word w) r.sees).1 k;
+            };
           };
         });
         walk = p.walk;

@@ -56,8 +56,8 @@ module _ (m : Machine) (starts : List ℕ) where
         started = λ x i. grows_keeps set targets new x g (r.started x i);
         closed = λ k x t there lt l.
             let old : slice_get set k ≡ Some x = longer_old set g.more k x
-                (omega (arith, lt, within)) (subst (λ (z : List ℕ). slice_get z k ≡ Some x) g.grown
-                there) in
+            (omega (arith, lt, within)) (subst (λ (z : List ℕ). slice_get z k ≡ Some x) g.grown
+            there) in
             elim (cases_lt k at) [
               | inl below ↦ grows_keeps set targets new t g (r.closed k x t old below l)
               | inr le ↦

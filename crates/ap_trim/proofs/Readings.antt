@@ -25,7 +25,7 @@ fit_snoc (l ∷ left) [] y x h f = cc
 fit_snoc (l ∷ left) (z ∷ word) y x h f =
     let both = and_parts (fits_lem false l z) (lists_fit false left word) h in
     and_from (fits_lem false l z) (lists_fit false (left ++ y ∷ []) (word ++ x ∷ [])) both.0
-        (fit_snoc left word y x both.1 f)
+    (fit_snoc left word y x both.1 f)
 
 side_cases : (o : Option Symbol) → (o ≡ None) ⊎ ((y : Symbol) × (o ≡ Some y))
 side_cases None = inl refl
@@ -43,13 +43,13 @@ module _ (m : Machine) where
   walk_on labels s t left l w =
       subst (λ (z : ℕ). Walk m.edges 0 (labels ++ l.edge.label ∷ []) z) (sym l.to_is)
       (walk_edge m.edges 0 labels l.edge l.listed (subst (λ (z : ℕ). Walk m.edges 0 labels z)
-          (sym l.from_is) w))
+      (sym l.from_is) w))
 
   word_on : (labels : List Label) (s t : ℕ) (left : Option Symbol) (l : LeavesBy m s left t) →
       left_word (labels ++ l.edge.label ∷ []) ≡ left_word labels ++ option_to_list left
   word_on labels s t left l =
       left_word_then labels (l.edge.label ∷ []) ∙ ap (λ (o : Option Symbol). left_word labels ++
-          (option_to_list o ++ [])) l.left_is
+      (option_to_list o ++ [])) l.left_is
       ∙ ap (λ (z : List Symbol). left_word labels ++ z) (append-nil (option_to_list left))
 
   reads_fit : (word : List Symbol) (x : Symbol) (s t : ℕ) → FitsFrom m x s t → Reads m word s →
@@ -79,8 +79,14 @@ module _ (m : Machine) where
 
   leaves : (s j : ℕ) (e : Edge) (left : Option Symbol) → slice_get m.edges j ≡ Some e → s ≡ e.from →
       e.label.left ≡ left → LeavesBy m s left e.to
-  leaves s j e left at from is = record { edge = e; listed = in_from_place m.edges j e at; from_is =
-      sym from; left_is = is; to_is = refl }
+  leaves s j e left at from is = record {
+    edge = e;
+    listed = in_from_place m.edges j e at;
+    from_is =
+        sym from;
+    left_is = is;
+    to_is = refl;
+  }
 
   -- what a walk without symbols reaches
   after : (set : List ℕ) (s t : ℕ) (w : List Label) → Quietly m set s → Walk m.edges s w t →
@@ -88,7 +94,7 @@ module _ (m : Machine) where
   after set s t w q (ends e) h = subst (λ (z : ℕ). Quietly m set z) e q
   after set s t w q (goes {labels = labels} j e at from whole rest) h =
       let none = quiet_first e.label.left (left_word labels)
-          (subst (λ (z : List Label). lists_fit false (left_word z) [] ≡ true) whole h) in
+      (subst (λ (z : List Label). lists_fit false (left_word z) [] ≡ true) whole h) in
       after set e.to t labels (onward s q (leaves s j e None at from none.0)) rest none.1
 
   empty_read : Reads m [] 0
@@ -115,19 +121,19 @@ module _ (m : Machine) where
     until s t w done (z ∷ rest) e r (ends q) h = cc
     until s t w done [] e r (goes {labels = labels} j d at from whole walk) h =
         let here : lists_fit false (option_to_list d.label.left ++ left_word labels) (x ∷ []) ≡
-            true = subst (λ (z : List Label). lists_fit false (left_word z) (x ∷ []) ≡ true) whole h
-            in
+        true = subst (λ (z : List Label). lists_fit false (left_word z) (x ∷ []) ≡ true) whole h
+        in
         elim (side_cases d.label.left) [
           | inl f ↦ until d.to t labels done [] e (reads_quiet done s d.to
               (leaves s j d None at from f) r) walk
               (subst (λ (o : Option Symbol). lists_fit false (option_to_list o ++ left_word labels)
-                  (x ∷ []) ≡ true) f here)
+              (x ∷ []) ≡ true) f here)
           | inr (y, f) ↦
               let both = and_parts (fits_lem false y x) (lists_fit false (left_word labels) [])
-                  (subst (λ (o : Option Symbol). lists_fit false
-                  (option_to_list o ++ left_word labels) (x ∷ []) ≡ true) f here) in
+              (subst (λ (o : Option Symbol). lists_fit false
+              (option_to_list o ++ left_word labels) (x ∷ []) ≡ true) f here) in
               let own : Reads m word s = subst (λ (z : List Symbol). Reads m z s)
-                  (sym (e ∙ append-nil done)) r in
+              (sym (e ∙ append-nil done)) r in
               after seeds d.to t labels (given ((targets d.to).1 (record {
                 state = s;
                 listed = (read s).1 own;
@@ -136,22 +142,26 @@ module _ (m : Machine) where
         ]
     until s t w done (z ∷ rest) e r (goes {labels = labels} j d at from whole walk) h =
         let here : lists_fit false (option_to_list d.label.left ++ left_word labels)
-            (z ∷ (rest ++ x ∷ [])) ≡ true =
+        (z ∷ (rest ++ x ∷ [])) ≡ true =
         subst (λ (v : List Label). lists_fit false (left_word v) (z ∷ (rest ++ x ∷ [])) ≡ true)
-            whole h in
+        whole h in
         elim (side_cases d.label.left) [
           | inl f ↦ until d.to t labels done (z ∷ rest) e
               (reads_quiet done s d.to (leaves s j d None at from f) r) walk
               (subst (λ (o : Option Symbol). lists_fit false (option_to_list o ++ left_word labels)
-                  (z ∷ (rest ++ x ∷ [])) ≡ true) f here)
+              (z ∷ (rest ++ x ∷ [])) ≡ true) f here)
           | inr (y, f) ↦
               let both = and_parts (fits_lem false y z)
-                  (lists_fit false (left_word labels) (rest ++ x ∷ []))
+              (lists_fit false (left_word labels) (rest ++ x ∷ []))
               (subst (λ (o : Option Symbol). lists_fit false (option_to_list o ++ left_word labels)
-                  (z ∷ (rest ++ x ∷ [])) ≡ true) f here) in
+              (z ∷ (rest ++ x ∷ [])) ≡ true) f here) in
               until d.to t labels (done ++ z ∷ []) rest (e ∙ sym (append_assoc done (z ∷ []) rest))
-              (reads_fit done z s d.to (record { side = y; fit = both.0; leaves =
-                  leaves s j d (Some y) at from f }) r) walk both.1
+              (reads_fit done z s d.to (record {
+                side = y;
+                fit = both.0;
+                leaves =
+                    leaves s j d (Some y) at from f;
+              }) r) walk both.1
         ]
 
     pub reads_next : (out : List ℕ) → ((s : ℕ) → IsIn s out ↔ Quietly m seeds s) →
@@ -168,9 +178,21 @@ module _ (m : Machine) where
       ReadsWhole m word
   whole_read word set read = (
     λ h. let r : Reads m word h.state = (read h.state).0 h.listed in
-        record { labels = r.labels; accepted = record { last = h.state; final = h.final; walk =
-        r.walk }; fit = r.fit },
-    λ w. record { state = w.accepted.last; listed = (read w.accepted.last).1
-        (record { labels = w.labels; walk = w.accepted.walk; fit = w.fit }); final =
-        w.accepted.final },
+        record {
+          labels = r.labels;
+          accepted = record {
+            last = h.state;
+            final = h.final;
+            walk =
+                r.walk;
+          };
+          fit = r.fit;
+        },
+    λ w. record {
+      state = w.accepted.last;
+      listed = (read w.accepted.last).1
+          (record { labels = w.labels; walk = w.accepted.walk; fit = w.fit });
+      final =
+          w.accepted.final;
+    },
   )

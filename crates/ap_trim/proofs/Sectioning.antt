@@ -46,10 +46,13 @@ module _ (section b made : Machine) (sec : IsSection section) (kept : IsKeptOf s
       let p : IsPlaced e made.edges = placed_in e made.edges listed in
       let r : IsReached made e.from = reached e.from ((canonical.sound.each e listed).from_in) in
       let step : Walk made.edges e.from (e.label ∷ back) last =
-          goes p.place e p.at refl refl walk in
-      accepted_plain (r.labels ++ e.label ∷ back) (record
-          { last = last; final = final; walk = walk_then made.edges 0 e.from last r.labels
-          (e.label ∷ back) r.walk step }) e.label
+      goes p.place e p.at refl refl walk in
+      accepted_plain (r.labels ++ e.label ∷ back) (record {
+        last = last;
+        final = final;
+        walk = walk_then made.edges 0 e.from last r.labels
+            (e.label ∷ back) r.walk step;
+      }) e.label
       (in_back e.label r.labels (e.label ∷ back) (inl refl))
 
   none_in : (e : Edge) (edges : List Edge) → edges ≡ [] → IsIn e edges → ⊥
@@ -61,7 +64,7 @@ module _ (section b made : Machine) (sec : IsSection section) (kept : IsKeptOf s
       | inl t ↦ t
       | inr f ↦ absurd (none_in e made.edges ((canonical.trimmed.nothing (λ w a.
           true≢false (sym (edge_before e w a.last listed a.final
-              (subst (λ (s : ℕ). Walk made.edges s w a.last) (sym z) a.walk)) ∙ f))).1) listed)
+          (subst (λ (s : ℕ). Walk made.edges s w a.last) (sym z) a.walk)) ∙ f))).1) listed)
     ]
     | inr d ↦ let f : IsFinishing made e.to = canonical.trimmed.finishing e.to (omega (arith, d))
         ((canonical.sound.each e listed).to_in) in edge_before e f.labels f.last listed f.final
@@ -71,22 +74,30 @@ module _ (section b made : Machine) (sec : IsSection section) (kept : IsKeptOf s
   bounded : HasBoundedRuns made
   bounded =
       let h : HasBoundedRuns section = (empty_cycle_runs section sec.sound sec.trimmed).0 sec.cycles
-          in
-      record { bound = h.bound; short = λ labels middle a r. h.short labels middle
-          ((kept labels).0 a).0 r }
+      in
+      record {
+        bound = h.bound;
+        short = λ labels middle a r. h.short labels middle
+            ((kept labels).0 a).0 r;
+      }
 
   pub section_kept : IsSection made
   section_kept = record {
     sound = canonical.sound;
     trimmed = canonical.trimmed;
     cycles = (empty_cycle_runs made canonical.sound canonical.trimmed).1 bounded;
-    sides = λ e. sec.sides (record { labels = e.labels; accepted = ((kept e.labels).0 e.accepted).0;
-        empty = e.empty });
+    sides = λ e. sec.sides (record {
+      labels = e.labels;
+      accepted = ((kept e.labels).0 e.accepted).0;
+      empty = e.empty;
+    });
     plain = plain_edge;
   }
 
 -- another transducer of the same label strings
 pub kept_by_same : (section b old new : Machine) → ((w : List Label) → AcceptsLabels new w ↔
     AcceptsLabels old w) → IsKeptOf section b old → IsKeptOf section b new
-kept_by_same section b old new same kept w = (λ a. (kept w).0 ((same w).0 a),
-    λ k. (same w).1 ((kept w).1 k))
+kept_by_same section b old new same kept w = (
+  λ a. (kept w).0 ((same w).0 a),
+  λ k. (same w).1 ((kept w).1 k),
+)

@@ -40,7 +40,7 @@ pub lemma_within_sets : (sets : List (List ℕ)) (w : Watch) (n : ℕ) → w ≡
 lemma_within_sets sets w n e h =
     let k : HasSight sets (watch.Lemma n) = subst (HasSight sets) e h in
     let p : IsMapped lemma (slice_get sets n) k.sight =
-        mapped lemma (slice_get sets n) k.sight k.at in
+    mapped lemma (slice_get sets n) k.sight k.at in
     slice_get_within sets n p.source p.source_is
 
 pub tags_within_sets : (sets : List (List ℕ)) (w : Watch) (n : ℕ) → w ≡ watch.Tags n →
@@ -48,7 +48,7 @@ pub tags_within_sets : (sets : List (List ℕ)) (w : Watch) (n : ℕ) → w ≡ 
 tags_within_sets sets w n e h =
     let k : HasSight sets (watch.Tags n) = subst (HasSight sets) e h in
     let p : IsMapped tags (slice_get sets n) k.sight = mapped tags (slice_get sets n) k.sight k.at
-        in
+    in
     slice_get_within sets n p.source p.source_is
 
 module _ (m : Machine) where
@@ -73,7 +73,7 @@ module _ (m : Machine) where
         (old targets starts out taken : List ℕ) → slice_get old_sets n ≡ Some old →
         ((t : ℕ) → IsIn t targets ↔ FitsTo m old x t) → starts ≡ targets
         → ((s : ℕ) → IsIn s out ↔ Quietly m starts s) → taken ≡ out →
-            IsNumbered old_sets sets taken next → StepsTo m x old_sets sets n next
+        IsNumbered old_sets sets taken next → StepsTo m x old_sets sets n next
     next_steps old_sets sets n next old targets starts out taken at fits same h own k = record {
       old = old;
       old_at = at;
@@ -96,8 +96,8 @@ module _ (m : Machine) where
         new_at = refl;
         sees = λ word read tag unjoined none.
             kept_whole m (word ++ x ∷ []) tag ((whole_read m (word ++ x ∷ []) st.new
-                (st.reads word read)).0 (subst (HoldsFinal m)
-                (same_Some now st.new (sym at ∙ st.new_at)) final));
+            (st.reads word read)).0 (subst (HoldsFinal m)
+            (same_Some now st.new (sym at ∙ st.new_at)) final));
       }
 
       pub behind_tags : (now : List ℕ) → slice_get sets next ≡ Some now → (HoldsFinal m now → ⊥) →
@@ -154,9 +154,9 @@ module _ (m : Machine) where
       sees = λ word h.
           let own : g.set ≡ now = same_Some g.set now (sym g.set_at ∙ keeps n now at) in
           g.sees word h.read (any_back is_tag word (x ∷ []) (any_one is_tag x true tag))
-              (any_neither is_joint word (x ∷ []) h.unjoined (any_one is_joint x false unjoined))
+          (any_neither is_joint word (x ∷ []) h.unjoined (any_one is_joint x false unjoined))
           (no_front_lemma m word x h.untagged (λ w. bare
-              (subst (HoldsFinal m) own ((whole_read m word g.set h.read).1 w))));
+          (subst (HoldsFinal m) own ((whole_read m word g.set h.read).1 w))));
     }
 
     pub tags_behind : (sets : List (List ℕ)) (n : ℕ) (next : Watch) → is_joint x ≡ false →
@@ -173,16 +173,34 @@ module _ (m : Machine) where
 
     pub joint_on : (sets : List (List ℕ)) (w : Watch) → HasSight sets w → is_joint x ≡ true →
         GoesOn m sets w watch.Kept (x ∷ [])
-    joint_on sets w s j = record { old = s.sight; old_at = s.at; new = kept; new_at = refl; sees =
-        λ word h. kept_joint m word x j }
+    joint_on sets w s j = record {
+      old = s.sight;
+      old_at = s.at;
+      new = kept;
+      new_at = refl;
+      sees =
+          λ word h. kept_joint m word x j;
+    }
 
     pub kept_goes : (sets : List (List ℕ)) → GoesOn m sets watch.Kept watch.Kept (x ∷ [])
-    kept_goes sets = record { old = kept; old_at = refl; new = kept; new_at = refl; sees =
-        λ word h. kept_on m word (x ∷ []) h }
+    kept_goes sets = record {
+      old = kept;
+      old_at = refl;
+      new = kept;
+      new_at = refl;
+      sees =
+          λ word h. kept_on m word (x ∷ []) h;
+    }
 
   pub stays_on : (sets : List (List ℕ)) (w : Watch) → HasSight sets w → GoesOn m sets w w []
-  stays_on sets w s = record { old = s.sight; old_at = s.at; new = s.sight; new_at = s.at; sees =
-      λ word h. subst (Sees m s.sight) (sym (append-nil word)) h }
+  stays_on sets w s = record {
+    old = s.sight;
+    old_at = s.at;
+    new = s.sight;
+    new_at = s.at;
+    sees =
+        λ word h. subst (Sees m s.sight) (sym (append-nil word)) h;
+  }
 
   -- ---- the end
 
@@ -196,13 +214,13 @@ module _ (m : Machine) where
     λ t. record { sight = lemma now; at = ap (option_map lemma) at; good = h.0 t },
     λ g.
         let p : IsMapped lemma (slice_get sets n) g.sight =
-            mapped lemma (slice_get sets n) g.sight g.at in
+        mapped lemma (slice_get sets n) g.sight g.at in
         h.1 (subst (HoldsFinal m) (same_Some p.source now (sym p.source_is ∙ at))
-            (subst (IsGood m) p.image g.good)),
+        (subst (IsGood m) p.image g.good)),
   )
 
   pub tags_bad : (sets : List (List ℕ)) (n : ℕ) → IsGoodSight m sets (watch.Tags n) → ⊥
   tags_bad sets n g =
       let p : IsMapped tags (slice_get sets n) g.sight =
-          mapped tags (slice_get sets n) g.sight g.at in
+      mapped tags (slice_get sets n) g.sight g.at in
       subst (IsGood m) p.image g.good

@@ -19,9 +19,9 @@ module _ (p : Parts) (a b c d ab abc all : Sketch) (m : Machine)
     (standard : IsSectionDraft p Standard a) (inconditional : IsSectionDraft p Inconditional b)
     (postblank : IsSectionDraft p Postblank c) (preblank : IsSectionDraft p Preblank d)
     (first : (labels : List Label) → Accepts ab labels ↔ IsEither a b labels)
-        (second : (labels : List Label) → Accepts abc labels ↔ IsEither ab c labels)
-        (third : (labels : List Label) → Accepts all labels ↔ IsEither abc d labels)
-        (made : (labels : List Label) → AcceptsLabels m labels ↔ Accepts all labels) where
+    (second : (labels : List Label) → Accepts abc labels ↔ IsEither ab c labels)
+    (third : (labels : List Label) → Accepts all labels ↔ IsEither abc d labels)
+    (made : (labels : List Label) → AcceptsLabels m labels ↔ Accepts all labels) where
   any_of : (labels : List Label) → AcceptsLabels m labels → AcceptsAny p labels
   any_of labels h = elim ((third labels).0 ((made labels).0 h)) [
     | inl x ↦ elim ((second labels).0 x) [

@@ -28,9 +28,12 @@ module _ (m : Machine) where
       lemma_length (word ++ more) ≤ n → ReadsWhole m (take n word) → IsKeptBy m (word ++ more)
   front_kept word more n le whole w =
       let long : length (word ++ more) ≡ length word + length more = length-append word more in
-      inr (record { count = n; within = omega (arith, le, long); front =
-          record { lemma = whole; whole = subst (ReadsWhole m) (sym (take_front n word more le)) w }
-          })
+      inr (record {
+        count = n;
+        within = omega (arith, le, long);
+        front =
+            record { lemma = whole; whole = subst (ReadsWhole m) (sym (take_front n word more le)) w };
+      })
 
   all_taken : (word : List Symbol) → take (length word) word ≡ word
   all_taken word = take_all (length word) word (omega arith)
@@ -40,11 +43,11 @@ module _ (m : Machine) where
       ReadsWhole m word → Sees m kept (word ++ x ∷ [])
   kept_at_tag word x none t w = λ more.
       let one : lemma_length (word ++ x ∷ more) ≡ length word + lemma_length (x ∷ more) =
-          lemma_untagged word (x ∷ more) none in
+      lemma_untagged word (x ∷ more) none in
       let two : lemma_length (x ∷ more) ≡ 0 = lemma_at_tag x more t in
       subst (λ (z : List Symbol). IsKeptBy m z) (sym (append_assoc word (x ∷ []) more))
       (front_kept word (x ∷ more) (length word) (omega arith) (omega (arith, one, two))
-          (subst (ReadsWhole m) (sym (all_taken word)) w))
+      (subst (ReadsWhole m) (sym (all_taken word)) w))
 
   -- a word with a tag that is read whole
   pub kept_whole : (word : List Symbol) → has_tag word ≡ true → ReadsWhole m word → Sees m kept word
@@ -52,7 +55,7 @@ module _ (m : Machine) where
       let one : lemma_length (word ++ more) ≡ lemma_length word = lemma_tagged word more t in
       let two : lemma_length word ≤ length word = lemma_within word in
       front_kept word more (length word) (omega arith) (omega (arith, one, two))
-          (subst (ReadsWhole m) (sym (all_taken word)) w)
+      (subst (ReadsWhole m) (sym (all_taken word)) w)
 
   longer : (word : List Symbol) (x : Symbol) → length (word ++ x ∷ []) ≡ length word + 1
   longer word x = length-append word (x ∷ [])
@@ -75,17 +78,23 @@ module _ (m : Machine) where
   no_front_tagged word x t bare = λ n le f.
       let one : lemma_length (word ++ x ∷ []) ≡ lemma_length word = lemma_tagged word (x ∷ []) t in
       let two : lemma_length (word ++ x ∷ []) ≤ n = f.lemma in
-      bare (record { count = n; within = le; front = record { lemma = omega (arith, one, two);
-          whole = subst (ReadsWhole m) (take_front n word (x ∷ []) le) f.whole } })
+      bare (record {
+        count = n;
+        within = le;
+        front = record {
+          lemma = omega (arith, one, two);
+          whole = subst (ReadsWhole m) (take_front n word (x ∷ []) le) f.whole;
+        };
+      })
 
   pub no_front_lemma : (word : List Symbol) (x : Symbol) → has_tag word ≡ false →
       (ReadsWhole m word → ⊥) → HasNoFront m (word ++ x ∷ []) (length word)
   no_front_lemma word x none bare = λ n le f.
       let one : lemma_length (word ++ x ∷ []) ≡ length word + lemma_length (x ∷ []) =
-          lemma_untagged word (x ∷ []) none in
+      lemma_untagged word (x ∷ []) none in
       let two : lemma_length (word ++ x ∷ []) ≤ n = f.lemma in
       bare (subst (ReadsWhole m) (take_front n word (x ∷ []) le ∙
-          take_all n word (omega (arith, one, two))) f.whole)
+      take_all n word (omega (arith, one, two))) f.whole)
 
   -- ---- at the end
 
@@ -98,9 +107,16 @@ module _ (m : Machine) where
       IsKeptBy m word
   good_lemma set word h =
       let all : lemma_length word ≡ length word = lemma_all word h.untagged in (
-        λ f. inr (record { count = length word; within = omega arith; front =
-            record { lemma = omega (arith, all); whole =
-            subst (ReadsWhole m) (sym (all_taken word)) ((whole_read m word set h.read).0 f) } }),
+        λ f. inr (record {
+          count = length word;
+          within = omega arith;
+          front =
+              record {
+                lemma = omega (arith, all);
+                whole =
+                    subst (ReadsWhole m) (sym (all_taken word)) ((whole_read m word set h.read).0 f);
+              };
+        }),
         λ k. elim k [
           | inl j ↦ absurd (true≢false (sym j ∙ h.unjoined))
           | inr t ↦ let one : lemma_length word ≤ t.count = t.front.lemma in
@@ -111,8 +127,10 @@ module _ (m : Machine) where
 
   pub good_sight : (sight : Sight) (word : List Symbol) → Sees m sight word → IsGood m sight ↔
       IsKeptBy m word
-  good_sight kept word h = (λ g. subst (λ (z : List Symbol). IsKeptBy m z) (append-nil word) (h []),
-      λ k. tt)
+  good_sight kept word h = (
+    λ g. subst (λ (z : List Symbol). IsKeptBy m z) (append-nil word) (h []),
+    λ k. tt,
+  )
   good_sight (lemma set) word h = good_lemma set word h
   good_sight (tags set) word h = (
     λ g. absurd g,

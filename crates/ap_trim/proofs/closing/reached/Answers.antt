@@ -12,11 +12,11 @@ states-init c = reaching_begun c.args.fst.now c.args.starts.now c.new-states.res
 pub states-preserved : goal.states-preserved
 states-preserved c =
     reaching_on c.args.fst.now c.args.starts.now c.states.states c.as_slice.result.now
-        c.add_states-in-Some.new.states c.states.at c.in-Some.state
-        (sym c.in-Some.is ∙ c.get.ensures.value)
+    c.add_states-in-Some.new.states c.states.at c.in-Some.state
+    (sym c.in-Some.is ∙ c.get.ensures.value)
     (subst (λ (z : List ℕ). (t : ℕ) → IsIn t z ↔ LeavesBy c.args.fst.now c.in-Some.state None t)
-        (sym c.as_slice.ensures.value) c.in_ok-targets.ensures) c.in_ok-add_states-2.ensures
-        c.states.invariant
+    (sym c.as_slice.ensures.value) c.in_ok-targets.ensures) c.in_ok-add_states-2.ensures
+    c.states.invariant
 
 pub returns : goal.returns
 returns c = reached_all c.args.fst.now c.args.starts.now c.states.states c.states.at

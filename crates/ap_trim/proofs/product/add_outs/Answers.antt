@@ -14,7 +14,7 @@ loop-exit-preserved c = outs_then c.args.bilingual.now c.args.watch c.args.from 
     c.loop-exit.sets c.add_out.new.sets c.args.pairs.now c.loop-exit.pairs c.add_out.new.pairs
     c.args.edges.now c.loop-exit.edges c.add_out.new.edges
     (take c.loop-exit.exit-index c.args.exits.now) (c.exit-item.result ∷ [])
-        (take (c.loop-exit.exit-index + 1) c.args.exits.now)
+    (take (c.loop-exit.exit-index + 1) c.args.exits.now)
     (take_more c.args.exits.now c.loop-exit.exit-index c.exit-item.result c.loop-exit-test.true ∙
-        ap (λ (e : Edge). take c.loop-exit.exit-index c.args.exits.now ++ e ∷ [])
-        (sym c.exit-item.is)) c.loop-exit.invariant c.in_ok-add_out.ensures
+    ap (λ (e : Edge). take c.loop-exit.exit-index c.args.exits.now ++ e ∷ [])
+    (sym c.exit-item.is)) c.loop-exit.invariant c.in_ok-add_out.ensures

@@ -3,8 +3,11 @@ use Rattle.ap_trim.proofs.Adding.{span_begun, span_on, span_all}
 use Rattle.ap_trim.proofs.reading.add_span.Goals as goal
 
 pub loop-place-init : goal.loop-place-init
-loop-place-init c = record { bound = omega arith; added =
-    span_begun (slice_get c.args.edges.now) c.args.low c.args.targets.now.items }
+loop-place-init c = record {
+  bound = omega arith;
+  added =
+      span_begun (slice_get c.args.edges.now) c.args.low c.args.targets.now.items;
+}
 
 pub loop-place-preserved : goal.loop-place-preserved
 loop-place-preserved c = record {
