@@ -30,29 +30,53 @@ there [] i lt = absurd (omega arith)
 there (x ∷ xs) zero lt = (x, refl)
 there (x ∷ xs) (suc i) lt = there xs i (omega arith)
 
-set_keeps : (f : List ℕ → Sight) (old new : List (List ℕ)) (n : ℕ) (s : Sight) → Keeps old new → option_map f (slice_get old n) ≡ Some s → option_map f (slice_get new n) ≡ Some s
+set_keeps : (f : List ℕ → Sight) (old new : List (List ℕ)) (n : ℕ) (s : Sight) → Keeps old new →
+    option_map f (slice_get old n) ≡ Some s → option_map f (slice_get new n) ≡ Some s
 set_keeps f old new n s k h =
     let p : IsMapped f (slice_get old n) s = mapped f (slice_get old n) s h in
     ap (option_map f) (k n p.source p.source_is) ∙ ap Some (sym p.image)
 
-pub sight_keeps : (old new : List (List ℕ)) (w : Watch) (s : Sight) → Keeps old new → sight_of old w ≡ Some s → sight_of new w ≡ Some s
+pub sight_keeps : (old new : List (List ℕ)) (w : Watch) (s : Sight) → Keeps old new →
+    sight_of old w ≡ Some s → sight_of new w ≡ Some s
 sight_keeps old new watch.Kept s k h = h
 sight_keeps old new (watch.Lemma n) s k h = set_keeps lemma old new n s k h
 sight_keeps old new (watch.Tags n) s k h = set_keeps tags old new n s k h
 
-pub has_keeps : (old new : List (List ℕ)) (w : Watch) → Keeps old new → HasSight old w → HasSight new w
+pub has_keeps : (old new : List (List ℕ)) (w : Watch) → Keeps old new → HasSight old w →
+    HasSight new w
 has_keeps old new w k h = record { sight = h.sight; at = sight_keeps old new w h.sight k h.at }
 
-pub good_keeps : (b : Machine) (old new : List (List ℕ)) (w : Watch) → Keeps old new → IsGoodSight b old w → IsGoodSight b new w
-good_keeps b old new w k h = record { sight = h.sight; at = sight_keeps old new w h.sight k h.at; good = h.good }
+pub good_keeps : (b : Machine) (old new : List (List ℕ)) (w : Watch) → Keeps old new →
+    IsGoodSight b old w → IsGoodSight b new w
+good_keeps b old new w k h = record {
+  sight = h.sight;
+  at = sight_keeps old new w h.sight k h.at;
+  good = h.good;
+}
 
-pub begins_keeps : (b : Machine) (old new : List (List ℕ)) (w : Watch) → Keeps old new → BeginsWith b old w → BeginsWith b new w
-begins_keeps b old new w k h = record { sight = h.sight; at = sight_keeps old new w h.sight k h.at; sees = h.sees }
+pub begins_keeps : (b : Machine) (old new : List (List ℕ)) (w : Watch) → Keeps old new →
+    BeginsWith b old w → BeginsWith b new w
+begins_keeps b old new w k h = record {
+  sight = h.sight;
+  at = sight_keeps old new w h.sight k h.at;
+  sees = h.sees;
+}
 
-goes_keeps : (b : Machine) (old new : List (List ℕ)) (v w : Watch) (side : List Symbol) → Keeps old new → GoesOn b old v w side → GoesOn b new v w side
-goes_keeps b old new v w side k h = record { old = h.old; old_at = sight_keeps old new v h.old k h.old_at; new = h.new; new_at = sight_keeps old new w h.new k h.new_at; sees = h.sees }
+goes_keeps : (b : Machine) (old new : List (List ℕ)) (v w : Watch) (side : List Symbol) →
+    Keeps old new → GoesOn b old v w side → GoesOn b new v w side
+goes_keeps b old new v w side k h = record {
+  old = h.old;
+  old_at =
+      sight_keeps old new v h.old k h.old_at;
+  new = h.new;
+  new_at =
+      sight_keeps old new w h.new k h.new_at;
+  sees = h.sees;
+}
 
-pub target_keeps : (b : Machine) (old_sets sets : List (List ℕ)) (old_pairs pairs : List Pair) (w : Watch) (exit e : Edge) → Keeps old_sets sets → Keeps old_pairs pairs → IsTarget b old_sets old_pairs w exit e → IsTarget b sets pairs w exit e
+pub target_keeps : (b : Machine) (old_sets sets : List (List ℕ)) (old_pairs pairs : List Pair)
+    (w : Watch) (exit e : Edge) → Keeps old_sets sets → Keeps old_pairs pairs →
+    IsTarget b old_sets old_pairs w exit e → IsTarget b sets pairs w exit e
 target_keeps b old_sets sets old_pairs pairs w exit e k j h = record {
   label_is = h.label_is;
   target = h.target;
@@ -62,18 +86,26 @@ target_keeps b old_sets sets old_pairs pairs w exit e k j h = record {
 }
 
 module _ (b : Machine) (w : Watch) (n : ℕ) where
-  follow_keeps : (old_sets sets : List (List ℕ)) (old_pairs pairs : List Pair) (exits outs : List Edge) → Keeps old_sets sets → Keeps old_pairs pairs → Follow b old_sets old_pairs w n exits outs → Follow b sets pairs w n exits outs
+  follow_keeps : (old_sets sets : List (List ℕ)) (old_pairs pairs : List Pair)
+      (exits outs : List Edge) → Keeps old_sets sets → Keeps old_pairs pairs →
+      Follow b old_sets old_pairs w n exits outs → Follow b sets pairs w n exits outs
   follow_keeps old_sets sets old_pairs pairs [] [] k j f = tt
   follow_keeps old_sets sets old_pairs pairs [] (e ∷ outs) k j f = absurd f
   follow_keeps old_sets sets old_pairs pairs (x ∷ exits) [] k j f = absurd f
-  follow_keeps old_sets sets old_pairs pairs (x ∷ exits) (e ∷ outs) k j f = ((f.0.0, target_keeps b old_sets sets old_pairs pairs w x e k j f.0.1), follow_keeps old_sets sets old_pairs pairs exits outs k j f.1)
+  follow_keeps old_sets sets old_pairs pairs (x ∷ exits) (e ∷ outs) k j f = (
+    (f.0.0, target_keeps b old_sets sets old_pairs pairs w x e k j f.0.1),
+    follow_keeps old_sets sets old_pairs pairs exits outs k j f.1,
+  )
 
   module _ (sets : List (List ℕ)) (pairs : List Pair) where
-    follow_append : (exits more outs others : List Edge) → Follow b sets pairs w n exits outs → Follow b sets pairs w n more others → Follow b sets pairs w n (exits ++ more) (outs ++ others)
+    follow_append : (exits more outs others : List Edge) → Follow b sets pairs w n exits outs →
+        Follow b sets pairs w n more others → Follow b sets pairs w n (exits ++ more)
+        (outs ++ others)
     follow_append [] more [] others f g = g
     follow_append [] more (e ∷ outs) others f g = absurd f
     follow_append (x ∷ exits) more [] others f g = absurd f
-    follow_append (x ∷ exits) more (e ∷ outs) others f g = (f.0, follow_append exits more outs others f.1 g)
+    follow_append (x ∷ exits) more (e ∷ outs) others f g =
+        (f.0, follow_append exits more outs others f.1 g)
 
     -- an edge that was added comes of one of these edges
     pub record IsFollowed (exits : List Edge) (e : Edge) : Type 0 where
@@ -82,7 +114,8 @@ module _ (b : Machine) (w : Watch) (n : ℕ) where
       pub from_is : e.from ≡ n
       pub target : IsTarget b sets pairs w exit e
 
-    pub follow_in : (exits outs : List Edge) (e : Edge) → Follow b sets pairs w n exits outs → IsIn e outs → IsFollowed exits e
+    pub follow_in : (exits outs : List Edge) (e : Edge) → Follow b sets pairs w n exits outs →
+        IsIn e outs → IsFollowed exits e
     follow_in [] [] e f i = elim i [ ]
     follow_in [] (y ∷ outs) e f i = absurd f
     follow_in (x ∷ exits) [] e f i = absurd f
@@ -92,7 +125,14 @@ module _ (b : Machine) (w : Watch) (n : ℕ) where
       from_is = ap (λ (z : Edge). z.from) q ∙ f.0.0;
       target = subst (λ (z : Edge). IsTarget b sets pairs w x z) (sym q) f.0.1;
     }
-    follow_in (x ∷ exits) (y ∷ outs) e f (inr i) = let r : IsFollowed exits e = follow_in exits outs e f.1 i in record { exit = r.exit; listed = inr r.listed; from_is = r.from_is; target = r.target }
+    follow_in (x ∷ exits) (y ∷ outs) e f (inr i) = let r : IsFollowed exits e =
+        follow_in exits outs e f.1 i in record {
+          exit = r.exit;
+          listed = inr r.listed;
+          from_is =
+              r.from_is;
+          target = r.target;
+        }
 
     -- and each of these edges has one
     pub record HasOut (outs : List Edge) (exit : Edge) : Type 0 where
@@ -101,58 +141,99 @@ module _ (b : Machine) (w : Watch) (n : ℕ) where
       pub from_is : edge.from ≡ n
       pub target : IsTarget b sets pairs w exit edge
 
-    pub follow_each : (exits outs : List Edge) (exit : Edge) → Follow b sets pairs w n exits outs → IsIn exit exits → HasOut outs exit
+    pub follow_each : (exits outs : List Edge) (exit : Edge) → Follow b sets pairs w n exits outs →
+        IsIn exit exits → HasOut outs exit
     follow_each [] [] exit f i = elim i [ ]
     follow_each [] (y ∷ outs) exit f i = elim i [ ]
     follow_each (x ∷ exits) [] exit f i = absurd f
-    follow_each (x ∷ exits) (y ∷ outs) exit f (inl q) = record { edge = y; listed = inl refl; from_is = f.0.0; target = subst (λ (z : Edge). IsTarget b sets pairs w z y) (sym q) f.0.1 }
-    follow_each (x ∷ exits) (y ∷ outs) exit f (inr i) = let r : HasOut outs exit = follow_each exits outs exit f.1 i in record { edge = r.edge; listed = inr r.listed; from_is = r.from_is; target = r.target }
+    follow_each (x ∷ exits) (y ∷ outs) exit f (inl q) =
+        record {
+          edge = y;
+          listed = inl refl;
+          from_is = f.0.0;
+          target =
+              subst (λ (z : Edge). IsTarget b sets pairs w z y) (sym q) f.0.1;
+        }
+    follow_each (x ∷ exits) (y ∷ outs) exit f (inr i) = let r : HasOut outs exit =
+        follow_each exits outs exit f.1 i in record {
+          edge = r.edge;
+          listed = inr r.listed;
+          from_is = r.from_is;
+          target = r.target;
+        }
 
   -- ---- what is added
 
-  pub outs_begun : (sets : List (List ℕ)) (pairs : List Pair) (edges : List Edge) → AddsOuts b w n [] sets sets pairs pairs edges edges
+  pub outs_begun : (sets : List (List ℕ)) (pairs : List Pair) (edges : List Edge) →
+      AddsOuts b w n [] sets sets pairs pairs edges edges
   outs_begun sets pairs edges = record {
     outs = [];
     grown = sym (append-nil edges);
     follow = tt;
     keeps_sets = keeps_same sets;
     keeps_pairs = keeps_same pairs;
-    sights = λ i pair le at. let lt : i < length pairs = slice_get_within pairs i pair at in absurd (omega (arith, le, lt));
+    sights = λ i pair le at. let lt : i < length pairs = slice_get_within pairs i pair at in
+        absurd (omega (arith, le, lt));
   }
 
-  module _ (sets_a sets_b sets_c : List (List ℕ)) (pairs_a pairs_b pairs_c : List Pair) (edges_a edges_b edges_c : List Edge) where
-    pub outs_then : (exits more both : List Edge) → both ≡ exits ++ more → AddsOuts b w n exits sets_a sets_b pairs_a pairs_b edges_a edges_b → AddsOuts b w n more sets_b sets_c pairs_b pairs_c edges_b edges_c
+  module _ (sets_a sets_b sets_c : List (List ℕ)) (pairs_a pairs_b pairs_c : List Pair)
+      (edges_a edges_b edges_c : List Edge) where
+    pub outs_then : (exits more both : List Edge) → both ≡ exits ++ more →
+        AddsOuts b w n exits sets_a sets_b pairs_a pairs_b edges_a edges_b →
+        AddsOuts b w n more sets_b sets_c pairs_b pairs_c edges_b edges_c
         → AddsOuts b w n both sets_a sets_c pairs_a pairs_c edges_a edges_c
     outs_then exits more both e f g = record {
       outs = f.outs ++ g.outs;
-      grown = g.grown ∙ ap (λ (z : List Edge). z ++ g.outs) f.grown ∙ append_assoc edges_a f.outs g.outs;
+      grown = g.grown ∙ ap (λ (z : List Edge). z ++ g.outs) f.grown ∙
+          append_assoc edges_a f.outs g.outs;
       follow = subst (λ (z : List Edge). Follow b sets_c pairs_c w n z (f.outs ++ g.outs)) (sym e)
-          (follow_append sets_c pairs_c exits more f.outs g.outs (follow_keeps sets_b sets_c pairs_b pairs_c exits f.outs g.keeps_sets g.keeps_pairs f.follow) g.follow);
+          (follow_append sets_c pairs_c exits more f.outs g.outs
+          (follow_keeps sets_b sets_c pairs_b pairs_c exits f.outs g.keeps_sets g.keeps_pairs
+          f.follow) g.follow);
       keeps_sets = keeps_then sets_a sets_b sets_c f.keeps_sets g.keeps_sets;
       keeps_pairs = keeps_then pairs_a pairs_b pairs_c f.keeps_pairs g.keeps_pairs;
       sights = λ i pair le at. elim (cases_lt i (length pairs_b)) [
         | inl lt ↦
             let (q, there_at) = there pairs_b i lt in
             let same : q ≡ pair = same_Some q pair (sym (g.keeps_pairs i q there_at) ∙ at) in
-            has_keeps sets_b sets_c pair.watch g.keeps_sets (f.sights i pair le (there_at ∙ ap Some same))
+            has_keeps sets_b sets_c pair.watch g.keeps_sets
+            (f.sights i pair le (there_at ∙ ap Some same))
         | inr ge ↦ g.sights i pair ge at
       ];
     }
 
-  pub out_added : (exit : Edge) (old_sets sets : List (List ℕ)) (old_pairs pairs : List Pair) (old new : List Edge) (next : Watch) (to : ℕ) (label : Label) → Keeps old_sets sets → GoesOn b sets w next (option_to_list exit.label.right)
-      → HasNumber old_pairs pairs (record { state = exit.to; watch = next }) to → label ≡ exit.label → new ≡ old ++ record { from = n; label = label; to = to } ∷ [] → AddsOuts b w n (exit ∷ []) old_sets sets old_pairs pairs old new
+  pub out_added : (exit : Edge) (old_sets sets : List (List ℕ)) (old_pairs pairs : List Pair)
+      (old new : List Edge) (next : Watch) (to : ℕ) (label : Label) → Keeps old_sets sets →
+      GoesOn b sets w next (option_to_list exit.label.right)
+      → HasNumber old_pairs pairs (record { state = exit.to; watch = next }) to →
+      label ≡ exit.label → new ≡ old ++ record { from = n; label = label; to = to } ∷ [] →
+      AddsOuts b w n (exit ∷ []) old_sets sets old_pairs pairs old new
   out_added exit old_sets sets old_pairs pairs old new next to label k goes h same grown =
       let pair : Pair = record { state = exit.to; watch = next } in
       let edge : Edge = record { from = n; label = label; to = to } in
       record {
         outs = edge ∷ [];
         grown = grown;
-        follow = ((refl, record { label_is = same; target = pair; target_at = h.at; state_is = refl; goes = goes }), tt);
+        follow = (
+          (
+            refl,
+            record {
+              label_is = same;
+              target = pair;
+              target_at = h.at;
+              state_is = refl;
+              goes = goes;
+            },
+          ),
+          tt,
+        );
         keeps_sets = k;
         keeps_pairs = number_keeps old_pairs pairs pair to h;
         sights = λ i other le at.
             let lt : i < length pairs = slice_get_within pairs i other at in
             let here : i ≡ to = number_fresh old_pairs pairs pair to h i other at le lt in
-            let own : pair ≡ other = same_Some pair other (sym h.at ∙ ap (slice_get pairs) (sym here) ∙ at) in
-            subst (λ (z : Pair). HasSight sets z.watch) own (record { sight = goes.new; at = goes.new_at });
+            let own : pair ≡ other = same_Some pair other
+            (sym h.at ∙ ap (slice_get pairs) (sym here) ∙ at) in
+            subst (λ (z : Pair). HasSight sets z.watch) own
+            (record { sight = goes.new; at = goes.new_at });
       }

@@ -55,15 +55,20 @@ plain_unmarked Alarm h = refl
 plain_unmarked Star h = cc
 plain_unmarked At h = cc
 
-side_unmarked : (o : Option Symbol) (word : List Symbol) → is_plain_side o ≡ true → is_marked word ≡ false → is_marked (option_to_list o ++ word) ≡ false
+side_unmarked : (o : Option Symbol) (word : List Symbol) → is_plain_side o ≡ true →
+    is_marked word ≡ false → is_marked (option_to_list o ++ word) ≡ false
 side_unmarked None word p h = h
 side_unmarked (Some x) word p h = plain_unmarked x p
 
-pub walk_unmarked : (m : Machine) → IsSection m → (s t : ℕ) (w : List Label) → Walk m.edges s w t → is_marked (right_word w) ≡ false
+pub walk_unmarked : (m : Machine) → IsSection m → (s t : ℕ) (w : List Label) → Walk m.edges s w t →
+    is_marked (right_word w) ≡ false
 walk_unmarked m sec s t w (ends e) = refl
 walk_unmarked m sec s t w (goes {labels = labels} j e at from whole rest) =
-    let plain = and_parts (is_plain_side e.label.left) (is_plain_side e.label.right) (sec.plain e (in_from_place m.edges j e at)) in
-    ap (λ (z : List Label). is_marked (right_word z)) whole ∙ side_unmarked e.label.right (right_word labels) plain.1 (walk_unmarked m sec e.to t labels rest)
+    let plain = and_parts (is_plain_side e.label.left) (is_plain_side e.label.right)
+    (sec.plain e (in_from_place m.edges j e at)) in
+    ap (λ (z : List Label). is_marked (right_word z)) whole ∙
+    side_unmarked e.label.right (right_word labels) plain.1
+    (walk_unmarked m sec e.to t labels rest)
 
 -- ---- a word that some section reads
 
@@ -72,10 +77,13 @@ pub record IsRead (lexicon : Lexicon) (word : List Symbol) : Type 0 where
   pub right : List Symbol
   pub read : IsIn right (lexicon.readings kind word)
 
-of_kind : (lexicon : Lexicon) (word : List Symbol) (kind : Kind2) → has_words (lexicon.readings kind word) ≡ true → IsRead lexicon word
-of_kind lexicon word kind h = let s = some_word (lexicon.readings kind word) h in record { kind = kind; right = s.0; read = s.1 }
+of_kind : (lexicon : Lexicon) (word : List Symbol) (kind : Kind2) →
+    has_words (lexicon.readings kind word) ≡ true → IsRead lexicon word
+of_kind lexicon word kind h = let s = some_word (lexicon.readings kind word) h in
+    record { kind = kind; right = s.0; read = s.1 }
 
-some_kind : (lexicon : Lexicon) (word : List Symbol) → has_words (any_words lexicon word) ≡ true → IsRead lexicon word
+some_kind : (lexicon : Lexicon) (word : List Symbol) → has_words (any_words lexicon word) ≡ true →
+    IsRead lexicon word
 some_kind lexicon word h = elim (some_append (lexicon.readings Standard word) _ h) [
   | inl s ↦ of_kind lexicon word Standard s
   | inr r ↦ elim (some_append (lexicon.readings Inconditional word) _ r) [
@@ -97,29 +105,56 @@ module _ (p : Parts) (u : Machine) (compiled : IsCompiled p) (union : IsUnion p 
       let a : AcceptsAny p r.labels = (union r.labels).0 r.accepted in
       let sec : IsSection (section_of p a.kind) = section_at p a.kind compiled in
       let o : IsOutput (section_of p a.kind) (inputs_of false word) (right_word r.labels) =
-      record { labels = r.labels; accepted = a.accepted; fit = fits_same false (left_word r.labels) word ∙ r.fit; is = refl } in
-      of_kind (lexicon_of p false) word a.kind ((output_there (section_of p a.kind) (inputs_of false word) sec.sound sec.cycles).1 (right_word r.labels, o))
+      record {
+        labels = r.labels;
+        accepted = a.accepted;
+        fit =
+            fits_same false (left_word r.labels) word ∙ r.fit;
+        is = refl;
+      } in
+      of_kind (lexicon_of p false) word a.kind ((output_there (section_of p a.kind)
+      (inputs_of false word) sec.sound sec.cycles).1 (right_word r.labels, o))
 
   of_read : (word : List Symbol) → IsRead (lexicon_of p false) word → ReadsWhole u word
   of_read word r =
-      let o : IsOutput (section_of p r.kind) (inputs_of false word) r.right = found_is_output (section_of p r.kind) (inputs_of false word) r.right r.read in
-      record { labels = o.labels; accepted = (union o.labels).1 (record { kind = r.kind; accepted = o.accepted }); fit = sym (fits_same false (left_word o.labels) word) ∙ o.fit }
+      let o : IsOutput (section_of p r.kind) (inputs_of false word) r.right =
+      found_is_output (section_of p r.kind) (inputs_of false word) r.right r.read in
+      record {
+        labels = o.labels;
+        accepted = (union o.labels).1
+            (record { kind = r.kind; accepted = o.accepted });
+        fit =
+            sym (fits_same false (left_word o.labels) word) ∙ o.fit;
+      }
 
   nothing_read : ReadsWhole u [] → ⊥
   nothing_read r =
       let a : AcceptsAny p r.labels = (union r.labels).0 r.accepted in
-      (section_at p a.kind compiled).sides (record { labels = r.labels; accepted = a.accepted; empty = nothing_fits (left_word r.labels) r.fit })
+      (section_at p a.kind compiled).sides (record {
+        labels = r.labels;
+        accepted = a.accepted;
+        empty = nothing_fits (left_word r.labels) r.fit;
+      })
 
   some_front : (word : List Symbol) (n : ℕ) → TakesFront u word n → 0 < n
   some_front word n f = elim (cases_lt 0 n) [
     | inl lt ↦ lt
-    | inr ge ↦ let none : n ≡ 0 = omega (arith, ge) in absurd (nothing_read (subst (λ (z : ℕ). ReadsWhole u (take z word)) none f.whole))
+    | inr ge ↦ let none : n ≡ 0 = omega (arith, ge) in absurd
+        (nothing_read (subst (λ (z : ℕ). ReadsWhole u (take z word)) none f.whole))
   ]
 
   prefix_of : (word : List Symbol) (t : IsTaken u word) → IsPrefix (lexicon_of p false) word t.count
   prefix_of word t =
-      let r : IsRead (lexicon_of p false) (take t.count word) = read_of (take t.count word) t.front.whole in
-      record { some = some_front word t.count t.front; within = t.within; whole = t.front.lemma; kind = r.kind; right = r.right; read = r.read }
+      let r : IsRead (lexicon_of p false) (take t.count word) =
+      read_of (take t.count word) t.front.whole in
+      record {
+        some = some_front word t.count t.front;
+        within = t.within;
+        whole = t.front.lemma;
+        kind = r.kind;
+        right = r.right;
+        read = r.read;
+      }
 
   module _ (word : List Symbol) (clean : is_marked word ≡ false) where
     no_none : IsTaken u word → HasNone (lexicon_of p false) word → ⊥
@@ -133,21 +168,38 @@ module _ (p : Parts) (u : Machine) (compiled : IsCompiled p) (union : IsUnion p 
     translated_of : IsTaken u word → is_translated (lexicon_of p false) word ≡ true
     translated_of t = elim (cases_Bool (is_translated (lexicon_of p false) word)) [
       | inl h ↦ h
-      | inr h ↦ absurd (no_none t ((no_head (lexicon_of p false) word false).0 (headless (translation (lexicon_of p false) false word).heads h)))
+      | inr h ↦ absurd (no_none t ((no_head (lexicon_of p false) word false).0
+          (headless (translation (lexicon_of p false) false word).heads h)))
     ]
 
-    taken_by : (n : ℕ) → prefix (lexicon_of p false) word ≡ n → is_match (lexicon_of p false) (lemma_length word) word n ≡ true → IsTaken u word
+    taken_by : (n : ℕ) → prefix (lexicon_of p false) word ≡ n →
+        is_match (lexicon_of p false) (lemma_length word) word n ≡ true → IsTaken u word
     taken_by n e h =
-        let both = and_parts (nat_le (lemma_length word) n) (has_words (any_words (lexicon_of p false) (take n word))) h in
-        let within : prefix (lexicon_of p false) word ≤ length word = greatest_within (is_match (lexicon_of p false) (lemma_length word) word) (length word) in
-        let whole : lemma_length word ≤ n = let b : nat_le (lemma_length word) n ≡ true = both.0 in grind (arith, nat_tests) in
-        record { count = n; within = omega (arith, within, e); front = record { lemma = whole; whole = of_read (take n word) (some_kind (lexicon_of p false) (take n word) both.1) } }
+        let both = and_parts (nat_le (lemma_length word) n)
+        (has_words (any_words (lexicon_of p false) (take n word))) h in
+        let within : prefix (lexicon_of p false) word ≤ length word =
+        greatest_within (is_match (lexicon_of p false) (lemma_length word) word) (length word)
+        in
+        let whole : lemma_length word ≤ n = let b : nat_le (lemma_length word) n ≡ true = both.0 in
+        grind (arith, nat_tests) in
+        record {
+          count = n;
+          within = omega (arith, within, e);
+          front =
+              record {
+                lemma = whole;
+                whole = of_read (take n word)
+                    (some_kind (lexicon_of p false) (take n word) both.1);
+              };
+        }
 
     taken_of : is_translated (lexicon_of p false) word ≡ true → IsTaken u word
-    taken_of h = elim (greatest_passes (is_match (lexicon_of p false) (lemma_length word) word) (length word)) [
-      | inl none ↦ absurd (true≢false (sym h ∙ ap (λ t. has_words t.heads) (sym (translation_none (lexicon_of p false) false word clean none))))
-      | inr passes ↦ taken_by (prefix (lexicon_of p false) word) refl passes
-    ]
+    taken_of h = elim (greatest_passes (is_match (lexicon_of p false) (lemma_length word) word)
+        (length word)) [
+          | inl none ↦ absurd (true≢false (sym h ∙ ap (λ t. has_words t.heads)
+              (sym (translation_none (lexicon_of p false) false word clean none))))
+          | inr passes ↦ taken_by (prefix (lexicon_of p false) word) refl passes
+        ]
 
     or_left : (a b : Bool) → a ≡ true → (a || b) ≡ true
     or_left true b h = refl
@@ -165,7 +217,8 @@ module _ (p : Parts) (u : Machine) (compiled : IsCompiled p) (union : IsUnion p 
     kept_same = (
       λ k. elim k [
         | inl j ↦ or_left (holds_joint word) (is_translated (lexicon_of p false) word) j
-        | inr t ↦ or_right (holds_joint word) (is_translated (lexicon_of p false) word) (translated_of t)
+        | inr t ↦ or_right (holds_joint word) (is_translated (lexicon_of p false) word)
+            (translated_of t)
       ],
       λ k. elim (or_either (holds_joint word) (is_translated (lexicon_of p false) word) k) [
         | inl j ↦ inl j
@@ -174,20 +227,27 @@ module _ (p : Parts) (u : Machine) (compiled : IsCompiled p) (union : IsUnion p 
     )
 
 -- what is kept of a section is what is trimmed
-pub trimmed_as : (mono bilingual : Parts) (u section made : Machine) (kind : Kind2) → IsCompiled mono → IsCompiled bilingual → IsUnion bilingual u → section ≡ section_of mono kind → IsKeptOf section u made → (labels : List Label) → AcceptsLabels made labels ↔ Trimmed mono bilingual kind labels
+pub trimmed_as : (mono bilingual : Parts) (u section made : Machine) (kind : Kind2) →
+    IsCompiled mono → IsCompiled bilingual → IsUnion bilingual u → section ≡ section_of mono kind →
+    IsKeptOf section u made → (labels : List Label) → AcceptsLabels made labels ↔
+    Trimmed mono bilingual kind labels
 trimmed_as mono bilingual u section made kind cm cb union e kept labels =
-    let own : IsKeptOf (section_of mono kind) u made = subst (λ (z : Machine). IsKeptOf z u made) e kept in
+    let own : IsKeptOf (section_of mono kind) u made = subst (λ (z : Machine). IsKeptOf z u made) e
+    kept in
     let sec : IsSection (section_of mono kind) = section_at mono kind cm in (
       λ a.
           let k = (own labels).0 a in
-          let clean : is_marked (right_word labels) ≡ false = walk_unmarked (section_of mono kind) sec 0 k.0.last labels k.0.walk in
+          let clean : is_marked (right_word labels) ≡ false =
+          walk_unmarked (section_of mono kind) sec 0 k.0.last labels k.0.walk in
           (k.0, (kept_same bilingual u cb union (right_word labels) clean).0 k.1),
       λ t.
-          let clean : is_marked (right_word labels) ≡ false = walk_unmarked (section_of mono kind) sec 0 t.0.last labels t.0.walk in
+          let clean : is_marked (right_word labels) ≡ false =
+          walk_unmarked (section_of mono kind) sec 0 t.0.last labels t.0.walk in
           (own labels).1 (t.0, (kept_same bilingual u cb union (right_word labels) clean).1 t.1),
     )
 
-pub all_kinds : (P : Kind2 → Type 0) → P Standard → P Inconditional → P Postblank → P Preblank → (kind : Kind2) → P kind
+pub all_kinds : (P : Kind2 → Type 0) → P Standard → P Inconditional → P Postblank → P Preblank →
+    (kind : Kind2) → P kind
 all_kinds P a b c d Standard = a
 all_kinds P a b c d Inconditional = b
 all_kinds P a b c d Postblank = c

@@ -10,7 +10,8 @@ use Rattle.ap_fst.proofs.Listing.{place_front}
 use Rattle.ap_det.specs.Numbered.{IsNumbered}
 use Rattle.ap_trim.specs.Numbers.{HasNumber, Keeps}
 
-last_place : {X : Type 0} (p : X → Bool) (xs : List X) → list_any p xs ≡ false → position_or_len p xs ≡ length xs
+last_place : {X : Type 0} (p : X → Bool) (xs : List X) → list_any p xs ≡ false →
+    position_or_len p xs ≡ length xs
 last_place p [] h = refl
 last_place p (x ∷ xs) h =
     let q = or_parts (p x) (list_any p xs) h in
@@ -19,7 +20,9 @@ last_place p (x ∷ xs) h =
     cond-true (not (p x)) (1 + position_or_len p xs) 0 (not_from_false (p x) q.0) ∙ e
 
 -- a key that is put in stands there, at the end if it is new
-pub key_numbered : {X : Type 0} (same : X → X → Bool) (old new : List X) (x : X) (i : ℕ) → ((a b : X) → same a b ≡ true → a ≡ b) → new ≡ insert_key same old x → i ≡ position_or_len (same x) old
+pub key_numbered : {X : Type 0} (same : X → X → Bool) (old new : List X) (x : X) (i : ℕ) →
+    ((a b : X) → same a b ≡ true → a ≡ b) → new ≡ insert_key same old x →
+    i ≡ position_or_len (same x) old
     → (k : X) → slice_get new i ≡ Some k → same x k ≡ true → HasNumber old new x i
 key_numbered same old new x i is made index k at equal = record {
   at = at ∙ ap Some (sym (is x k equal));
@@ -29,19 +32,25 @@ key_numbered same old new x i is made index k at equal = record {
   ];
 }
 
-pub number_keeps : {X : Type 0} (old new : List X) (x : X) (number : ℕ) → HasNumber old new x number → Keeps old new
+pub number_keeps : {X : Type 0} (old new : List X) (x : X) (number : ℕ) →
+    HasNumber old new x number → Keeps old new
 number_keeps {X} old new x number n i y h = elim n.grew [
   | inl e ↦ subst (λ (z : List X). slice_get z i ≡ Some y) (sym e) h
-  | inr e ↦ subst (λ (z : List X). slice_get z i ≡ Some y) (sym e.1) (place_front old (x ∷ []) i y h)
+  | inr e ↦ subst (λ (z : List X). slice_get z i ≡ Some y) (sym e.1)
+      (place_front old (x ∷ []) i y h)
 ]
 
 -- no other number is new
-pub number_fresh : {X : Type 0} (old new : List X) (x : X) (number : ℕ) → HasNumber old new x number → (i : ℕ) (y : X) → slice_get new i ≡ Some y → length old ≤ i → i < length new → i ≡ number
+pub number_fresh : {X : Type 0} (old new : List X) (x : X) (number : ℕ) →
+    HasNumber old new x number → (i : ℕ) (y : X) → slice_get new i ≡ Some y → length old ≤ i →
+    i < length new → i ≡ number
 number_fresh old new x number n i y at from below = elim n.grew [
   | inl e ↦ let l : length new ≡ length old = ap length e in absurd (omega (arith, l, from, below))
-  | inr e ↦ let l : length new ≡ length old + 1 = ap length e.1 ∙ length_push old x in let k : number ≡ length old = e.0 in omega (arith, l, from, below, k)
+  | inr e ↦ let l : length new ≡ length old + 1 = ap length e.1 ∙ length_push old x in
+      let k : number ≡ length old = e.0 in omega (arith, l, from, below, k)
 ]
 
 -- sets are numbered so too
-pub set_number : (old new : List (List ℕ)) (set : List ℕ) (number : ℕ) → IsNumbered old new set number → HasNumber old new set number
+pub set_number : (old new : List (List ℕ)) (set : List ℕ) (number : ℕ) →
+    IsNumbered old new set number → HasNumber old new set number
 set_number old new set number n = record { at = n.at; grew = n.grew }

@@ -30,60 +30,78 @@ pub record IsMapped {X Y : Type 0} (f : X → Y) (o : Option X) (y : Y) : Type 0
   pub source_is : o ≡ Some source
   pub image : y ≡ f source
 
-pub mapped : {X Y : Type 0} (f : X → Y) (o : Option X) (y : Y) → option_map f o ≡ Some y → IsMapped f o y
+pub mapped : {X Y : Type 0} (f : X → Y) (o : Option X) (y : Y) → option_map f o ≡ Some y →
+    IsMapped f o y
 mapped f None y h = absurd (none-some y h)
 mapped f (Some x) y h = record { source = x; source_is = refl; image = sym (same_Some (f x) y h) }
 
-pub lemma_within_sets : (sets : List (List ℕ)) (w : Watch) (n : ℕ) → w ≡ watch.Lemma n → HasSight sets w → n < length sets
+pub lemma_within_sets : (sets : List (List ℕ)) (w : Watch) (n : ℕ) → w ≡ watch.Lemma n →
+    HasSight sets w → n < length sets
 lemma_within_sets sets w n e h =
     let k : HasSight sets (watch.Lemma n) = subst (HasSight sets) e h in
-    let p : IsMapped lemma (slice_get sets n) k.sight = mapped lemma (slice_get sets n) k.sight k.at in
+    let p : IsMapped lemma (slice_get sets n) k.sight =
+    mapped lemma (slice_get sets n) k.sight k.at in
     slice_get_within sets n p.source p.source_is
 
-pub tags_within_sets : (sets : List (List ℕ)) (w : Watch) (n : ℕ) → w ≡ watch.Tags n → HasSight sets w → n < length sets
+pub tags_within_sets : (sets : List (List ℕ)) (w : Watch) (n : ℕ) → w ≡ watch.Tags n →
+    HasSight sets w → n < length sets
 tags_within_sets sets w n e h =
     let k : HasSight sets (watch.Tags n) = subst (HasSight sets) e h in
-    let p : IsMapped tags (slice_get sets n) k.sight = mapped tags (slice_get sets n) k.sight k.at in
+    let p : IsMapped tags (slice_get sets n) k.sight = mapped tags (slice_get sets n) k.sight k.at
+    in
     slice_get_within sets n p.source p.source_is
 
 module _ (m : Machine) where
   -- ---- the beginning
 
-  pub begins : (old_sets sets : List (List ℕ)) (n : ℕ) (starts out taken : List ℕ) → starts ≡ 0 ∷ [] → ((s : ℕ) → IsIn s out ↔ Quietly m starts s) → taken ≡ out → IsNumbered old_sets sets taken n → BeginsWith m sets (watch.Lemma n)
+  pub begins : (old_sets sets : List (List ℕ)) (n : ℕ) (starts out taken : List ℕ) →
+      starts ≡ 0 ∷ [] → ((s : ℕ) → IsIn s out ↔ Quietly m starts s) → taken ≡ out →
+      IsNumbered old_sets sets taken n → BeginsWith m sets (watch.Lemma n)
   begins old_sets sets n starts out taken one h same k = record {
     sight = lemma taken;
     at = ap (option_map lemma) k.at;
     sees = record {
       untagged = refl;
       unjoined = refl;
-      read = subst (AreRead m []) (sym same) (reads_start m out (subst (λ (z : List ℕ). (s : ℕ) → IsIn s out ↔ Quietly m z s) one h));
+      read = subst (AreRead m []) (sym same) (reads_start m out
+          (subst (λ (z : List ℕ). (s : ℕ) → IsIn s out ↔ Quietly m z s) one h));
     };
   }
 
   module _ (x : Symbol) where
-    pub next_steps : (old_sets sets : List (List ℕ)) (n next : ℕ) (old targets starts out taken : List ℕ) → slice_get old_sets n ≡ Some old → ((t : ℕ) → IsIn t targets ↔ FitsTo m old x t) → starts ≡ targets
-        → ((s : ℕ) → IsIn s out ↔ Quietly m starts s) → taken ≡ out → IsNumbered old_sets sets taken next → StepsTo m x old_sets sets n next
+    pub next_steps : (old_sets sets : List (List ℕ)) (n next : ℕ)
+        (old targets starts out taken : List ℕ) → slice_get old_sets n ≡ Some old →
+        ((t : ℕ) → IsIn t targets ↔ FitsTo m old x t) → starts ≡ targets
+        → ((s : ℕ) → IsIn s out ↔ Quietly m starts s) → taken ≡ out →
+        IsNumbered old_sets sets taken next → StepsTo m x old_sets sets n next
     next_steps old_sets sets n next old targets starts out taken at fits same h own k = record {
       old = old;
       old_at = at;
       new = taken;
       new_at = k.at;
-      reads = λ word read. subst (AreRead m (word ++ x ∷ [])) (sym own) (reads_next m word x old targets read fits out (subst (λ (z : List ℕ). (s : ℕ) → IsIn s out ↔ Quietly m z s) same h));
+      reads = λ word read. subst (AreRead m (word ++ x ∷ [])) (sym own)
+          (reads_next m word x old targets read fits out
+          (subst (λ (z : List ℕ). (s : ℕ) → IsIn s out ↔ Quietly m z s) same h));
       keeps = number_keeps old_sets sets taken next (set_number old_sets sets taken next k);
     }
 
-    module _ (old_sets sets : List (List ℕ)) (n next : ℕ) (st : StepsTo m x old_sets sets n next) where
-      pub behind_kept : (now : List ℕ) → slice_get sets next ≡ Some now → HoldsFinal m now → GoesBehind m x sets n watch.Kept
+    module _ (old_sets sets : List (List ℕ)) (n next : ℕ)
+        (st : StepsTo m x old_sets sets n next) where
+      pub behind_kept : (now : List ℕ) → slice_get sets next ≡ Some now → HoldsFinal m now →
+          GoesBehind m x sets n watch.Kept
       behind_kept now at final = record {
         set = st.old;
         set_at = st.keeps n st.old st.old_at;
         new = kept;
         new_at = refl;
         sees = λ word read tag unjoined none.
-            kept_whole m (word ++ x ∷ []) tag ((whole_read m (word ++ x ∷ []) st.new (st.reads word read)).0 (subst (HoldsFinal m) (same_Some now st.new (sym at ∙ st.new_at)) final));
+            kept_whole m (word ++ x ∷ []) tag ((whole_read m (word ++ x ∷ []) st.new
+            (st.reads word read)).0 (subst (HoldsFinal m)
+            (same_Some now st.new (sym at ∙ st.new_at)) final));
       }
 
-      pub behind_tags : (now : List ℕ) → slice_get sets next ≡ Some now → (HoldsFinal m now → ⊥) → GoesBehind m x sets n (watch.Tags next)
+      pub behind_tags : (now : List ℕ) → slice_get sets next ≡ Some now → (HoldsFinal m now → ⊥) →
+          GoesBehind m x sets n (watch.Tags next)
       behind_tags now at bare = record {
         set = st.old;
         set_at = st.keeps n st.old st.old_at;
@@ -93,11 +111,14 @@ module _ (m : Machine) where
           tagged = tag;
           unjoined = unjoined;
           read = st.reads word read;
-          untaken = untaken_next m word x none (λ w. bare (subst (HoldsFinal m) (same_Some st.new now (sym st.new_at ∙ at)) ((whole_read m (word ++ x ∷ []) st.new (st.reads word read)).1 w)));
+          untaken = untaken_next m word x none (λ w. bare
+              (subst (HoldsFinal m) (same_Some st.new now (sym st.new_at ∙ at))
+              ((whole_read m (word ++ x ∷ []) st.new (st.reads word read)).1 w)));
         };
       }
 
-      pub lemma_on : is_tag x ≡ false → is_joint x ≡ false → GoesOn m sets (watch.Lemma n) (watch.Lemma next) (x ∷ [])
+      pub lemma_on : is_tag x ≡ false → is_joint x ≡ false →
+          GoesOn m sets (watch.Lemma n) (watch.Lemma next) (x ∷ [])
       lemma_on untagged unjoined = record {
         old = lemma st.old;
         old_at = ap (option_map lemma) (st.keeps n st.old st.old_at);
@@ -105,12 +126,14 @@ module _ (m : Machine) where
         new_at = ap (option_map lemma) st.new_at;
         sees = λ word h. record {
           untagged = any_neither is_tag word (x ∷ []) h.untagged (any_one is_tag x false untagged);
-          unjoined = any_neither is_joint word (x ∷ []) h.unjoined (any_one is_joint x false unjoined);
+          unjoined = any_neither is_joint word (x ∷ []) h.unjoined
+              (any_one is_joint x false unjoined);
           read = st.reads word h.read;
         };
       }
 
-    pub lemma_kept : (sets : List (List ℕ)) (n : ℕ) (now : List ℕ) → slice_get sets n ≡ Some now → HoldsFinal m now → is_tag x ≡ true → GoesOn m sets (watch.Lemma n) watch.Kept (x ∷ [])
+    pub lemma_kept : (sets : List (List ℕ)) (n : ℕ) (now : List ℕ) → slice_get sets n ≡ Some now →
+        HoldsFinal m now → is_tag x ≡ true → GoesOn m sets (watch.Lemma n) watch.Kept (x ∷ [])
     lemma_kept sets n now at final tag = record {
       old = lemma now;
       old_at = ap (option_map lemma) at;
@@ -119,7 +142,10 @@ module _ (m : Machine) where
       sees = λ word h. kept_at_tag m word x h.untagged tag ((whole_read m word now h.read).0 final);
     }
 
-    pub lemma_behind : (old_sets sets : List (List ℕ)) (n : ℕ) (next : Watch) (now : List ℕ) → slice_get old_sets n ≡ Some now → Keeps old_sets sets → (HoldsFinal m now → ⊥) → is_tag x ≡ true → is_joint x ≡ false → GoesBehind m x sets n next → GoesOn m sets (watch.Lemma n) next (x ∷ [])
+    pub lemma_behind : (old_sets sets : List (List ℕ)) (n : ℕ) (next : Watch) (now : List ℕ) →
+        slice_get old_sets n ≡ Some now → Keeps old_sets sets → (HoldsFinal m now → ⊥) →
+        is_tag x ≡ true → is_joint x ≡ false → GoesBehind m x sets n next →
+        GoesOn m sets (watch.Lemma n) next (x ∷ [])
     lemma_behind old_sets sets n next now at keeps bare tag unjoined g = record {
       old = lemma g.set;
       old_at = ap (option_map lemma) g.set_at;
@@ -127,42 +153,74 @@ module _ (m : Machine) where
       new_at = g.new_at;
       sees = λ word h.
           let own : g.set ≡ now = same_Some g.set now (sym g.set_at ∙ keeps n now at) in
-          g.sees word h.read (any_back is_tag word (x ∷ []) (any_one is_tag x true tag)) (any_neither is_joint word (x ∷ []) h.unjoined (any_one is_joint x false unjoined))
-          (no_front_lemma m word x h.untagged (λ w. bare (subst (HoldsFinal m) own ((whole_read m word g.set h.read).1 w))));
+          g.sees word h.read (any_back is_tag word (x ∷ []) (any_one is_tag x true tag))
+          (any_neither is_joint word (x ∷ []) h.unjoined (any_one is_joint x false unjoined))
+          (no_front_lemma m word x h.untagged (λ w. bare
+          (subst (HoldsFinal m) own ((whole_read m word g.set h.read).1 w))));
     }
 
-    pub tags_behind : (sets : List (List ℕ)) (n : ℕ) (next : Watch) → is_joint x ≡ false → GoesBehind m x sets n next → GoesOn m sets (watch.Tags n) next (x ∷ [])
+    pub tags_behind : (sets : List (List ℕ)) (n : ℕ) (next : Watch) → is_joint x ≡ false →
+        GoesBehind m x sets n next → GoesOn m sets (watch.Tags n) next (x ∷ [])
     tags_behind sets n next unjoined g = record {
       old = tags g.set;
       old_at = ap (option_map tags) g.set_at;
       new = g.new;
       new_at = g.new_at;
-      sees = λ word h. g.sees word h.read (any_front is_tag word (x ∷ []) h.tagged) (any_neither is_joint word (x ∷ []) h.unjoined (any_one is_joint x false unjoined)) (no_front_tagged m word x h.tagged h.untaken);
+      sees = λ word h. g.sees word h.read (any_front is_tag word (x ∷ []) h.tagged)
+          (any_neither is_joint word (x ∷ []) h.unjoined (any_one is_joint x false unjoined))
+          (no_front_tagged m word x h.tagged h.untaken);
     }
 
-    pub joint_on : (sets : List (List ℕ)) (w : Watch) → HasSight sets w → is_joint x ≡ true → GoesOn m sets w watch.Kept (x ∷ [])
-    joint_on sets w s j = record { old = s.sight; old_at = s.at; new = kept; new_at = refl; sees = λ word h. kept_joint m word x j }
+    pub joint_on : (sets : List (List ℕ)) (w : Watch) → HasSight sets w → is_joint x ≡ true →
+        GoesOn m sets w watch.Kept (x ∷ [])
+    joint_on sets w s j = record {
+      old = s.sight;
+      old_at = s.at;
+      new = kept;
+      new_at = refl;
+      sees =
+          λ word h. kept_joint m word x j;
+    }
 
     pub kept_goes : (sets : List (List ℕ)) → GoesOn m sets watch.Kept watch.Kept (x ∷ [])
-    kept_goes sets = record { old = kept; old_at = refl; new = kept; new_at = refl; sees = λ word h. kept_on m word (x ∷ []) h }
+    kept_goes sets = record {
+      old = kept;
+      old_at = refl;
+      new = kept;
+      new_at = refl;
+      sees =
+          λ word h. kept_on m word (x ∷ []) h;
+    }
 
   pub stays_on : (sets : List (List ℕ)) (w : Watch) → HasSight sets w → GoesOn m sets w w []
-  stays_on sets w s = record { old = s.sight; old_at = s.at; new = s.sight; new_at = s.at; sees = λ word h. subst (Sees m s.sight) (sym (append-nil word)) h }
+  stays_on sets w s = record {
+    old = s.sight;
+    old_at = s.at;
+    new = s.sight;
+    new_at = s.at;
+    sees =
+        λ word h. subst (Sees m s.sight) (sym (append-nil word)) h;
+  }
 
   -- ---- the end
 
   pub kept_good : (sets : List (List ℕ)) → IsGoodSight m sets watch.Kept
   kept_good sets = record { sight = kept; at = refl; good = tt }
 
-  pub lemma_good : (sets : List (List ℕ)) (n : ℕ) (now : List ℕ) (b : Bool) → slice_get sets n ≡ Some now → (IsTrue b ↔ HoldsFinal m now) → IsTrue b ↔ IsGoodSight m sets (watch.Lemma n)
+  pub lemma_good : (sets : List (List ℕ)) (n : ℕ) (now : List ℕ) (b : Bool) →
+      slice_get sets n ≡ Some now → (IsTrue b ↔ HoldsFinal m now) → IsTrue b ↔
+      IsGoodSight m sets (watch.Lemma n)
   lemma_good sets n now b at h = (
     λ t. record { sight = lemma now; at = ap (option_map lemma) at; good = h.0 t },
     λ g.
-        let p : IsMapped lemma (slice_get sets n) g.sight = mapped lemma (slice_get sets n) g.sight g.at in
-        h.1 (subst (HoldsFinal m) (same_Some p.source now (sym p.source_is ∙ at)) (subst (IsGood m) p.image g.good)),
+        let p : IsMapped lemma (slice_get sets n) g.sight =
+        mapped lemma (slice_get sets n) g.sight g.at in
+        h.1 (subst (HoldsFinal m) (same_Some p.source now (sym p.source_is ∙ at))
+        (subst (IsGood m) p.image g.good)),
   )
 
   pub tags_bad : (sets : List (List ℕ)) (n : ℕ) → IsGoodSight m sets (watch.Tags n) → ⊥
   tags_bad sets n g =
-      let p : IsMapped tags (slice_get sets n) g.sight = mapped tags (slice_get sets n) g.sight g.at in
+      let p : IsMapped tags (slice_get sets n) g.sight =
+      mapped tags (slice_get sets n) g.sight g.at in
       subst (IsGood m) p.image g.good

@@ -51,7 +51,8 @@ pub record FitsTo (m : Machine) (set : List ℕ) (symbol : Symbol) (target : ℕ
 -- reached from these states over edges with an empty left side
 pub data Quietly (m : Machine) (set : List ℕ) : ℕ → Type 0 where
   given : {state : ℕ} → IsIn state set → Quietly m set state
-  onward : {state : ℕ} (before : ℕ) → Quietly m set before → LeavesBy m before None state → Quietly m set state
+  onward : {state : ℕ} (before : ℕ) → Quietly m set before → LeavesBy m before None state →
+      Quietly m set state
 
 -- the transducer accepts what the sections of a compiled dictionary accept, of whatever kind
 pub record AcceptsAny (p : Parts) (labels : List Label) : Type 0 where

@@ -8,4 +8,5 @@ use Rattle.ap_trim.specs.Watching.{IsKeptBy}
 
 -- it accepts exactly the labels of the section whose right word is kept
 abbrev pub IsKeptOf : Machine → Machine → Machine → Type 0
-IsKeptOf section bilingual made = (labels : List Label) → AcceptsLabels made labels ↔ AcceptsLabels section labels × IsKeptBy bilingual (right_word labels)
+IsKeptOf section bilingual made = (labels : List Label) → AcceptsLabels made labels ↔
+    AcceptsLabels section labels × IsKeptBy bilingual (right_word labels)

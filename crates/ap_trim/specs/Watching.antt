@@ -28,7 +28,8 @@ IsKeptBy m word = (holds_joint word ≡ true) ⊎ IsTaken m word
 abbrev pub has_tag : List Symbol → Bool
 has_tag word = list_any is_tag word
 
--- what a watch stands for: the word is kept however it goes on, or the states that read it, before or behind its first tag
+-- what a watch stands for: the word is kept however it goes on, or the states that read it, before
+-- or behind its first tag
 pub data Sight : Type 0 where
   kept : Sight
   lemma : List ℕ → Sight

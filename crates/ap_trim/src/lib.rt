@@ -15,5 +15,5 @@ mod trimming;
 mod union;
 mod watch;
 
-pub use laws::trimmed_is_one;
+pub use laws::{trimmed_is_least, trimmed_is_one};
 pub use trimming::trim_by;

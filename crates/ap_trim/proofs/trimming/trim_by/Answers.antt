@@ -29,10 +29,20 @@ returns c =
     subst (λ (z : Parts). IsTrimmedBy mono bilingual z) (sym c.new.ensures) (record {
       alphabet = c.in_ok-alphabet.ensures ∙ c.alphabet.ensures.value;
       way = c.way.ensures.value;
-      exactly = all_kinds (λ (kind : Kind2). (labels : List Label) → AcceptsLabels (section_of made kind) labels ↔ Trimmed mono bilingual kind labels)
-          (trimmed_as mono bilingual words c.section.result.now c.in_ok-standard.standard Standard one two c.in_ok-words.ensures c.section.ensures.value c.in_ok-standard.ensures.kept)
-          (trimmed_as mono bilingual words c.section-2.result.now c.in_ok-inconditional.inconditional Inconditional one two c.in_ok-words.ensures c.section-2.ensures.value c.in_ok-inconditional.ensures.kept)
-          (trimmed_as mono bilingual words c.section-3.result.now c.in_ok-postblank.postblank Postblank one two c.in_ok-words.ensures c.section-3.ensures.value c.in_ok-postblank.ensures.kept)
-          (trimmed_as mono bilingual words c.section-4.result.now c.in_ok-preblank.preblank Preblank one two c.in_ok-words.ensures c.section-4.ensures.value c.in_ok-preblank.ensures.kept);
-      canonical = all_kinds (λ (kind : Kind2). IsCanonical (section_of made kind)) c.in_ok-standard.ensures.canonical c.in_ok-inconditional.ensures.canonical c.in_ok-postblank.ensures.canonical c.in_ok-preblank.ensures.canonical;
+      exactly = all_kinds (λ (kind : Kind2). (labels : List Label) →
+          AcceptsLabels (section_of made kind) labels ↔ Trimmed mono bilingual kind labels)
+          (trimmed_as mono bilingual words c.section.result.now c.in_ok-standard.standard Standard
+          one two c.in_ok-words.ensures c.section.ensures.value c.in_ok-standard.ensures.kept)
+          (trimmed_as mono bilingual words c.section-2.result.now
+          c.in_ok-inconditional.inconditional Inconditional one two c.in_ok-words.ensures
+          c.section-2.ensures.value c.in_ok-inconditional.ensures.kept)
+          (trimmed_as mono bilingual words c.section-3.result.now c.in_ok-postblank.postblank
+          Postblank one two c.in_ok-words.ensures c.section-3.ensures.value
+          c.in_ok-postblank.ensures.kept)
+          (trimmed_as mono bilingual words c.section-4.result.now c.in_ok-preblank.preblank Preblank
+          one two c.in_ok-words.ensures c.section-4.ensures.value
+          c.in_ok-preblank.ensures.kept);
+      canonical = all_kinds (λ (kind : Kind2). IsCanonical (section_of made kind))
+          c.in_ok-standard.ensures.canonical c.in_ok-inconditional.ensures.canonical
+          c.in_ok-postblank.ensures.canonical c.in_ok-preblank.ensures.canonical;
     })
