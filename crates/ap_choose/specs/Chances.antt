@@ -1,0 +1,36 @@
+-- The readings of a unit by the numbers of their first tags: of those with one number the first alone counts.
+use Rattle.std.specs.Prelude.{◌≡◌, ℕ, Bool, true, false, eqb, List, [], ◌∷◌, ◌++◌, Option, Some, None}
+use Rattle.std.specs.List.{list_any}
+use Rattle.ap_choose.specs.declared.chance.Chance.{Chance}
+use Rattle.ap_choose.specs.Choice.{Reading}
+use Rattle.ap_choose.specs.Numbering.{Numbered, number_of, bars_numbers}
+
+abbrev pub same_number : Option ℕ → Option ℕ → Bool
+same_number None None = true
+same_number None (Some b) = false
+same_number (Some a) None = false
+same_number (Some a) (Some b) = eqb a b
+
+-- one of the chances has this number
+abbrev pub has_number : List Chance → Option ℕ → Bool
+has_number chances number = list_any (λ c. same_number c.tag number) chances
+
+abbrev pub bars_chances : Numbered → Chance → Chance → Bool
+bars_chances numbers chance next = bars_numbers numbers.pairs chance.tag next.tag
+
+-- These are the readings behind those chances, without some whose number is there already.
+pub data Thins (names : List (List ℕ)) (seen : List Chance) : List Reading → List Chance → Type 0 where
+  none : {readings : List Reading} {chances : List Chance} → readings ≡ [] → chances ≡ [] → Thins names seen readings chances
+  dropped : {readings : List Reading} {chances : List Chance} (reading : Reading) (rest : List Reading)
+      → readings ≡ reading ∷ rest → has_number seen (number_of names reading.tag) ≡ true → Thins names seen rest chances
+      → Thins names seen readings chances
+  kept : {readings : List Reading} {chances : List Chance} (reading : Reading) (rest : List Reading) (chance : Chance) (more : List Chance)
+      → readings ≡ reading ∷ rest → chances ≡ chance ∷ more → chance.place ≡ reading.place → chance.tag ≡ number_of names reading.tag
+      → Thins names (seen ++ chance ∷ []) rest more → Thins names seen readings chances
+
+-- so it is for each unit
+abbrev pub AreThin : List (List ℕ) → List (List Reading) → List (List Chance) → Type 0
+AreThin names [] [] = Unit {0}
+AreThin names [] (chances ∷ more) = ⊥
+AreThin names (readings ∷ units) [] = ⊥
+AreThin names (readings ∷ units) (chances ∷ more) = Thins names [] readings chances × AreThin names units more

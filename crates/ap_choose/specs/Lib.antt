@@ -1,0 +1,7 @@
+pub mod Pairs
+pub mod Choice
+pub mod Sentences
+pub mod Numbering
+pub mod Chances
+pub mod Works
+pub mod Laws

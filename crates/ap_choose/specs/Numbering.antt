@@ -1,0 +1,28 @@
+-- The names that occur in forbidden pairs as numbers, and the pairs of their numbers.
+use Rattle.std.specs.Prelude.{◌≡◌, ℕ, Bool, false, ◌&&◌, eqb, List, Option, Some, None}
+use Rattle.std.specs.List.{list_any, position}
+use Rattle.std.specs.Str.{bytes_eq}
+use Rattle.ap_choose.specs.declared.forbidden.Pair.{Pair}
+use Rattle.ap_choose.specs.Choice.{is_forbidden}
+
+-- the number of a name, where it has one
+abbrev pub number : List (List ℕ) → List ℕ → Option ℕ
+number names name = position (bytes_eq name) names
+
+abbrev pub number_of : List (List ℕ) → Option (List ℕ) → Option ℕ
+number_of names None = None
+number_of names (Some name) = number names name
+
+-- numbers that are a pair
+abbrev pub bars_numbers : List (ℕ × ℕ) → Option ℕ → Option ℕ → Bool
+bars_numbers pairs None second = false
+bars_numbers pairs (Some first) None = false
+bars_numbers pairs (Some first) (Some second) = list_any (λ p. eqb first p.0 && eqb second p.1) pairs
+
+pub record Numbered : Type 0 where
+  pub names : List (List ℕ)
+  pub pairs : List (ℕ × ℕ)
+
+-- names are forbidden where their numbers are a pair
+abbrev pub IsNumbering : List Pair → Numbered → Type 0
+IsNumbering pairs n = (first second : List ℕ) → bars_numbers n.pairs (number n.names first) (number n.names second) ≡ is_forbidden pairs first second
