@@ -1,5 +1,5 @@
 -- The names that occur in forbidden pairs as numbers, and the pairs of their numbers.
-use Rattle.std.specs.Prelude.{◌≡◌, ℕ, Bool, false, ◌&&◌, eqb, List, Option, Some, None}
+use Rattle.std.specs.Prelude.{◌≡◌, ◌⊎◌, ◌<◌, ℕ, Bool, false, ◌&&◌, eqb, List, [], ◌∷◌, ◌++◌, length, Option, Some, None}
 use Rattle.std.specs.List.{list_any, position}
 use Rattle.std.specs.Str.{bytes_eq}
 use Rattle.ap_choose.specs.declared.forbidden.Pair.{Pair}
@@ -26,3 +26,18 @@ pub record Numbered : Type 0 where
 -- names are forbidden where their numbers are a pair
 abbrev pub IsNumbering : List Pair → Numbered → Type 0
 IsNumbering pairs n = (first second : List ℕ) → bars_numbers n.pairs (number n.names first) (number n.names second) ≡ is_forbidden pairs first second
+
+-- each of the pairs is of numbers of names
+abbrev pub AreBelow : ℕ → List (ℕ × ℕ) → Type 0
+AreBelow count [] = Unit {0}
+AreBelow count (p ∷ pairs) = ((p.0 < count) × (p.1 < count)) × AreBelow count pairs
+
+pub record IsNumbered (pairs : List Pair) (n : Numbered) : Type 0 where
+  pub each : IsNumbering pairs n
+  pub below : AreBelow (length n.names) n.pairs
+
+-- a name got this number, which it had or which is new
+pub record IsNamed (old new : Numbered) (name : List ℕ) (got : ℕ) : Type 0 where
+  pub at : number new.names name ≡ Some got
+  pub same : new.pairs ≡ old.pairs
+  pub grew : (new.names ≡ old.names) ⊎ ((new.names ≡ old.names ++ name ∷ []) × (number old.names name ≡ None))

@@ -1,7 +1,7 @@
 -- The text of forbidden pairs of tags, in lines. An empty line and a line that begins with # say nothing; every other line
 -- is two tag names with one space between them.
-use Rattle.std.specs.Prelude.{◌≡◌, ◌⊎◌, ℕ, suc, Bool, true, false, List, [], ◌∷◌, ◌++◌, length, eqb, if◌then◌else◌}
-use Rattle.std.specs.Str.{is_utf8}
+use Rattle.std.specs.Prelude.{◌≡◌, ◌⊎◌, ℕ, suc, Bool, true, false, List, [], ◌∷◌, ◌++◌, length, eqb, IsTrue, if◌then◌else◌}
+use Rattle.std.specs.Str.{IsUtf8}
 use Rattle.ap_symbol.specs.TagNames.{is_tag_name}
 use Rattle.ap_choose.specs.declared.forbidden.Pair.{Pair}
 
@@ -23,8 +23,8 @@ is_comment (b ∷ line) = eqb b 35
 
 -- the name of a tag, in UTF-8
 pub record IsName (name : List ℕ) : Type 0 where
-  pub utf8 : is_utf8 name ≡ true
-  pub named : is_tag_name name ≡ true
+  pub utf8 : IsUtf8 name
+  pub named : IsTrue (is_tag_name name)
 
 -- two tag names with one space between them
 pub record IsPair (line : List ℕ) (pair : Pair) : Type 0 where
@@ -35,7 +35,7 @@ pub record IsPair (line : List ℕ) (pair : Pair) : Type 0 where
 
 -- a line in UTF-8 that is empty or begins with #
 pub record IsSkipped (line : List ℕ) : Type 0 where
-  pub utf8 : is_utf8 line ≡ true
+  pub utf8 : IsUtf8 line
   pub shape : (line ≡ []) ⊎ (is_comment line ≡ true)
 
 -- what a line says: no pair, or this one

@@ -50,8 +50,8 @@ pub record IsFirstPlace (items : List Read) (place : ℕ) : Type 0 where
 -- a handler that holds nothing wants an item
 pub record Wants (items : List Read) : Type 0 where
   pub short : bytes_of items ≤ span_max
-  pub open : is_over items ≡ false
+  pub going : is_over items ≡ false
 
 pub none_wants : (items : List Read) → length items ≡ 0 → Wants items
-none_wants [] e = record { short = omega arith; open = refl }
+none_wants [] e = record { short = omega arith; going = refl }
 none_wants (read ∷ items) e = absurd (omega (arith, e))

@@ -1,34 +1,42 @@
-ghost use Rattle.std.specs.Prelude.{◌≡◌, ◌≤◌, [], length, map, drop, reverse, IfOk, IfSome, Some, None, false};
-ghost use Rattle.ap_choose.specs.Choice.{allowed_choice, Reading, chosen_places};
-ghost use Rattle.ap_choose.specs.Chances.{bars_chances, AreThin};
+ghost use Rattle.std.specs.Prelude.{◌≡◌, [], List, reverse, not, IfOk, OnOk, Some, None};
+ghost use Rattle.std.specs.List.{filter};
+ghost use Rattle.std.specs.Option.{option_map};
+ghost use Rattle.ap_choose.specs.Choice.{firsts, allowed_choice};
+ghost use Rattle.ap_choose.specs.Choosing.{may_go, goes_on, viable, fitting, picked, places};
+ghost use Rattle.ap_choose.specs.Chances.{bars_chances};
+ghost use Rattle.ap_choose.specs.declared.chance.Chance.{Chance};
 
 use crate::chance::{Chance, Chances};
 use crate::numbers::Numbers;
 use ap_symbol::{Memory, Sequence};
 use std::alloc::Global;
 
-/// Whether one of the chances of the next unit may follow.
-fn goes_on(numbers: &Numbers, chance: Chance, next: &[Chance]) -> bool
+/// Whether the first may not stand before the second.
+fn bars(numbers: &Numbers, chance: &Chance, next: &Chance) -> bool
+    ensures { result ≡ bars_chances numbers.now chance.now next.now }
 {
-    for other in next {
-        if !numbers.bars(chance.tag, other.tag) {
-            return true;
-        }
-    }
-    false
+    numbers.bars(chance.tag, next.tag)
 }
 
-/// Those of a unit's chances that can go on to the end, where these can of the next unit.
+/// Whether one of the chances of the next unit may follow.
+fn may_go(numbers: &Numbers, chance: &Chance, next: &[Chance]) -> bool
+    ensures { result ≡ may_go (bars_chances numbers.now) chance.now next.now }
+{
+    next.iter().any(|other| !bars(numbers, chance, other))
+}
+
+/// Those of a unit's chances that one of the next unit may follow.
 fn going_on(
     alloc: Global,
     numbers: &Numbers,
     unit: &[Chance],
     next: &[Chance],
 ) -> Result<Chances, Memory>
+    ensures { IfOk result (λ made. made ≡ filter (λ chance. may_go (bars_chances numbers.now) chance next.now) unit.now) }
 {
     let mut kept = Chances::new(alloc);
     'chances: for chance in unit {
-        if goes_on(numbers, *chance, next) {
+        if may_go(numbers, chance, next) {
             kept.push(*chance)?;
         }
     }
@@ -39,7 +47,7 @@ fn all_of(alloc: Global, unit: &[Chance]) -> Result<Chances, Memory>
     ensures { IfOk result (λ made. made ≡ unit.now) }
 {
     let mut kept = Chances::new(alloc);
-    for chance in unit {
+    'chances: for chance in unit {
         kept.push(*chance)?;
     }
     Ok(kept)
@@ -53,6 +61,7 @@ fn viable_unit(
     unit: &[Chance],
     behind: &[Chances],
 ) -> Result<Chances, Memory>
+    ensures { (units : List (List Chance)) → behind.now ≡ reverse units → IfOk result (λ made. made ≡ filter (goes_on (bars_chances numbers.now) units) unit.now) }
 {
     match behind {
         [] => all_of(alloc, unit),
@@ -60,28 +69,27 @@ fn viable_unit(
     }
 }
 
-/// Of each unit the chances that can go on to the end, the last unit first.
-fn viable(
-    alloc: Global,
-    numbers: &Numbers,
-    units: &[Chances],
-) -> Result<Sequence<Chances>, Memory>
+/// Of each unit the chances that can go on to the end.
+fn viable(alloc: Global, numbers: &Numbers, units: &[Chances]) -> Result<Vec<Chances>, Memory>
+    ensures { IfOk result (λ made. made.items ≡ viable (bars_chances numbers.now) units.now) }
 {
-    let mut kept = Sequence::new(alloc);
+    let mut kept = Vec::new(alloc);
     let mut left = units.len();
     'units: while left > 0 {
-        left -= 1;
-        let unit = viable_unit(alloc, numbers, units[left].as_slice(), kept.as_slice())?;
+        let unit = viable_unit(alloc, numbers, units[left - 1].as_slice(), kept.as_slice())?;
         kept.push(unit)?;
+        left -= 1;
     }
+    kept.reverse();
     Ok(kept)
 }
 
-/// The first of a unit's chances that may stand behind this number.
-fn first_fit(numbers: &Numbers, before: Option<usize>, unit: &[Chance]) -> Option<Chance>
+/// The first of a unit's chances that may stand behind this one.
+fn fitting(numbers: &Numbers, before: &Chance, unit: &[Chance]) -> Option<Chance>
+    ensures { result ≡ fitting (bars_chances numbers.now) before.now unit.now }
 {
-    for chance in unit {
-        if !numbers.bars(before, chance.tag) {
+    'chances: for chance in unit {
+        if !bars(numbers, before, chance) {
             return Some(*chance);
         }
     }
@@ -92,36 +100,39 @@ fn first_fit(numbers: &Numbers, before: Option<usize>, unit: &[Chance]) -> Optio
 fn picked(
     alloc: Global,
     numbers: &Numbers,
+    start: Chance,
     kept: &[Chances],
 ) -> Result<Option<Sequence<usize>>, Memory>
+    ensures { IfOk result (λ made. made ≡ option_map places (picked (bars_chances numbers.now) start kept.now)) }
 {
-    let mut places = Sequence::new(alloc);
-    let mut before = None;
-    let mut left = kept.len();
-    'units: while left > 0 {
-        left -= 1;
-        match first_fit(numbers, before, kept[left].as_slice()) {
+    let mut found = Sequence::new(alloc);
+    let mut before = start;
+    'units: for unit in kept {
+        match fitting(numbers, &before, unit.as_slice()) {
             None => return Ok(None),
             Some(chance) => {
-                places.push(chance.place)?;
-                before = chance.tag;
+                found.push(chance.place)?;
+                before = chance;
             }
         }
     }
-    Ok(Some(places))
+    Ok(Some(found))
 }
 
-/// The first place of each of so many units.
-fn first_places(alloc: Global, count: usize) -> Result<Sequence<usize>, Memory>
+/// The place of the first chance of each unit.
+fn first_places(alloc: Global, units: &[Chances]) -> Result<Sequence<usize>, Memory>
+    ensures { IfOk result (λ made. made ≡ places (firsts units.now)) }
 {
-    let mut places = Sequence::new(alloc);
-    for _ in 0..count {
-        places.push(0)?;
+    let mut found = Sequence::new(alloc);
+    'units: for unit in units {
+        if let Some(chance) = unit.as_slice().first() {
+            found.push(chance.place)?;
+        }
     }
-    Ok(places)
+    Ok(found)
 }
 
-/// The places of the least allowed choice of one chance of each unit, or the first places where none
+/// The places of the first allowed choice of one chance of each unit, or the first places where none
 /// is allowed. It goes backwards over the units and keeps the chances that can go on, and then forwards
 /// and takes the first of those that may follow.
 pub(crate) fn choose(
@@ -129,10 +140,15 @@ pub(crate) fn choose(
     numbers: &Numbers,
     units: &[Chances],
 ) -> Result<Sequence<usize>, Memory>
+    ensures { IfOk result (λ made. made ≡ places (allowed_choice (bars_chances numbers.now) units.now)) }
 {
     let kept = viable(alloc, numbers, units)?;
-    match picked(alloc, numbers, kept.as_slice())? {
+    let start = Chance {
+        place: 0,
+        tag: None,
+    };
+    match picked(alloc, numbers, start, kept.as_slice())? {
         Some(places) => Ok(places),
-        None => first_places(alloc, units.len()),
+        None => first_places(alloc, units),
     }
 }

@@ -1,5 +1,6 @@
-ghost use Rattle.std.specs.Prelude.{◌≡◌, [], None, IfOk, OnOk};
-ghost use Rattle.ap_choose.specs.Numbering.{number, number_of, bars_numbers, IsNumbering, IsAdded, IsNumbered};
+ghost use Rattle.std.specs.Prelude.{◌≡◌, ◌++◌, ◌∷◌, [], List, IfOk, OnOk};
+ghost use Rattle.ap_choose.specs.Numbering.{number, bars_numbers, IsNumbering, IsNumbered, IsNamed};
+ghost use Rattle.ap_choose.specs.declared.forbidden.Pair.{Pair};
 
 use crate::forbidden::Pair;
 use ap_symbol::Memory;
@@ -41,6 +42,7 @@ impl Numbers {
 
     /// The number of a name, which is added unless it is there.
     fn name(&mut self, alloc: Global, name: &[u8]) -> Result<usize, Memory>
+        ensures { IfOk result (λ got. IsNamed self.old self.new name.now got) }
     {
         if let Some(number) = self.names.get_index_of(name) {
             return Ok(number);
@@ -52,6 +54,7 @@ impl Numbers {
 
     /// A further pair.
     fn add(&mut self, alloc: Global, pair: &Pair) -> Result<(), Memory>
+        ensures { (pairs : List Pair) → IsNumbered pairs self.old → OnOk result (IsNumbered (pairs ++ pair.now ∷ []) self.new) }
     {
         let first = self.name(alloc, pair.first.text().as_bytes())?;
         let second = self.name(alloc, pair.second.text().as_bytes())?;

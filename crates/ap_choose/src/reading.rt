@@ -1,9 +1,9 @@
 ghost use Rattle.std.specs.Prelude.{◌≡◌, ◌+◌, ◌<◌, ◌≤◌, ◌∷◌, ◌++◌, [], List, ℕ, Some, None, true, false, length, take, drop, not, eqb, IfOk, OnOk, IfErr, IfSome, MatchOption};
 ghost use Rattle.std.specs.List.{prefix_len};
-ghost use Rattle.std.specs.Str.{is_utf8};
+ghost use Rattle.std.specs.Str.{IsUtf8};
 ghost use Rattle.ap_choose.specs.declared.forbidden.Pair.{Pair};
 ghost use Rattle.ap_choose.specs.declared.forbidden.PairRefusal.TheVariants.{BadPair};
-ghost use Rattle.ap_choose.specs.Pairs.{is_comment, IsName, IsPair, IsSkipped, Says, IsBad, AreSaid, IsFirstBad, IsSoFar};
+ghost use Rattle.ap_choose.specs.Pairs.{is_comment, IsName, IsPair, Says, IsBad, AreSaid, IsFirstBad};
 
 use crate::forbidden::{Forbidden, Pair, PairRefusal};
 use ap_symbol::{Memory, TagName};
@@ -66,9 +66,13 @@ fn is_comment(line: &[u8]) -> bool
 }
 
 fn is_text(line: &[u8]) -> bool
-    ensures { result ≡ is_utf8 line.now }
+    ensures yes { result ≡ true → IsUtf8 line.now }
+    ensures no { result ≡ false → IsUtf8 line.now → ⊥ }
 {
-    str::from_utf8(line).is_ok()
+    match str::from_utf8(line) {
+        Ok(_) => true,
+        Err(_) => false,
+    }
 }
 
 /// Appends the pair that a line says, if it says one. Answers whether the line has a form.
