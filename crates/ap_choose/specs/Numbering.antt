@@ -1,13 +1,15 @@
 -- The names that occur in forbidden pairs as numbers, and the pairs of their numbers.
-use Rattle.std.specs.Prelude.{◌≡◌, ◌⊎◌, ◌<◌, ℕ, Bool, false, ◌&&◌, eqb, List, [], ◌∷◌, ◌++◌, length, Option, Some, None}
-use Rattle.std.specs.List.{list_any, position}
+use Rattle.std.specs.Prelude.{◌≡◌, ◌⊎◌, ◌<◌, ℕ, suc, Bool, false, ◌&&◌, eqb, List, [], ◌∷◌, ◌++◌, length, Option, Some, None, if◌then◌else◌}
+use Rattle.std.specs.List.{list_any}
+use Rattle.std.specs.Option.{option_map}
 use Rattle.std.specs.Str.{bytes_eq}
 use Rattle.ap_choose.specs.declared.forbidden.Pair.{Pair}
 use Rattle.ap_choose.specs.Choice.{is_forbidden}
 
--- the number of a name, where it has one
+-- the number of a name, counted from 0, where it is there
 abbrev pub number : List (List ℕ) → List ℕ → Option ℕ
-number names name = position (bytes_eq name) names
+number [] name = None
+number (other ∷ names) name = if bytes_eq name other then Some 0 else option_map (λ n. suc n) (number names name)
 
 abbrev pub number_of : List (List ℕ) → Option (List ℕ) → Option ℕ
 number_of names None = None
@@ -40,4 +42,4 @@ pub record IsNumbered (pairs : List Pair) (n : Numbered) : Type 0 where
 pub record IsNamed (old new : Numbered) (name : List ℕ) (got : ℕ) : Type 0 where
   pub at : number new.names name ≡ Some got
   pub same : new.pairs ≡ old.pairs
-  pub grew : (new.names ≡ old.names) ⊎ ((new.names ≡ old.names ++ name ∷ []) × (number old.names name ≡ None))
+  pub grew : (new.names ≡ old.names) ⊎ (new.names ≡ old.names ++ name ∷ [])

@@ -1,12 +1,9 @@
-use Rattle.std.proofs.Common.{rules, ◌≡◌, ◌++◌, ◌∷◌, [], List, IfOk, OnOk, ℕ, ◌+◌, ◌-◌, ◌*◌, ◌<◌, ◌≤◌, length, ◌/◌, ◌%◌, Bool, true, false, nat_eq, nat_lt, slice_index_or, slice_set, bit_and, bit_or, Fits, w8, w32, w64, Bor, MutBor}
-use Rattle.ap_choose.specs.Numbering.{number, bars_numbers, IsNumbering, IsNumbered, IsNamed}
-use Rattle.ap_choose.specs.declared.forbidden.Pair.{Pair}
+use Rattle.std.proofs.Common.{ap, sym, ◌∙◌}
+use Rattle.ap_choose.proofs.Numberings.{named_there, named_new}
 use Rattle.ap_choose.proofs.numbers.Numbers.name.Goals as goal
 
--- src/numbers.rt:48:13
 pub returns-in-Some : goal.returns-in-Some
-returns-in-Some c = ?
+returns-in-Some c = rw (← c.self.view_is) (named_there c.self.inside.names.keys c.self.inside.pairs.keys c.args.name.now c.in-Some.number c.in-Some.ensures.index)
 
--- src/numbers.rt:44:5
 pub returns : goal.returns
-returns c = ?
+returns c = rw (← c.self.view_is) (named_new c.self.inside.names.keys c.insert_full.new.self.keys c.self.inside.pairs.keys c.in_ok-owned.owned c.args.name.now c.in_ok-number.number c.in_ok-owned.ensures.items (sym c.in_default.ensures.found) c.in_ok-number.ensures.keys c.in_ok-number.ensures.index)

@@ -1,8 +1,7 @@
-use Rattle.std.proofs.Common.{rules, ◌≡◌, ◌++◌, ◌∷◌, [], List, IfOk, OnOk, ℕ, ◌+◌, ◌-◌, ◌*◌, ◌<◌, ◌≤◌, length, ◌/◌, ◌%◌, Bool, true, false, nat_eq, nat_lt, slice_index_or, slice_set, bit_and, bit_or, Fits, w8, w32, w64, Bor, MutBor}
-use Rattle.ap_choose.specs.Numbering.{number, bars_numbers, IsNumbering, IsNumbered, IsNamed}
-use Rattle.ap_choose.specs.declared.forbidden.Pair.{Pair}
+use Rattle.std.proofs.Common.{ap, sym, ◌∙◌}
+use Rattle.ap_choose.specs.Numbering.{Numbered, number}
+use Rattle.ap_choose.proofs.Numberings.{position_number}
 use Rattle.ap_choose.proofs.numbers.Numbers.number.Goals as goal
 
--- src/numbers.rt:66:5
 pub returns : goal.returns
-returns c = ?
+returns c = c.get_index_of.ensures.index ∙ position_number (λ k. k.items) c.args.name.now c.self.inside.names.keys ∙ ap (λ (n : Numbered). number n.names c.args.name.now) c.self.view_is
