@@ -1,23 +1,21 @@
-use Rattle.std.proofs.Common.{rules, ◌≡◌, ◌+◌, ◌<◌, ◌≤◌, ◌∷◌, ◌++◌, [], List, ℕ, Some, None, true, false, length, take, drop, not, eqb, IfOk, OnOk, IfErr, IfSome, MatchOption, ◌-◌, ◌*◌, ◌/◌, ◌%◌, Bool, nat_lt, slice_index_or, slice_set, bit_and, bit_or, Fits, w8, w32, w64, Bor, MutBor}
-use Rattle.std.specs.List.{prefix_len}
-use Rattle.std.specs.Str.{IsUtf8}
-use Rattle.ap_choose.specs.declared.forbidden.Pair.{Pair}
-use Rattle.ap_choose.specs.declared.forbidden.PairRefusal.TheVariants.{BadPair}
-use Rattle.ap_choose.specs.Pairs.{is_comment, IsName, IsPair, Says, IsBad, AreSaid, IsFirstBad}
+use Rattle.std.proofs.Common.{◌∙◌, ◌+◌, ap, refl, take, Ok}
+use Rattle.ap_stream.proofs.SignLaws.{slice_rest}
+use Rattle.ap_choose.proofs.PairLines.{none_long, none_first, none_second, is_pair, some_name}
 use Rattle.ap_choose.proofs.reading.pair_of.Goals as goal
 
--- src/reading.rt:48:9
 pub returns-then-len-line-clause-none : goal.returns-then-len-line-clause-none
-returns-then-len-line-clause-none c = ?
+returns-then-len-line-clause-none c = λ _ pair is. none_long c.args.line.now c.first_len-len.result c.first_len-len.ensures.value c.if-len-line.true pair is
 
--- src/reading.rt:51:9
 pub returns-in_default-clause-none : goal.returns-in_default-clause-none
-returns-in_default-clause-none c = ?
+returns-in_default-clause-none c = λ _ pair is. none_first c.args.line.now c.first_len-len.result c.first_len-len.ensures.value (c.name_of.ensures.none (c.in_ok-first.was ∙ ap Ok c.in_default.is)) pair is
 
--- src/reading.rt:54:9
 pub returns-in_default-2-clause-none : goal.returns-in_default-2-clause-none
-returns-in_default-2-clause-none c = ?
+returns-in_default-2-clause-none c = λ _ pair is.
+    none_second c.args.line.now c.first_len-len.result c.first_len-len.ensures.value _ (slice_rest c.args.line.now (c.first_len-len.result + 1)) (c.name_of-2.ensures.none (c.in_ok-second.was ∙ ap Ok c.in_default-2.is)) pair is
 
--- src/reading.rt:41:1
 pub returns-clause-some : goal.returns-clause-some
-returns-clause-some c = ?
+returns-clause-some c =
+    let first = some_name c.in_ok-first.field-0 c.in-Some.first (take c.first_len-len.result c.args.line.now) c.in-Some.is c.in_ok-first.ensures.some in
+    let second = some_name c.in_ok-second.field-0 c.in-Some-2.second _ c.in-Some-2.is c.in_ok-second.ensures.some in
+    is_pair c.args.line.now c.first_len-len.result c.first_len-len.ensures.value c.in-Some.first c.in-Some-2.second c.if-len-line.false c.first_len-len.ensures.within c.requires
+    (take c.first_len-len.result c.args.line.now) refl _ (slice_rest c.args.line.now (c.first_len-len.result + 1)) first.0 second.0 first.1 second.1
