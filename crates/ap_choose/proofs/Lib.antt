@@ -2,3 +2,4 @@ pub mod Choices
 pub mod Walks
 pub mod Numberings
 pub mod PairLines
+pub mod PairTexts

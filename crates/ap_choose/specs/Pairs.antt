@@ -63,12 +63,16 @@ abbrev pub AreFine : List (List ℕ) → Type 0
 AreFine [] = Unit {0}
 AreFine (line ∷ rest) = ((pairs : List Pair) × Says line pairs) × AreFine rest
 
--- the line of this number, counted from 1, is the first that has neither form
-pub record IsFirstBad (text : List ℕ) (number : ℕ) : Type 0 where
+-- of these lines that of this number, counted from 1, is the first that has neither form
+pub record IsFirstBadOf (rows : List (List ℕ)) (number : ℕ) : Type 0 where
   pub before : List (List ℕ)
   pub line : List ℕ
   pub after : List (List ℕ)
-  pub split : lines text ≡ before ++ line ∷ after
+  pub split : rows ≡ before ++ line ∷ after
   pub count : number ≡ suc (length before)
   pub fine : AreFine before
   pub bad : IsBad line
+
+-- so it is of the lines of a text
+abbrev pub IsFirstBad : List ℕ → ℕ → Type 0
+IsFirstBad text number = IsFirstBadOf (lines text) number
