@@ -1,4 +1,5 @@
-ghost use Rattle.std.specs.Prelude.{◌≡◌, ◌≤◌, [], IfOk, IfSome, true, length, drop};
+ghost use Rattle.std.specs.Prelude.{◌≡◌, [], IfOk, true};
+ghost use Rattle.std.specs.Option.{option_copied};
 ghost use Rattle.ap_choose.specs.Choice.{first_tag, numbered};
 ghost use Rattle.ap_choose.specs.Chances.{same_number, has_number, Thins};
 ghost use Rattle.ap_choose.specs.Numbering.{number_of};
@@ -20,8 +21,9 @@ pub(crate) type Chances = Sequence<Chance>;
 
 /// The first tag of some symbols.
 fn first_tag(symbols: &[Symbol]) -> Option<&TagName>
+    ensures { option_copied result ≡ first_tag symbols.now }
 {
-    for symbol in symbols {
+    'symbols: for symbol in symbols {
         if let Symbol::Tag(name) = symbol {
             return Some(name);
         }

@@ -1,9 +1,12 @@
-ghost use Rattle.std.specs.Prelude.{◌≡◌, ◌++◌, ◌∷◌, [], length, drop, IfOk, OnOk, List};
+ghost use Rattle.std.specs.Prelude.{◌≡◌, ◌++◌, ◌∷◌, [], drop, IfOk, OnOk, List};
+ghost use Rattle.std.specs.List.{list_any};
+ghost use Rattle.std.specs.Str.{bytes_eq};
 ghost use Rattle.ap_symbol.specs.declared.symbol.Symbol.{Symbol};
 ghost use Rattle.ap_symbol.specs.Rendering.{rendering};
 ghost use Rattle.ap_passes.specs.Passes.{filled_one};
-ghost use Rattle.ap_choose.specs.Chances.{AreThin};
-ghost use Rattle.ap_choose.specs.Sentences.{is_unit, is_last, is_sent, readings, reading_at, units, unit_part, part, left, written};
+ghost use Rattle.ap_choose.specs.Chances.{Thins, AreThin};
+ghost use Rattle.ap_choose.specs.Choice.{numbered};
+ghost use Rattle.ap_choose.specs.Sentences.{is_unit, is_last, is_sent, readings, reading_at, units, part, left, written};
 
 use crate::chance::{Chances, Hints, chances};
 use crate::numbers::Numbers;
@@ -20,7 +23,9 @@ pub(crate) fn is_unit(item: &Item) -> bool
     }
 }
 
-fn is_sent_name(name: &TagName) -> bool {
+fn is_sent_name(name: &TagName) -> bool
+    ensures { result ≡ bytes_eq name.now (115 ∷ 101 ∷ 110 ∷ 116 ∷ []) }
+{
     name.text().as_bytes() == b"sent".as_slice()
 }
 
@@ -33,6 +38,13 @@ fn is_sent(symbol: &Symbol) -> bool
     }
 }
 
+/// Whether a word holds the tag `sent`.
+fn holds_sent(word: &Word) -> bool
+    ensures { result ≡ list_any is_sent word.now }
+{
+    word.symbols().iter().any(|symbol| is_sent(symbol))
+}
+
 /// Whether the item is a unit whose first reading holds the tag `sent`.
 pub(crate) fn is_last(names: &mut Names, room: &mut Word, item: &Item) -> Result<bool, Memory>
     ensures { IfOk result (λ last. last ≡ is_last item.now) }
@@ -42,7 +54,7 @@ pub(crate) fn is_last(names: &mut Names, room: &mut Word, item: &Item) -> Result
             if !unit.word_at(names, 1, room)? {
                 return Ok(false);
             }
-            Ok(room.symbols().iter().any(|symbol| is_sent(symbol)))
+            Ok(holds_sent(room))
         }
         _ => Ok(false),
     }
@@ -56,6 +68,7 @@ fn unit_chances(
     names: &mut Names,
     unit: &Unit,
 ) -> Result<Chances, Memory>
+    ensures { IfOk result (Thins numbers.now.names [] (numbered 0 (readings unit.now))) }
 {
     let words = unit.words(names)?;
     match words.as_slice() {
@@ -105,7 +118,10 @@ fn write_reading(
 ) -> Result<(), Memory>
     ensures { OnOk result (into.new ≡ into.old ++ filled_one (reading_at unit.now place)) }
 {
-    let at = place.saturating_add(1);
+    // No list of words is so long that this overflows.
+    let Some(at) = place.checked_add(1) else {
+        return Err(Memory);
+    };
     match unit.bytes_at(at) {
         Some(bytes) => write_filled(bytes, into),
         None => {
