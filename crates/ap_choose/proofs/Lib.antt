@@ -5,3 +5,5 @@ pub mod PairLines
 pub mod PairTexts
 pub mod Thinnings
 pub mod Readings
+pub mod ChooseSteps
+pub mod Sizes

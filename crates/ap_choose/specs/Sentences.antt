@@ -99,9 +99,12 @@ sentence_text pairs items = written items (chosen_places pairs (units items))
 abbrev pub sentence_step : List Pair → List Read → ℕ → Step
 sentence_step pairs items n = if nat_lt span_max (bytes_of (take n items)) then Stops SpanTooLong else Gives n (sentence_text pairs (take n items))
 
--- one item as it is spelled
+-- the first item as it is spelled
+abbrev pub first_spelled : List Read → List ℕ
+first_spelled items = flat_map (λ read. spelled read.item) (take 1 items)
+
 abbrev pub copied : List Read → Step
-copied items = Gives 1 (flat_map (λ read. spelled read.item) (take 1 items))
+copied items = Gives 1 (first_spelled items)
 
 -- the first step: a sentence begins at a unit, and every other item before it is copied
 unfoldable pub choose_step : List Pair → List Read → Step

@@ -6,7 +6,7 @@ use Rattle.ap_stream.specs.Steps.{bytes_of}
 use Rattle.ap_stream.specs.Told.{Told}
 use Rattle.ap_stream.specs.declared.item.Read.{Read}
 use Rattle.ap_choose.specs.declared.forbidden.Pair.{Pair}
-use Rattle.ap_choose.specs.Sentences.{units, sent_place, sentence_length, begins_unit, chosen}
+use Rattle.ap_choose.specs.Sentences.{units, sent_place, sentence_length, begins_unit, sentence_text, first_spelled, chosen}
 
 -- what is seen of the work: the forbidden pairs, the items that it holds, and whether they are the last
 pub record Choosing : Type 0 where
@@ -40,6 +40,10 @@ pub record IsHeld (items : List Read) (count : ℕ) (over : Bool) : Type 0 where
   pub counted : count ≡ unit_count items
   pub over_is : over ≡ is_over items
   pub whole : length items ≤ step_length items
+
+-- what the first step gives, where it takes all items: of a sentence or of one other item
+abbrev pub given_text : List Pair → List Read → List ℕ
+given_text pairs items = if begins_unit items then sentence_text pairs items else first_spelled items
 
 -- the place of the first item
 pub record IsFirstPlace (items : List Read) (place : ℕ) : Type 0 where

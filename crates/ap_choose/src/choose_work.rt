@@ -1,8 +1,7 @@
-ghost use Rattle.std.specs.Prelude.{◌≡◌, ◌<◌, ◌≤◌, ◌++◌, [], length, false, true, None, IfOk, OnOk, OnErr};
-ghost use Rattle.ap_stream.specs.declared.TheConstants.{SPAN_MAX};
+ghost use Rattle.std.specs.Prelude.{◌≡◌, ◌<◌, ◌≤◌, ◌||◌, ◌&&◌, [], length, nat_lt, not, false, IfOk};
 ghost use Rattle.ap_stream.specs.Steps.{bytes_of};
-ghost use Rattle.ap_choose.specs.Sentences.{begins_unit, sentence_text, copied};
-ghost use Rattle.ap_choose.specs.Works.{choose_work, span, is_over, none_wants};
+ghost use Rattle.ap_choose.specs.Sentences.{begins_unit, sentence_text, first_spelled};
+ghost use Rattle.ap_choose.specs.Works.{choose_work, span, is_over as over_test, step_length, none_wants, given_text};
 
 use crate::chance::Hints;
 use crate::choosing::choose;
@@ -13,9 +12,10 @@ use ap_stream::{Handler, LimitKind, Names, Queue, Read, SPAN_MAX, StageFault, Tu
 use ap_symbol::{Bytes, Memory, Word};
 use std::alloc::Global;
 use std::marker::Model;
+use std::mem;
 
-/// The most units of a sentence.
-const UNITS_MAX: usize = 1000;
+/// The place of a sentence's last unit, counted from 0, where none before ends it.
+const LAST_UNIT: usize = 999;
 
 /// The choosing of readings: a `Handler` over the items of an analysed text. At a unit it holds the
 /// items of its sentence, and looks at each of them once while further ones come; every other item is
@@ -54,15 +54,26 @@ impl Model for ChooseWork {
     ghost invariant = { λ w. IsNumbering w.forbidden w.numbers × AllByRecursion (IsRead Analysed) w.items × IsHeld w.items w.units w.over };
 }
 
-/// Whether a sentence is over with this item: at its last unit, or where the item begins none.
-fn ends(first: bool, units: usize, unit: bool, last: bool) -> bool {
-    if first && !unit {
-        return true;
-    }
-    last || units >= UNITS_MAX
+/// Whether an item ends its sentence, or begins none: the first of the items, so many units with it.
+fn ends(first: bool, units: usize, unit: bool, last: bool) -> bool
+    ensures { result ≡ ((first && not unit) || (last || nat_lt 999 units)) }
+{
+    (first && !unit) || last || units > LAST_UNIT
+}
+
+/// No bytes, in the room of those that are kept.
+fn take_room(alloc: Global, kept: &mut Bytes) -> Bytes
+    ensures { result ≡ [] }
+{
+    let mut text = mem::replace(kept, Bytes::new(alloc));
+    text.clear();
+    text
 }
 
 impl ChooseWork {
+    ghost use Rattle.std.specs.List.{AllByRecursion};
+    ghost use Rattle.ap_stream.specs.Reading.{IsRead};
+    ghost use Rattle.ap_stream.specs.declared.dialect.Dialect.TheVariants.{Analysed};
     ghost use Rattle.ap_choose.specs.Works.{IsFirstPlace};
 
     /// The work by these pairs, which holds nothing. The error means want of memory.
@@ -88,27 +99,100 @@ impl ChooseWork {
         })
     }
 
-    /// Writes the sentence at the front into the text.
-    fn write_sentence(&mut self) -> Result<(), Memory>
+    /// The number of held items.
+    fn held_count(&self) -> usize
+        ensures { result ≡ length self.now.items }
+    {
+        self.items.len()
+    }
+
+    fn held_bytes(&self) -> u64
+        ensures { result ≡ bytes_of self.now.items }
+    {
+        self.items.bytes()
+    }
+
+    fn is_finished(&self) -> bool
+        ensures { result ≡ self.now.finished }
+    {
+        self.finished
+    }
+
+    /// Whether the sentence of the held items is over, or the first of them begins none.
+    fn is_over(&self) -> bool
+        ensures over { result ≡ over_test self.now.items }
+        ensures whole { length self.now.items ≤ step_length self.now.items }
+        ensures items { AllByRecursion (IsRead Analysed) self.now.items }
+    {
+        self.over
+    }
+
+    /// The place of the first item.
+    fn first_place(&self) -> u64
+        requires { 0 < length self.now.items }
+        ensures { IsFirstPlace self.now.items result }
+    {
+        self.items.as_slice()[0].place
+    }
+
+    /// Whether the first item is a unit.
+    fn begins(&self) -> bool
+        requires { 0 < length self.now.items }
+        ensures { result ≡ begins_unit self.now.items }
+    {
+        is_unit(&self.items.as_slice()[0].item)
+    }
+
+    /// The text of the held items, where they are a sentence.
+    fn sentence(&mut self) -> Result<Bytes, Memory>
+        ensures same { self.new ≡ self.old }
+        ensures text { IfOk result (λ text. text ≡ sentence_text self.old.pairs self.old.items) }
     {
         let reads = self.items.as_slice();
-        let units = units_of(
-            self.alloc,
-            &self.numbers,
-            &mut self.hints,
-            &mut self.names,
-            reads,
-        )?;
-        let places = choose(self.alloc, &self.numbers, units.as_slice())?;
-        self.text.clear();
-        write_items(
-            self.alloc,
-            &mut self.names,
-            &mut self.room,
-            reads,
-            places.as_slice(),
-            &mut self.text,
-        )
+        let (numbers, names) = (&self.numbers, &mut self.names);
+        let units = units_of(self.alloc, numbers, &mut self.hints, names, reads)?;
+        let places = choose(self.alloc, numbers, units.as_slice())?;
+        let mut text = take_room(self.alloc, &mut self.text);
+        let room = &mut self.room;
+        write_items(self.alloc, names, room, reads, places.as_slice(), &mut text)?;
+        Ok(text)
+    }
+
+    /// The first item as it is spelled.
+    fn copy(&mut self) -> Result<Bytes, Memory>
+        requires { 0 < length self.old.items }
+        ensures same { self.new ≡ self.old }
+        ensures text { IfOk result (λ text. text ≡ first_spelled self.old.items) }
+    {
+        let mut text = take_room(self.alloc, &mut self.text);
+        write_item(self.alloc, &self.items.as_slice()[0].item, &mut text)?;
+        Ok(text)
+    }
+
+    /// What the first step gives, where it takes all held items.
+    fn given(&mut self) -> Result<Bytes, Memory>
+        requires some { 0 < length self.old.items }
+        ensures same { self.new ≡ self.old }
+        ensures text { IfOk result (λ text. text ≡ given_text self.old.pairs self.old.items) }
+    {
+        if self.begins() {
+            self.sentence()
+        } else {
+            self.copy()
+        }
+    }
+
+    /// Lets all items go, and keeps the room of the text that was written for them.
+    fn forget(&mut self, text: Bytes)
+        ensures items { self.new.items ≡ [] }
+        ensures pairs { self.new.pairs ≡ self.old.pairs }
+        ensures finished { self.new.finished ≡ self.old.finished }
+    {
+        let count = self.items.len();
+        self.items.forget(count);
+        self.units = 0;
+        self.over = false;
+        self.text = text;
     }
 }
 
@@ -135,9 +219,7 @@ impl Handler for ChooseWork {
         let last = is_last(&mut self.names, &mut self.room, &read.item)?;
         let first = self.items.len() == 0;
         self.items.push(read)?;
-        if unit {
-            self.units += 1;
-        }
+        self.units += usize::from(unit);
         self.over = ends(first, self.units, unit, last);
         Ok(())
     }
@@ -147,40 +229,32 @@ impl Handler for ChooseWork {
     }
 
     fn turn(&mut self, into: &mut Bytes) -> Result<Turn, StageFault> {
-        if self.items.len() == 0 {
-            return Ok(if self.finished { Turn::Over } else { Turn::Wants });
+        if self.held_count() == 0 {
+            if self.is_finished() {
+                return Ok(Turn::Over);
+            }
+            return Ok(Turn::Wants);
         }
-        let place = self.items.as_slice()[0].place;
-        if !is_unit(&self.items.as_slice()[0].item) {
-            self.text.clear();
-            match write_item(self.alloc, &self.items.as_slice()[0].item, &mut self.text) {
-                Ok(()) => {}
-                Err(_) => return Err(StageFault::Memory),
-            }
-        } else {
-            if self.items.bytes() > SPAN_MAX as u64 {
-                return Err(StageFault::Limit {
-                    kind: LimitKind::SpanTooLong,
-                    place,
-                });
-            }
-            if !self.over && !self.finished {
-                return Ok(Turn::Wants);
-            }
-            match self.write_sentence() {
-                Ok(()) => {}
-                Err(_) => return Err(StageFault::Memory),
-            }
+        let place = self.first_place();
+        let over = self.is_over();
+        if self.begins() && self.held_bytes() > SPAN_MAX as u64 {
+            return Err(StageFault::Limit {
+                kind: LimitKind::SpanTooLong,
+                place,
+            });
         }
-        match into.extend(self.text.as_slice()) {
-            Ok(()) => {
-                let count = self.items.len();
-                self.items.forget(count);
-                self.units = 0;
-                self.over = false;
-                Ok(Turn::Wrote)
-            }
+        if !over && !self.is_finished() {
+            return Ok(Turn::Wants);
+        }
+        match self.given() {
             Err(_) => Err(StageFault::Memory),
+            Ok(text) => match into.extend(text.as_slice()) {
+                Ok(()) => {
+                    self.forget(text);
+                    Ok(Turn::Wrote)
+                }
+                Err(_) => Err(StageFault::Memory),
+            },
         }
     }
 
