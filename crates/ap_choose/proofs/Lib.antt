@@ -7,3 +7,5 @@ pub mod Thinnings
 pub mod Readings
 pub mod ChooseSteps
 pub mod Sizes
+pub mod Fares
+pub mod Turns

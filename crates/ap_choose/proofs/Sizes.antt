@@ -298,3 +298,13 @@ written_size (read ∷ items) places all =
     let b = written_size items (left read.item places) all.1 in
     let c = length-append (part read.item places) (written items (left read.item places)) in
     omega (arith, a, b, c)
+
+-- an item that is no unit
+pub part_size : (read : Read) → is_unit read.item ≡ false → IsRead Analysed read → length (spelled read.item) ≤ read.size
+part_size read e is = by read.item e (item_fits read [] is)
+  where
+    by : (thing : Item) → is_unit thing ≡ false → length (part thing []) ≤ read.size → length (spelled thing) ≤ read.size
+    by (item.Plain c) e h = h
+    by (item.Blank bytes) e h = h
+    by (item.Unit words) e h = absurd (cc)
+    by (item.Chunk c) e h = h
