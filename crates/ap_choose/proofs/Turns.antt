@@ -1,8 +1,9 @@
 -- A turn of choosing at work, as its state is seen.
-use Rattle.std.specs.Prelude.{◌≡◌, ◌⊎◌, ℕ, zero, suc, ◌+◌, ◌<◌, ◌≤◌, nat_lt, Bool, true, false, not, ◌&&◌, ◌||◌, cond, List, [], ◌∷◌, ◌++◌, drop, take, length, get_or, refl}
+use Rattle.std.specs.Prelude.{◌≡◌, ◌⊎◌, ℕ, zero, suc, ◌+◌, ◌<◌, ◌≤◌, nat_lt, nat_eq, Bool, true, false, not, ◌&&◌, ◌||◌, cond, List, [], ◌∷◌, ◌++◌, drop, take, length, get_or, refl}
 use Rattle.std.specs.List.{flat_map, AllByRecursion}
 use Rattle.std.proofs.Common.{arith, ap, sym, subst, ◌∙◌, inl, inr}
 use Rattle.std.proofs.lemmas.Bool.{cases_lt, cases_Bool}
+use Rattle.std.proofs.lemmas.Bool.Decides.{nat_tests}
 use Rattle.std.proofs.lemmas.List.{append-nil}
 use Rattle.ap_stream.specs.Limits.{span_max, unit_max, stage_max}
 use Rattle.ap_stream.specs.Reading.{IsRead}
@@ -15,12 +16,12 @@ use Rattle.ap_stream.specs.declared.fault.StreamFault.TheVariants.{Limit}
 use Rattle.ap_stream.specs.declared.item.Item.{Item}
 use Rattle.ap_stream.specs.declared.item.Item.TheVariants as item
 use Rattle.ap_stream.specs.declared.item.Read.{Read}
-use Rattle.ap_stream.proofs.StepLaws.{steps_none, steps_gives, steps_stops}
+use Rattle.ap_stream.proofs.StepLaws.{steps_none, steps_gives, steps_stops, bytes_append}
 use Rattle.ap_choose.specs.declared.forbidden.Pair.{Pair}
-use Rattle.ap_choose.specs.Sentences.{units, sent_place, begins_unit, sentence_length, sentence_text, first_spelled, choose_step, chosen}
+use Rattle.ap_choose.specs.Sentences.{is_unit, is_last, units, sent_place, begins_unit, sentence_length, sentence_text, first_spelled, choose_step, chosen}
 use Rattle.ap_choose.specs.Choice.{chosen_places}
-use Rattle.ap_choose.specs.Works.{Choosing, choose_work, unit_count, is_over, span, step_length, given_text, IsFirstPlace, Wants}
-use Rattle.ap_choose.proofs.ChooseSteps.{given_step, overlong_step, length_within}
+use Rattle.ap_choose.specs.Works.{Choosing, IsHeld, choose_work, unit_count, is_over, span, step_length, given_text, IsFirstPlace, Wants}
+use Rattle.ap_choose.proofs.ChooseSteps.{given_step, overlong_step, length_within, first_held, next_over, next_whole, next_count}
 use Rattle.ap_choose.proofs.Sizes.{written_size, part_size}
 
 pub over_silent : (pairs : List Pair) (items : List Read) → length items ≡ 0 → chosen pairs (items ++ []) ≡ silent
@@ -102,3 +103,39 @@ begun_open (read ∷ items) some e = by (begins_unit (read ∷ items)) refl
     by : (b : Bool) → begins_unit (read ∷ items) ≡ b → begins_unit (read ∷ items) ≡ true
     by true u = u
     by false u = absurd (let t : is_over (read ∷ items) ≡ true = ap (λ (b : Bool). cond b (nat_lt (sent_place (read ∷ items)) (length (read ∷ items)) || nat_lt 999 (unit_count (read ∷ items))) true) u in cc)
+
+-- one item more
+pub pushed : (items : List Read) (read : Read) (count size from : ℕ) (over unit last result : Bool) → IsHeld items count over → is_over items ≡ false → size ≡ length items → unit ≡ is_unit read.item → last ≡ is_last read.item
+    → from ≡ cond unit 1 0 → result ≡ ((nat_eq size 0 && not unit) || (last || nat_lt 999 (count + from))) → IsHeld (items ++ read ∷ []) (count + from) result
+pushed items read count size from over unit last result held going z u l f r =
+    record { counted = total; over_is = r ∙ tests ∙ by items going z total; whole = all items going }
+  where
+    total : count + from ≡ unit_count (items ++ read ∷ [])
+    total = let a = held.counted in let b = next_count items read in let c : from ≡ cond (is_unit read.item) 1 0 = f ∙ ap (λ (v : Bool). cond v 1 0) u in omega (arith, a, b, c)
+
+    tests : ((nat_eq size 0 && not unit) || (last || nat_lt 999 (count + from))) ≡ ((nat_eq size 0 && not (is_unit read.item)) || (is_last read.item || nat_lt 999 (count + from)))
+    tests = ap (λ (v : Bool). (nat_eq size 0 && not v) || (last || nat_lt 999 (count + from))) u ∙ ap (λ (v : Bool). (nat_eq size 0 && not (is_unit read.item)) || (v || nat_lt 999 (count + from))) l
+
+    by : (items : List Read) → is_over items ≡ false → size ≡ length items → count + from ≡ unit_count (items ++ read ∷ []) → ((nat_eq size 0 && not (is_unit read.item)) || (is_last read.item || nat_lt 999 (count + from))) ≡ is_over (items ++ read ∷ [])
+    by [] going z t =
+        ap (λ (n : ℕ). (nat_eq n 0 && not (is_unit read.item)) || (is_last read.item || nat_lt 999 (count + from))) z
+        ∙ ap (λ (n : ℕ). (true && not (is_unit read.item)) || (is_last read.item || nat_lt 999 n)) t ∙ (first_held read).1
+    by (first ∷ items) going z t =
+        let no : nat_eq size 0 ≡ false = grind (arith, nat_tests) in
+        ap (λ (v : Bool). (v && not (is_unit read.item)) || (is_last read.item || nat_lt 999 (count + from))) no
+        ∙ ap (λ (n : ℕ). is_last read.item || nat_lt 999 n) t ∙ next_over (first ∷ items) read (omega arith) going
+
+    all : (items : List Read) → is_over items ≡ false → length (items ++ read ∷ []) ≤ step_length (items ++ read ∷ [])
+    all [] going = (first_held read).0
+    all (first ∷ items) going = next_whole (first ∷ items) read (omega arith) going
+
+pub bytes_on : (items now new : List Read) (read : Read) → items ≡ now → new ≡ items ++ read ∷ [] → bytes_of new ≡ bytes_of now + read.size
+bytes_on items now new read e n =
+    let a = bytes_append items (read ∷ []) in
+    let b : bytes_of (items ++ read ∷ []) ≡ bytes_of items + read.size = omega (arith, a) in
+    ap bytes_of n ∙ b ∙ ap (λ (z : List Read). bytes_of z + read.size) e
+
+-- the first item, as a slice has it
+pub spelled_first : (items slice : List Read) (d : Read) → slice ≡ items → 0 < length items → spelled (get_or slice 0 d).item ≡ first_spelled items
+spelled_first [] slice d e some = absurd (omega (arith, some))
+spelled_first (read ∷ items) slice d e some = ap (λ (q : List Read). spelled (get_or q 0 d).item) e ∙ sym (append-nil (spelled read.item))

@@ -1,4 +1,5 @@
-ghost use Rattle.std.specs.Prelude.{◌≡◌, ◌<◌, ◌≤◌, ◌||◌, ◌&&◌, [], length, nat_lt, not, false, IfOk};
+ghost use Rattle.std.specs.Prelude.{◌≡◌, ◌⊎◌, ◌<◌, ◌≤◌, ◌||◌, ◌&&◌, [], length, nat_lt, not, true, false, IfOk, if◌then◌else◌};
+ghost use Rattle.ap_stream.specs.declared.TheConstants.{SPAN_MAX};
 ghost use Rattle.ap_stream.specs.Steps.{bytes_of};
 ghost use Rattle.ap_choose.specs.Sentences.{begins_unit, sentence_text, first_spelled};
 ghost use Rattle.ap_choose.specs.Works.{choose_work, span, is_over as over_test, step_length, none_wants, given_text};
@@ -61,6 +62,13 @@ fn ends(first: bool, units: usize, unit: bool, last: bool) -> bool
     (first && !unit) || last || units > LAST_UNIT
 }
 
+/// How many units an item is.
+fn counted(unit: bool) -> usize
+    ensures { result ≡ (if unit then 1 else 0) }
+{
+    if unit { 1 } else { 0 }
+}
+
 /// No bytes, in the room of those that are kept.
 fn take_room(alloc: Global, kept: &mut Bytes) -> Bytes
     ensures { result ≡ [] }
@@ -118,13 +126,29 @@ impl ChooseWork {
         self.finished
     }
 
-    /// Whether the sentence of the held items is over, or the first of them begins none.
-    fn is_over(&self) -> bool
-        ensures over { result ≡ over_test self.now.items }
+    /// What is known of every state of the work.
+    fn know(&self)
         ensures whole { length self.now.items ≤ step_length self.now.items }
         ensures items { AllByRecursion (IsRead Analysed) self.now.items }
     {
-        self.over
+        let _over = self.over;
+    }
+
+    /// Whether an item is wanted: the sentence of the held items isn't over, and items may come.
+    fn is_waiting(&self) -> bool
+        ensures yes { result ≡ true → (over_test self.now.items ≡ false) × (self.now.finished ≡ false) }
+        ensures no { result ≡ false → (over_test self.now.items ≡ true) ⊎ (self.now.finished ≡ true) }
+    {
+        !self.over && !self.finished
+    }
+
+    /// Whether the held items are of a sentence that has too many bytes.
+    fn is_overlong(&self) -> bool
+        requires { 0 < length self.now.items }
+        ensures yes { result ≡ true → (begins_unit self.now.items ≡ true) × (SPAN_MAX < bytes_of self.now.items) }
+        ensures no { result ≡ false → begins_unit self.now.items ≡ true → bytes_of self.now.items ≤ SPAN_MAX }
+    {
+        self.begins() && self.held_bytes() > SPAN_MAX as u64
     }
 
     /// The place of the first item.
@@ -219,7 +243,7 @@ impl Handler for ChooseWork {
         let last = is_last(&mut self.names, &mut self.room, &read.item)?;
         let first = self.items.len() == 0;
         self.items.push(read)?;
-        self.units += usize::from(unit);
+        self.units += counted(unit);
         self.over = ends(first, self.units, unit, last);
         Ok(())
     }
@@ -236,14 +260,14 @@ impl Handler for ChooseWork {
             return Ok(Turn::Wants);
         }
         let place = self.first_place();
-        let over = self.is_over();
-        if self.begins() && self.held_bytes() > SPAN_MAX as u64 {
+        self.know();
+        if self.is_overlong() {
             return Err(StageFault::Limit {
                 kind: LimitKind::SpanTooLong,
                 place,
             });
         }
-        if !over && !self.is_finished() {
+        if self.is_waiting() {
             return Ok(Turn::Wants);
         }
         match self.given() {
