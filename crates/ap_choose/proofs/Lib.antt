@@ -9,3 +9,4 @@ pub mod ChooseSteps
 pub mod Sizes
 pub mod Fares
 pub mod Turns
+pub mod Kept
