@@ -56,10 +56,10 @@ part_has (item.Unit words) places bytes h = unit_none words places h.1
 part_has (item.Chunk c) places bytes h = absurd h
 
 -- items that were read
-abbrev WasRead : Read → Type 0
+abbrev pub WasRead : Read → Type 0
 WasRead read = (bytes : List ℕ) × IsRow Analysed read.item bytes
 
-abbrev AreRead : List Read → Type 0
+abbrev pub AreRead : List Read → Type 0
 AreRead [] = Unit {0}
 AreRead (read ∷ items) = WasRead read × AreRead items
 
@@ -67,7 +67,7 @@ pub rows_read : (text : List ℕ) (items : List Read) → Rows Analysed text ite
 rows_read text [] h = tt
 rows_read text (read ∷ items) h = ((h.0, h.2), rows_read h.1 items h.3)
 
-read_take : (n : ℕ) (items : List Read) → AreRead items → AreRead (take n items)
+pub read_take : (n : ℕ) (items : List Read) → AreRead items → AreRead (take n items)
 read_take zero items h = tt
 read_take (suc n) [] h = tt
 read_take (suc n) (read ∷ items) h = (h.0, read_take n items h.1)
@@ -86,7 +86,7 @@ abbrev StepKeeps : List Read → Step → Type 0
 StepKeeps items (Gives n text) = (0 < n) × HasSuperblanks Lexical text (supers_of (take n items))
 StepKeeps items (Stops kind) = Unit {0}
 
-some_length : (read : Read) (items : List Read) → 0 < sentence_length (read ∷ items)
+pub some_length : (read : Read) (items : List Read) → 0 < sentence_length (read ∷ items)
 some_length read items = let e = length_is (read ∷ items) in omega (arith, e)
 
 sentence_keeps : (pairs : List Pair) (items : List Read) (n : ℕ) → AreRead items → 0 < n → StepKeeps items (sentence_step pairs items n)
@@ -114,7 +114,7 @@ step_keeps pairs read items h = elim (cases_Bool (begins_unit (read ∷ items)))
   | inr f ↦ subst (StepKeeps (read ∷ items)) (sym (step_bare pairs (read ∷ items) f)) (copied_keeps read items h f)
 ]
 
-drop_after : (n : ℕ) (read : Read) (items : List Read) → 0 < n → drop n (read ∷ items) ≡ drop (pred n) items
+pub drop_after : (n : ℕ) (read : Read) (items : List Read) → 0 < n → drop n (read ∷ items) ≡ drop (pred n) items
 drop_after zero read items some = absurd (omega (arith, some))
 drop_after (suc n) read items some = refl
 

@@ -10,3 +10,4 @@ pub mod Sizes
 pub mod Fares
 pub mod Turns
 pub mod Kept
+pub mod NoPairs
