@@ -11,3 +11,4 @@ pub mod Fares
 pub mod Turns
 pub mod Kept
 pub mod NoPairs
+pub mod Least
