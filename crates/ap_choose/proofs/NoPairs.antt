@@ -56,7 +56,6 @@ first_is [] = refl
 first_is ([] ∷ units) = refl
 first_is ((one ∷ unit) ∷ units) = first_by one unit (firsts units) (choices units) (first_is units)
 
-
 places_are : (units : List (List Reading)) → chosen_places [] units ≡ map (λ reading. reading.place) (firsts units)
 unfolding chosen_places
 places_are units =
