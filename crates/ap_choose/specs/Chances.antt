@@ -1,4 +1,5 @@
--- The readings of a unit by the numbers of their first tags: of those with one number the first alone counts.
+-- The readings of a unit by the numbers of their first tags: of those with one number the first
+-- alone counts.
 use Rattle.std.specs.Prelude.{◌≡◌, ◌⊎◌, ℕ, Bool, true, false, eqb, List, [], ◌∷◌, ◌++◌, Option, Some, None}
 use Rattle.std.specs.List.{list_any}
 use Rattle.ap_choose.specs.declared.chance.Chance.{Chance}
@@ -28,11 +29,13 @@ abbrev pub Thins : List (List ℕ) → List Chance → List Reading → List Cha
 Thins names seen [] chances = chances ≡ []
 Thins names seen (reading ∷ readings) chances =
     ((has_number seen (number_of names reading.tag) ≡ true) × Thins names seen readings chances)
-    ⊎ ((chance : Chance) × (more : List Chance) × (chances ≡ chance ∷ more) × IsChance names reading chance × Thins names (seen ++ chance ∷ []) readings more)
+    ⊎ ((chance : Chance) × (more : List Chance) × (chances ≡ chance ∷ more)
+    × IsChance names reading chance × Thins names (seen ++ chance ∷ []) readings more)
 
 -- so it is for each unit
 abbrev pub AreThin : List (List ℕ) → List (List Reading) → List (List Chance) → Type 0
 AreThin names [] [] = Unit {0}
 AreThin names [] (chances ∷ more) = ⊥
 AreThin names (readings ∷ units) [] = ⊥
-AreThin names (readings ∷ units) (chances ∷ more) = Thins names [] readings chances × AreThin names units more
+AreThin names (readings ∷ units) (chances ∷ more) = Thins names [] readings chances
+    × AreThin names units more

@@ -26,7 +26,8 @@ pub record Reading : Type 0 where
 
 abbrev pub numbered : ℕ → List (List Symbol) → List Reading
 numbered place [] = []
-numbered place (word ∷ words) = record { place = place; tag = first_tag word } ∷ numbered (suc place) words
+numbered place (word ∷ words) = record { place = place; tag = first_tag word } ∷ numbered
+    (suc place) words
 
 -- first tags that are a forbidden pair; a reading without a tag is in none
 abbrev pub bars_tags : List Pair → Option (List ℕ) → Option (List ℕ) → Bool

@@ -1,4 +1,5 @@
--- How a choice is found: backwards over the units, which of their readings can go on to the end, and then forwards, the
+-- How a choice is found: backwards over the units, which of their readings can go on to the end,
+-- and then forwards, the
 -- first that may follow.
 use Rattle.std.specs.Prelude.{Bool, true, not, List, [], ◌∷◌, map, ℕ, Option, Some, None}
 use Rattle.std.specs.List.{filter, find, list_any}

@@ -17,12 +17,14 @@ ChooseKeeps = (pairs : List Pair) (text : List ℕ) → (chosen_text pairs text 
 
 -- without pairs they are the first readings
 abbrev pub NoPairsFirst : Type 0
-NoPairsFirst = (text : List ℕ) → (chosen_text [] text Clean).fault ≡ None → (first_pass text Clean).fault ≡ None
+NoPairsFirst = (text : List ℕ) → (chosen_text [] text Clean).fault ≡ None →
+    (first_pass text Clean).fault ≡ None
     → (chosen_text [] text Clean).text ≡ (first_pass text Clean).text
 
 -- a reading of an analysed unit can be the word of a lexical unit, where it isn't empty
 abbrev pub ReadingReads : Type 0
-ReadingReads = (words : List (List Symbol)) (place : ℕ) → 0 < length (reading_at words place) → AreWords Analysed words
+ReadingReads = (words : List (List Symbol)) (place : ℕ) → 0 < length (reading_at words place) →
+    AreWords Analysed words
     → AreWords Lexical (reading_at words place ∷ [])
 
 abbrev pub IsOneOf : Reading → List Reading → Type 0
@@ -40,14 +42,18 @@ IsChoice (unit ∷ units) (one ∷ row) = IsOneOf one unit × IsChoice units row
 abbrev pub IsNoLater : List Reading → List Reading → Type 0
 IsNoLater [] row = Unit {0}
 IsNoLater (one ∷ row) [] = ⊥
-IsNoLater (one ∷ row) (other ∷ others) = (one.place < other.place) ⊎ ((one.place ≡ other.place) × IsNoLater row others)
+IsNoLater (one ∷ row) (other ∷ others) = (one.place < other.place)
+    ⊎ ((one.place ≡ other.place) × IsNoLater row others)
 
--- It is a choice without a forbidden pair, and no later than any other such choice; or there is none, and it is the first
+-- It is a choice without a forbidden pair, and no later than any other such choice; or there is
+-- none, and it is the first
 -- reading of each unit.
 abbrev pub IsLeast : List Pair → List (List Reading) → List Reading → Type 0
 IsLeast pairs units row =
-    (IsChoice units row × (is_allowed (bars pairs) row ≡ true) × ((other : List Reading) → IsChoice units other → is_allowed (bars pairs) other ≡ true → IsNoLater row other))
-    ⊎ (((other : List Reading) → IsChoice units other → is_allowed (bars pairs) other ≡ true → ⊥) × (row ≡ firsts units))
+    (IsChoice units row × (is_allowed (bars pairs) row ≡ true) × ((other : List Reading) →
+    IsChoice units other → is_allowed (bars pairs) other ≡ true → IsNoLater row other))
+    ⊎ (((other : List Reading) → IsChoice units other → is_allowed (bars pairs) other ≡ true → ⊥)
+    × (row ≡ firsts units))
 
 -- units by the words of their readings
 abbrev pub units_of : List (List (List Symbol)) → List (List Reading)
@@ -55,4 +61,5 @@ units_of words = map (λ unit. numbered 0 unit) words
 
 -- the choice that is written is the least
 abbrev pub LeastIsChosen : Type 0
-LeastIsChosen = (pairs : List Pair) (words : List (List (List Symbol))) → IsLeast pairs (units_of words) (allowed_choice (bars pairs) (units_of words))
+LeastIsChosen = (pairs : List Pair) (words : List (List (List Symbol))) →
+    IsLeast pairs (units_of words) (allowed_choice (bars pairs) (units_of words))

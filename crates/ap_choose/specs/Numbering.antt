@@ -9,7 +9,8 @@ use Rattle.ap_choose.specs.Choice.{is_forbidden}
 -- the number of a name, counted from 0, where it is there
 abbrev pub number : List (List ℕ) → List ℕ → Option ℕ
 number [] name = None
-number (other ∷ names) name = if bytes_eq name other then Some 0 else option_map (λ n. suc n) (number names name)
+number (other ∷ names) name = if bytes_eq name other then Some 0 else option_map (λ n. suc n)
+    (number names name)
 
 abbrev pub number_of : List (List ℕ) → Option (List ℕ) → Option ℕ
 number_of names None = None
@@ -19,7 +20,8 @@ number_of names (Some name) = number names name
 abbrev pub bars_numbers : List (ℕ × ℕ) → Option ℕ → Option ℕ → Bool
 bars_numbers pairs None second = false
 bars_numbers pairs (Some first) None = false
-bars_numbers pairs (Some first) (Some second) = list_any (λ p. eqb first p.0 && eqb second p.1) pairs
+bars_numbers pairs (Some first) (Some second) =
+    list_any (λ p. eqb first p.0 && eqb second p.1) pairs
 
 pub record Numbered : Type 0 where
   pub names : List (List ℕ)
@@ -27,7 +29,8 @@ pub record Numbered : Type 0 where
 
 -- names are forbidden where their numbers are a pair
 abbrev pub IsNumbering : List Pair → Numbered → Type 0
-IsNumbering pairs n = (first second : List ℕ) → bars_numbers n.pairs (number n.names first) (number n.names second) ≡ is_forbidden pairs first second
+IsNumbering pairs n = (first second : List ℕ) → bars_numbers n.pairs (number n.names first)
+    (number n.names second) ≡ is_forbidden pairs first second
 
 -- each of the pairs is of numbers of names
 abbrev pub AreBelow : ℕ → List (ℕ × ℕ) → Type 0

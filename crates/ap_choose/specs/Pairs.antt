@@ -1,4 +1,5 @@
--- The text of forbidden pairs of tags, in lines. An empty line and a line that begins with # say nothing; every other line
+-- The text of forbidden pairs of tags, in lines. An empty line and a line that begins with # say
+-- nothing; every other line
 -- is two tag names with one space between them.
 use Rattle.std.specs.Prelude.{◌≡◌, ◌⊎◌, ℕ, suc, Bool, true, false, List, [], ◌∷◌, ◌++◌, length, eqb, IsTrue, if◌then◌else◌}
 use Rattle.std.specs.Str.{IsUtf8}
@@ -10,7 +11,8 @@ abbrev pub in_front : ℕ → List (List ℕ) → List (List ℕ)
 in_front b [] = (b ∷ []) ∷ []
 in_front b (line ∷ lines) = (b ∷ line) ∷ lines
 
--- The lines of a text: each ends with a line feed, which isn't part of it, or with the text. What stands behind the last
+-- The lines of a text: each ends with a line feed, which isn't part of it, or with the text. What
+-- stands behind the last
 -- line feed is a line too, and an empty one where nothing does.
 abbrev pub lines : List ℕ → List (List ℕ)
 lines [] = [] ∷ []
@@ -47,7 +49,8 @@ Says line (pair ∷ more ∷ pairs) = ⊥
 -- the lines say these pairs, in order
 pub data Say : List (List ℕ) → List Pair → Type 0 where
   none : {rows : List (List ℕ)} {pairs : List Pair} → rows ≡ [] → pairs ≡ [] → Say rows pairs
-  next : {rows : List (List ℕ)} {pairs : List Pair} (line : List ℕ) (rest : List (List ℕ)) (own more : List Pair)
+  next : {rows : List (List ℕ)} {pairs : List Pair} (line : List ℕ) (rest : List (List ℕ))
+      (own more : List Pair)
       → rows ≡ line ∷ rest → pairs ≡ own ++ more → Says line own → Say rest more → Say rows pairs
 
 -- a text of pairs

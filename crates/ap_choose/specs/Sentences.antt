@@ -57,22 +57,27 @@ is_last (Chunk c) = false
 abbrev pub sent_place : List Read → ℕ
 sent_place items = prefix_len (λ read. not (is_last read.item)) items
 
--- how many items stand before the unit of this number, counted from 0: all, where there are fewer units
+-- how many items stand before the unit of this number, counted from 0: all, where there are fewer
+-- units
 abbrev pub unit_place : ℕ → List Read → ℕ
 unit_place n [] = 0
 unit_place zero (read ∷ items) = if is_unit read.item then 0 else suc (unit_place zero items)
-unit_place (suc n) (read ∷ items) = suc (if is_unit read.item then unit_place n items else unit_place (suc n) items)
+unit_place (suc n) (read ∷ items) =
+    suc (if is_unit read.item then unit_place n items else unit_place (suc n) items)
 
--- The sentence at the front: up to and including the first unit whose first reading holds the tag `sent`, the 1,000th
+-- The sentence at the front: up to and including the first unit whose first reading holds the tag
+-- `sent`, the 1,000th
 -- unit, or the end, whichever comes first.
 unfoldable pub sentence_length : List Read → ℕ
-sentence_length items = min (suc (sent_place items)) (min (suc (unit_place 999 items)) (length items))
+sentence_length items = min (suc (sent_place items)) (min (suc (unit_place 999 items))
+    (length items))
 
 abbrev pub begins_unit : List Read → Bool
 begins_unit [] = false
 begins_unit (read ∷ items) = is_unit read.item
 
--- a unit as its reading at the first of the places, and not at all where that is empty; every other item as it is spelled
+-- a unit as its reading at the first of the places, and not at all where that is empty; every other
+-- item as it is spelled
 abbrev pub unit_part : List (List Symbol) → List ℕ → List ℕ
 unit_part words [] = []
 unit_part words (place ∷ places) = filled_one (reading_at words place)
@@ -97,7 +102,9 @@ sentence_text pairs items = written items (chosen_places pairs (units items))
 
 -- a sentence of so many items is written whole, unless it has too many bytes
 abbrev pub sentence_step : List Pair → List Read → ℕ → Step
-sentence_step pairs items n = if nat_lt span_max (bytes_of (take n items)) then Stops SpanTooLong else Gives n (sentence_text pairs (take n items))
+sentence_step pairs items n =
+    if nat_lt span_max (bytes_of (take n items)) then Stops SpanTooLong else Gives n
+    (sentence_text pairs (take n items))
 
 -- the first item as it is spelled
 abbrev pub first_spelled : List Read → List ℕ
@@ -108,7 +115,8 @@ copied items = Gives 1 (first_spelled items)
 
 -- the first step: a sentence begins at a unit, and every other item before it is copied
 unfoldable pub choose_step : List Pair → List Read → Step
-choose_step pairs items = if begins_unit items then sentence_step pairs items (sentence_length items) else copied items
+choose_step pairs items = if begins_unit items then sentence_step pairs items
+    (sentence_length items) else copied items
 
 -- the items of a text, step by step
 abbrev pub chosen : List Pair → List Read → Told
@@ -116,7 +124,11 @@ chosen pairs items = steps (choose_step pairs) 0 items
 
 -- a limit that it meets is the fault; otherwise what stops reading is
 abbrev pub chosen_by : List Pair → Reads → Ending → Told
-chosen_by pairs read ending = record { text = (chosen pairs read.items).text; fault = or_else (chosen pairs read.items).fault (stop_at ending read.stop) }
+chosen_by pairs read ending = record {
+  text = (chosen pairs read.items).text;
+  fault =
+      or_else (chosen pairs read.items).fault (stop_at ending read.stop);
+}
 
 abbrev pub chosen_text : List Pair → List ℕ → Ending → Told
 chosen_text pairs text ending = chosen_by pairs (reads Analysed 0 text) ending

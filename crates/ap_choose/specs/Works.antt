@@ -8,7 +8,8 @@ use Rattle.ap_stream.specs.declared.item.Read.{Read}
 use Rattle.ap_choose.specs.declared.forbidden.Pair.{Pair}
 use Rattle.ap_choose.specs.Sentences.{units, sent_place, sentence_length, begins_unit, sentence_text, first_spelled, chosen}
 
--- what is seen of the work: the forbidden pairs, the items that it holds, and whether they are the last
+-- what is seen of the work: the forbidden pairs, the items that it holds, and whether they are the
+-- last
 pub record Choosing : Type 0 where
   pub pairs : List Pair
   pub items : List Read
@@ -24,7 +25,8 @@ unit_count items = length (units items)
 -- the sentence at the front is over, whatever follows; or the item at the front begins none
 abbrev pub is_over : List Read → Bool
 is_over [] = false
-is_over (read ∷ items) = if begins_unit (read ∷ items) then nat_lt (sent_place (read ∷ items)) (length (read ∷ items)) || nat_lt 999 (unit_count (read ∷ items)) else true
+is_over (read ∷ items) = if begins_unit (read ∷ items) then nat_lt (sent_place (read ∷ items))
+    (length (read ∷ items)) || nat_lt 999 (unit_count (read ∷ items)) else true
 
 -- how many items must be seen together: at a unit those of the sentence
 abbrev pub span : List Read → ℕ
@@ -34,7 +36,8 @@ span items = if begins_unit items then sentence_length items else 0
 abbrev pub step_length : List Read → ℕ
 step_length items = if begins_unit items then sentence_length items else 1
 
--- what is known of the held items: how many of them are units, whether their sentence is over, and that none stands
+-- what is known of the held items: how many of them are units, whether their sentence is over, and
+-- that none stands
 -- behind it
 pub record IsHeld (items : List Read) (count : ℕ) (over : Bool) : Type 0 where
   pub counted : count ≡ unit_count items
@@ -43,7 +46,8 @@ pub record IsHeld (items : List Read) (count : ℕ) (over : Bool) : Type 0 where
 
 -- what the first step gives, where it takes all items: of a sentence or of one other item
 abbrev pub given_text : List Pair → List Read → List ℕ
-given_text pairs items = if begins_unit items then sentence_text pairs items else first_spelled items
+given_text pairs items = if begins_unit items then sentence_text pairs items else first_spelled
+    items
 
 -- the place of the first item
 pub record IsFirstPlace (items : List Read) (place : ℕ) : Type 0 where

@@ -8,8 +8,8 @@ use crate::numbers::Numbers;
 use ap_symbol::{Memory, Sequence, Symbol, TagName, Word};
 use std::alloc::Global;
 
-/// A reading of a unit: its place among the readings, counted from 0, and the number of its first tag,
-/// where that occurs in a forbidden pair.
+/// A reading of a unit: its place among the readings, counted from 0, and the number of its first
+/// tag, where that occurs in a forbidden pair.
 #[derive(Clone, Copy, Debug, PartialEq, Eq)]
 pub(crate) struct Chance {
     pub(crate) place: usize,

@@ -12,17 +12,19 @@ use ap_symbol::Memory;
 use std::alloc::Global;
 use std::marker::Model;
 
-/// One reading of each unit of an analysed text, as a unit, so that no forbidden pair of tags stands in
-/// a row: a `Stage` over bytes.
+/// One reading of each unit of an analysed text, as a unit, so that no forbidden pair of tags
+/// stands in a row: a `Stage` over bytes.
 ///
-/// A sentence begins at a unit, and holds all items up to and including its first unit whose first
-/// reading holds the tag `sent`, its 1,000th unit, or the end, whichever comes first. Of the choices of
-/// one reading of each of its units those are allowed in which no first tags of two neighbours are a
-/// forbidden pair; a reading without a tag is in none. The first reading in which they differ decides
-/// which of the allowed choices is the least, and that one is written; where none is allowed, it is the
-/// first reading of every unit. A chosen reading that is empty isn't written. Any other item is copied.
+/// A sentence begins at a unit, and holds all items up to and including its first unit whose
+/// first reading holds the tag `sent`, its 1,000th unit, or the end, whichever comes first. Of
+/// the choices of one reading of each of its units those are allowed in which no first tags of
+/// two neighbours are a forbidden pair; a reading without a tag is in none. The first reading in
+/// which they differ decides which of the allowed choices is the least, and that one is written;
+/// where none is allowed, it is the first reading of every unit. A chosen reading that is empty
+/// isn't written. Any other item is copied.
 ///
-/// A sentence of more than `SPAN_MAX` bytes is answered by the limit `SpanTooLong` at its first byte.
+/// A sentence of more than `SPAN_MAX` bytes is answered by the limit `SpanTooLong` at its first
+/// byte.
 #[derive(Drop)]
 pub struct Choose {
     stage: Staged<ChooseWork>,
@@ -40,7 +42,8 @@ impl Model for Choose {
 impl Choose {
     /// A new stage by these pairs. The error means want of memory.
     pub fn new(alloc: Global, forbidden: Forbidden) -> Result<Choose, Memory>
-        ensures rest { IfOk result (λ made. (x : List ℕ) (e : Ending) → rest_of choose_work made x e ≡ chosen_text forbidden x e) }
+        ensures rest { IfOk result (λ made. (x : List ℕ) (e : Ending) → rest_of choose_work made x e
+            ≡ chosen_text forbidden x e) }
         ensures pending { IfOk result (λ made. made.pending ≡ []) }
         ensures ended { IfOk result (λ made. made.ended ≡ false) }
         ensures fault { IfOk result (λ made. made.fault ≡ None) }

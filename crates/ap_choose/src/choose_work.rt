@@ -18,9 +18,9 @@ use std::mem;
 /// The place of a sentence's last unit, counted from 0, where none before ends it.
 const LAST_UNIT: usize = 999;
 
-/// The choosing of readings: a `Handler` over the items of an analysed text. At a unit it holds the
-/// items of its sentence, and looks at each of them once while further ones come; every other item is
-/// copied.
+/// The choosing of readings: a `Handler` over the items of an analysed text. At a unit it holds
+/// the items of its sentence, and looks at each of them once while further ones come; every other
+/// item is copied.
 #[derive(Drop)]
 pub struct ChooseWork {
     alloc: Global,
@@ -52,10 +52,12 @@ impl Model for ChooseWork {
 
     ghost view = { λ w. record { pairs = w.forbidden; items = w.items; finished = w.finished } };
 
-    ghost invariant = { λ w. IsNumbering w.forbidden w.numbers × AllByRecursion (IsRead Analysed) w.items × IsHeld w.items w.units w.over };
+    ghost invariant = { λ w. IsNumbering w.forbidden w.numbers
+        × AllByRecursion (IsRead Analysed) w.items × IsHeld w.items w.units w.over };
 }
 
-/// Whether an item ends its sentence, or begins none: the first of the items, so many units with it.
+/// Whether an item ends its sentence, or begins none: the first of the items, so many units with
+/// it.
 fn ends(first: bool, units: usize, unit: bool, last: bool) -> bool
     ensures { result ≡ ((first && not unit) || (last || nat_lt 999 units)) }
 {
@@ -136,8 +138,10 @@ impl ChooseWork {
 
     /// Whether an item is wanted: the sentence of the held items isn't over, and items may come.
     fn is_waiting(&self) -> bool
-        ensures yes { result ≡ true → (over_test self.now.items ≡ false) × (self.now.finished ≡ false) }
-        ensures no { result ≡ false → (over_test self.now.items ≡ true) ⊎ (self.now.finished ≡ true) }
+        ensures yes { result ≡ true → (over_test self.now.items ≡ false)
+            × (self.now.finished ≡ false) }
+        ensures no { result ≡ false → (over_test self.now.items ≡ true)
+            ⊎ (self.now.finished ≡ true) }
     {
         !self.over && !self.finished
     }
@@ -145,8 +149,10 @@ impl ChooseWork {
     /// Whether the held items are of a sentence that has too many bytes.
     fn is_overlong(&self) -> bool
         requires { 0 < length self.now.items }
-        ensures yes { result ≡ true → (begins_unit self.now.items ≡ true) × (SPAN_MAX < bytes_of self.now.items) }
-        ensures no { result ≡ false → begins_unit self.now.items ≡ true → bytes_of self.now.items ≤ SPAN_MAX }
+        ensures yes { result ≡ true → (begins_unit self.now.items ≡ true)
+            × (SPAN_MAX < bytes_of self.now.items) }
+        ensures no { result ≡ false → begins_unit self.now.items ≡ true → bytes_of self.now.items
+            ≤ SPAN_MAX }
     {
         self.begins() && self.held_bytes() > SPAN_MAX as u64
     }

@@ -32,7 +32,8 @@ fn going_on(
     unit: &[Chance],
     next: &[Chance],
 ) -> Result<Chances, Memory>
-    ensures { IfOk result (λ made. made ≡ filter (λ chance. may_go (bars_chances numbers.now) chance next.now) unit.now) }
+    ensures { IfOk result (λ made. made
+        ≡ filter (λ chance. may_go (bars_chances numbers.now) chance next.now) unit.now) }
 {
     let mut kept = Chances::new(alloc);
     'chances: for chance in unit {
@@ -61,7 +62,8 @@ fn viable_unit(
     unit: &[Chance],
     behind: &[Chances],
 ) -> Result<Chances, Memory>
-    ensures { (units : List (List Chance)) → behind.now ≡ reverse units → IfOk result (λ made. made ≡ filter (goes_on (bars_chances numbers.now) units) unit.now) }
+    ensures { (units : List (List Chance)) → behind.now ≡ reverse units →
+        IfOk result (λ made. made ≡ filter (goes_on (bars_chances numbers.now) units) unit.now) }
 {
     match behind {
         [] => all_of(alloc, unit),
@@ -103,7 +105,8 @@ fn picked(
     start: Chance,
     kept: &[Chances],
 ) -> Result<Option<Sequence<usize>>, Memory>
-    ensures { IfOk result (λ made. made ≡ option_map places (picked (bars_chances numbers.now) start kept.now)) }
+    ensures { IfOk result (λ made. made
+        ≡ option_map places (picked (bars_chances numbers.now) start kept.now)) }
 {
     let mut found = Sequence::new(alloc);
     let mut before = start;
@@ -132,15 +135,16 @@ fn first_places(alloc: Global, units: &[Chances]) -> Result<Sequence<usize>, Mem
     Ok(found)
 }
 
-/// The places of the first allowed choice of one chance of each unit, or the first places where none
-/// is allowed. It goes backwards over the units and keeps the chances that can go on, and then forwards
-/// and takes the first of those that may follow.
+/// The places of the first allowed choice of one chance of each unit, or the first places where
+/// none is allowed. It goes backwards over the units and keeps the chances that can go on, and
+/// then forwards and takes the first of those that may follow.
 pub(crate) fn choose(
     alloc: Global,
     numbers: &Numbers,
     units: &[Chances],
 ) -> Result<Sequence<usize>, Memory>
-    ensures { IfOk result (λ made. made ≡ places (allowed_choice (bars_chances numbers.now) units.now)) }
+    ensures { IfOk result (λ made. made
+        ≡ places (allowed_choice (bars_chances numbers.now) units.now)) }
 {
     let kept = viable(alloc, numbers, units)?;
     let start = Chance {

@@ -30,8 +30,8 @@ impl Model for Forbidden {
 /// Why no forbidden pairs were read.
 #[derive(Clone, Copy, Debug, PartialEq, Eq, Error)]
 pub enum PairRefusal {
-    /// The line of this number, counted from 1, is the first that is neither empty nor a comment nor
-    /// a pair.
+    /// The line of this number, counted from 1, is the first that is neither empty nor a comment
+    /// nor a pair.
     #[error("line {line} is no pair of tags")]
     BadPair { line: u64 },
     /// Want of memory.

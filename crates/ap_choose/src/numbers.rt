@@ -8,8 +8,8 @@ use indexmap::IndexSet;
 use std::alloc::Global;
 use std::marker::Model;
 
-/// The names that occur in forbidden pairs, numbered in the order in which they come, and the pairs of
-/// their numbers. Both are found by hashing.
+/// The names that occur in forbidden pairs, numbered in the order in which they come, and the
+/// pairs of their numbers. Both are found by hashing.
 #[derive(Drop)]
 pub(crate) struct Numbers {
     names: IndexSet<Vec<u8>>,
@@ -54,7 +54,8 @@ impl Numbers {
 
     /// A further pair.
     fn add(&mut self, alloc: Global, pair: &Pair) -> Result<(), Memory>
-        ensures { (pairs : List Pair) → IsNumbered pairs self.old → OnOk result (IsNumbered (pairs ++ pair.now ∷ []) self.new) }
+        ensures { (pairs : List Pair) → IsNumbered pairs self.old →
+            OnOk result (IsNumbered (pairs ++ pair.now ∷ []) self.new) }
     {
         let first = self.name(alloc, pair.first.text().as_bytes())?;
         let second = self.name(alloc, pair.second.text().as_bytes())?;

@@ -77,7 +77,8 @@ fn is_text(line: &[u8]) -> bool
 
 /// Appends the pair that a line says, if it says one. Answers whether the line has a form.
 fn read_line(alloc: Global, line: &[u8], found: &mut Forbidden) -> Result<bool, Memory>
-    ensures fine { result ≡ Ok true → (own : List Pair) × Says line.now own × (found.new ≡ found.old ++ own) }
+    ensures fine { result ≡ Ok true → (own : List Pair) × Says line.now own
+        × (found.new ≡ found.old ++ own) }
     ensures bad { result ≡ Ok false → IsBad line.now }
 {
     if line.is_empty() || is_comment(line) {
@@ -92,12 +93,12 @@ fn read_line(alloc: Global, line: &[u8], found: &mut Forbidden) -> Result<bool, 
     }
 }
 
-/// The forbidden pairs of tags that a text says, in its order. The text is UTF-8 in lines that end
-/// with a line feed or with the text. An empty line, and one that begins with `#`, says nothing; every
-/// other line is two tag names with one space between them.
+/// The forbidden pairs of tags that a text says, in its order. The text is UTF-8 in lines that
+/// end with a line feed or with the text. An empty line, and one that begins with `#`, says
+/// nothing; every other line is two tag names with one space between them.
 ///
-/// `BadPair` comes exactly where a line has none of these forms or isn't UTF-8, with the number of the
-/// first such line, counted from 1. `Memory` means want of memory.
+/// `BadPair` comes exactly where a line has none of these forms or isn't UTF-8, with the number
+/// of the first such line, counted from 1. `Memory` means want of memory.
 pub fn read_pairs(alloc: Global, text: &[u8]) -> Result<Forbidden, PairRefusal>
     ensures said { IfOk result (AreSaid text.now) }
     ensures bad { IfErr result (λ e. (line : ℕ) → e ≡ BadPair line → IsFirstBad text.now line) }

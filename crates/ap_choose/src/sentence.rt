@@ -98,7 +98,8 @@ pub(crate) fn units_of(
 
 /// Appends the word with these bytes as a unit, if it isn't empty.
 fn write_filled(bytes: &[u8], into: &mut Bytes) -> Result<(), Memory>
-    ensures { (word : List Symbol) → bytes.now ≡ rendering word → OnOk result (into.new ≡ into.old ++ filled_one word) }
+    ensures { (word : List Symbol) → bytes.now ≡ rendering word →
+        OnOk result (into.new ≡ into.old ++ filled_one word) }
 {
     if bytes.is_empty() {
         return Ok(());
@@ -133,8 +134,8 @@ fn write_reading(
     }
 }
 
-/// Appends what an item gives, where the places from `at` on are left, and answers where they are left
-/// behind it.
+/// Appends what an item gives, where the places from `at` on are left, and answers where they are
+/// left behind it.
 fn write_part(
     alloc: Global,
     names: &mut Names,

@@ -4,4 +4,5 @@ use Rattle.ap_choose.specs.Chances.{bars_chances}
 use Rattle.ap_choose.proofs.choosing.fitting.Given as goal
 
 abbrev pub invariant-chances : goal.invariant-chances
-invariant-chances l = fitting (bars_chances l.numbers) l.before (drop l.chance-index l.unit) ≡ fitting (bars_chances l.numbers) l.before l.unit
+invariant-chances l = fitting (bars_chances l.numbers) l.before (drop l.chance-index l.unit)
+    ≡ fitting (bars_chances l.numbers) l.before l.unit

@@ -8,5 +8,6 @@ use Rattle.ap_choose.proofs.sentence.is_last.Goals as goal
 
 pub returns-else-not-branch : goal.returns-else-not-branch
 returns-else-not-branch c =
-    let word = some_at c.in-Unit.unit 0 1 refl c.in_ok-word_at-in-Unit.field-0 c.if-not-branch.false c.word_at.new.into c.in_ok-word_at-in-Unit.ensures in
+    let word = some_at c.in-Unit.unit 0 1 refl c.in_ok-word_at-in-Unit.field-0 c.if-not-branch.false
+    c.word_at.new.into c.in_ok-word_at-in-Unit.ensures in
     c.holds_sent.ensures ∙ ap (list_any is_sent) (sym word) ∙ ap is_last (sym c.in-Unit.is)

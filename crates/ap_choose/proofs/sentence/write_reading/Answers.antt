@@ -7,5 +7,8 @@ use Rattle.ap_choose.proofs.sentence.write_reading.Goals as goal
 
 pub returns-else-branch : goal.returns-else-branch
 returns-else-branch c =
-    let none = none_at c.args.unit.now c.args.place c.in-Some.at c.in-Some.ensures.1 c.in_ok-word_at-in-None.field-0 c.if-branch.false c.word_at.new.into c.in_ok-word_at-in-None.ensures in
-    sym (append-nil c.args.into.now) ∙ ap (λ (word : List Symbol). c.args.into.now ++ filled_one word) (sym none)
+    let none = none_at c.args.unit.now c.args.place c.in-Some.at c.in-Some.ensures.1
+    c.in_ok-word_at-in-None.field-0 c.if-branch.false c.word_at.new.into
+    c.in_ok-word_at-in-None.ensures in
+    sym (append-nil c.args.into.now)
+    ∙ ap (λ (word : List Symbol). c.args.into.now ++ filled_one word) (sym none)
