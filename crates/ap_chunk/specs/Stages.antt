@@ -1,4 +1,3 @@
--- HELPER: read /work/h/stage/NOTE_FOR_YOU.md now (then delete this line and that file).
 -- Transfer, interchunk and postchunk of the items of a text, and of a whole text.
 use Rattle.std.specs.Prelude.{ℕ, nat_lt, Bool, false, List, [], ◌∷◌, ◌++◌, length, take, Option, Some, None, Ok, Err, if◌then◌else◌}
 use Rattle.ap_stream.specs.Limits.{span_max, unit_max}
