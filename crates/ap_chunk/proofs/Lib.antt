@@ -18,3 +18,5 @@ mod Firsts
 mod ChunkWords
 mod FilledKept
 mod TransferKept
+mod OpenBlanks
+mod ChunksFilled

@@ -1,19 +1,27 @@
 -- What the laws of chunk stages say.
 use Rattle.std.specs.Prelude.{◌≡◌, ℕ, Bool, true, false, List, [], ◌∷◌, ◌++◌, length, take, Option, None, Ok}
 use Rattle.std.specs.List.{AllByRecursion}
+use Rattle.ap_symbol.specs.Coded.{AreCoded}
+use Rattle.ap_symbol.specs.Words.{AreProper}
 use Rattle.ap_symbol.specs.declared.symbol.Symbol.{Symbol}
 use Rattle.ap_stream.specs.Laws.{AreSpelt, EachSpelt}
 use Rattle.ap_stream.specs.Pieces.{HaveSameSuperblanks}
 use Rattle.ap_stream.specs.Told.{Clean}
-use Rattle.ap_stream.specs.declared.dialect.Dialect.TheVariants.{Bilingual, Lexical}
+use Rattle.ap_stream.specs.declared.dialect.Dialect.{Dialect}
+use Rattle.ap_stream.specs.declared.dialect.Dialect.TheVariants.{Bilingual, Lexical, Chunked}
 use Rattle.ap_rules.specs.Views.{plain_rules}
+use Rattle.ap_rules.specs.declared.rules.DefaultPiece.{DefaultPiece}
 use Rattle.ap_rules.specs.declared.rules.DefaultPiece.TheVariants as default
 use Rattle.ap_rules.specs.declared.rules.Form.TheVariants.{Transfer}
 use Rattle.ap_rules.specs.declared.rules.Rules.{Rules}
 use Rattle.ap_exec.specs.Acting.{act_of, Outcome}
-use Rattle.ap_exec.specs.FillingLaws.{HoldUnits}
+use Rattle.ap_exec.specs.FillingLaws.{HoldUnits, IsWordedAtom}
 use Rattle.ap_exec.specs.Starting.{start_of}
 use Rattle.ap_exec.specs.declared.matched.MatchedUnit.{MatchedUnit}
+use Rattle.ap_exec.specs.declared.template.Atom.{Atom}
+use Rattle.ap_exec.specs.declared.template.Atom.TheVariants.{Unit as The_unit, Slot, Space}
+use Rattle.ap_exec.specs.declared.template.Piece.{Piece}
+use Rattle.ap_exec.specs.declared.template.Piece.TheVariants.{Atom as The_atom, Chunk}
 use Rattle.ap_chunk.specs.Carrying.{Held}
 use Rattle.ap_chunk.specs.Stages.{transferred_text}
 
@@ -24,21 +32,45 @@ pub record IsSpeltUnit (unit : MatchedUnit) : Type 0 where
   pub queue : unit.queue ≡ []
   pub content : unit.content ≡ []
 
--- Rules of transfer that give units alone, whose words can be written: so do their variables at the
--- start, and what a rule
--- gives and leaves in them, where it is run on such words.
-pub record GivesUnits (rules : Rules) : Type 0 where
+-- the words of a chunk's atoms are words of the program
+abbrev pub HoldAtoms : List Atom → Type 0
+HoldAtoms [] = Unit {0}
+HoldAtoms (a ∷ more) = IsWordedAtom a × HoldAtoms more
+
+-- the template has units in chunks alone, and its words are words of the program
+abbrev pub HoldChunks : List Piece → Type 0
+HoldChunks [] = Unit {0}
+HoldChunks (The_atom (The_unit word) ∷ more) = ⊥
+HoldChunks (The_atom Slot ∷ more) = HoldChunks more
+HoldChunks (The_atom Space ∷ more) = HoldChunks more
+HoldChunks (Chunk name atoms ∷ more) =
+    (AreProper name × AreCoded name) × HoldAtoms atoms × HoldChunks more
+
+-- what rules of transfer may give, by their default: units, or chunks
+abbrev pub MayGive : DefaultPiece → List Piece → Type 0
+MayGive default.Lu pieces = HoldUnits pieces
+MayGive default.Chunk pieces = HoldChunks pieces
+
+-- the dialect that they give
+abbrev pub given_dialect : DefaultPiece → Dialect
+given_dialect default.Lu = Lexical
+given_dialect default.Chunk = Chunked
+
+-- Rules of transfer whose words can be written: so do their variables at the start, and what a rule
+-- gives and leaves in them, where it is run on such words; and a rule gives chunks alone where they
+-- are the default, and else units alone.
+pub record GivesWritten (rules : Rules) : Type 0 where
   pub start : EachSpelt (start_of rules)
   pub on : (rule : ℕ) (units : List MatchedUnit) (vars : Held) (o : Outcome) →
       AllByRecursion IsSpeltUnit units → EachSpelt vars
       → act_of (plain_rules rules) rule (record { chunk = None; units = units }) vars ≡ Ok o →
-      HoldUnits o.pieces × EachSpelt o.vars
+      MayGive rules.default o.pieces × EachSpelt o.vars
 
--- where transfer by such rules, with units as the default, gives a text without a fault, it has the
--- superblanks of the
--- bilingual one
+-- where transfer by such rules gives a text without a fault, it has the superblanks of the
+-- bilingual
+-- one
 abbrev pub TransferKeeps : Type 0
-TransferKeeps = (rules : Rules) (text : List ℕ) → rules.form ≡ Transfer →
-    rules.default ≡ default.Lu → GivesUnits rules
+TransferKeeps = (rules : Rules) (text : List ℕ) → rules.form ≡ Transfer → GivesWritten rules
     → (transferred_text rules text Clean).fault ≡ None →
-    HaveSameSuperblanks Bilingual Lexical text (transferred_text rules text Clean).text
+    HaveSameSuperblanks Bilingual (given_dialect rules.default) text
+    (transferred_text rules text Clean).text

@@ -26,9 +26,10 @@ pub fn rows_tell()
     ensures { RowsTell }
 {}
 
-/// The law that transfer with units as the default keeps superblanks, by rules that give units alone
-/// whose words can be written: where it gives a text without a fault, the superblanks of that text
-/// are those of the input, in order, whole. It is a statement alone and does nothing.
+/// The law that transfer keeps superblanks, by rules whose words can be written and that give
+/// chunks alone where they are the default, and else units alone: where it gives a text without a
+/// fault, the superblanks of that text, read as chunks or as units, are those of the input, in
+/// order, whole. It is a statement alone and does nothing.
 pub fn transfer_keeps_superblanks()
     ensures { TransferKeeps }
 {}
