@@ -1,6 +1,6 @@
 -- The first allowed choice is found unit by unit, and by the walk backwards and forwards.
 use Rattle.std.specs.Prelude.{◌≡◌, Bool, true, false, not, ◌&&◌, ◌||◌, cond, List, [], ◌∷◌, ◌++◌, map, Option, Some, None, is_some, refl}
-use Rattle.std.specs.List.{filter, find, flat_map, list_any}
+use Rattle.std.specs.List.{filter, flat_map}
 use Rattle.std.specs.Option.{option_map}
 use Rattle.std.proofs.Common.{ap, sym, ◌∙◌}
 use Rattle.std.proofs.lemmas.List.Elements.{filter-append}

@@ -1,10 +1,9 @@
 -- The first allowed choice of readings stands at the places of the first allowed choice of their
 -- chances.
-use Rattle.std.specs.Prelude.{◌≡◌, ◌⊎◌, ℕ, suc, eqb, Bool, true, false, ◌||◌, cond, List, [], ◌∷◌, ◌++◌, map, Option, Some, None, refl}
-use Rattle.std.specs.List.{list_any}
+use Rattle.std.specs.Prelude.{◌≡◌, ℕ, Bool, true, false, ◌||◌, cond, List, [], ◌∷◌, ◌++◌, map, Option, Some, None, refl}
 use Rattle.std.specs.Option.{option_map}
 use Rattle.std.proofs.Common.{ap, sym, subst, ◌∙◌, inl, inr}
-use Rattle.std.proofs.lemmas.Bool.{cases_Bool, eqb-true}
+use Rattle.std.proofs.lemmas.Bool.{eqb-true}
 use Rattle.std.proofs.lemmas.List.Folds.{list_any-append}
 use Rattle.ap_stream.specs.declared.item.Read.{Read}
 use Rattle.ap_choose.specs.Sentences.{units, written, sentence_text}

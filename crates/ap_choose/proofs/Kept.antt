@@ -1,10 +1,9 @@
 -- The readings of units are words of lexical units, and choosing among them keeps superblanks.
-use Rattle.std.specs.Prelude.{◌≡◌, ℕ, zero, suc, pred, ◌+◌, ◌<◌, ◌≤◌, nat_lt, min, Bool, true, false, cond, List, [], ◌∷◌, ◌++◌, length, take, drop, slice_index_or, None, refl}
-use Rattle.std.specs.List.{flat_map}
+use Rattle.std.specs.Prelude.{◌≡◌, ℕ, zero, suc, pred, ◌<◌, nat_lt, Bool, true, false, cond, List, [], ◌∷◌, ◌++◌, length, take, drop, slice_index_or, None, refl}
 use Rattle.std.proofs.Common.{arith, ap, sym, subst, ◌∙◌, inl, inr}
-use Rattle.std.proofs.lemmas.Bool.{cases_lt, cases_Bool}
+use Rattle.std.proofs.lemmas.Bool.{cases_Bool}
 use Rattle.std.proofs.lemmas.Grind.{flat_map-append}
-use Rattle.std.proofs.lemmas.List.{append-nil, take-append-drop}
+use Rattle.std.proofs.lemmas.List.{take-append-drop}
 use Rattle.std.proofs.lemmas.List.Concat.{flat_map-cons}
 use Rattle.ap_symbol.specs.declared.symbol.Symbol.{Symbol}
 use Rattle.ap_stream.specs.Laws.{AreSpelt, EachSpelt, AreWords}
@@ -26,7 +25,7 @@ use Rattle.ap_stream.proofs.Rows.{IsRow, Rows, reads_rows, rows_have}
 use Rattle.ap_passes.specs.Passes.{filled_one}
 use Rattle.ap_choose.specs.Choice.{chosen_places}
 use Rattle.ap_choose.specs.declared.forbidden.Pair.{Pair}
-use Rattle.ap_choose.specs.Sentences.{readings, reading_at, is_unit, units, begins_unit, unit_part, part, left, written, sentence_length, sentence_text, sentence_step, copied, choose_step, chosen, chosen_text}
+use Rattle.ap_choose.specs.Sentences.{reading_at, is_unit, units, begins_unit, unit_part, part, left, written, sentence_length, sentence_text, sentence_step, copied, choose_step, chosen, chosen_text}
 use Rattle.ap_choose.proofs.ChooseSteps.{step_sentence, step_bare, length_is}
 
 at_spelt : (words : List (List Symbol)) (place : ℕ) → EachSpelt words →

@@ -1,11 +1,10 @@
 -- The first allowed choice is the least by the places of its readings.
-use Rattle.std.specs.Prelude.{◌≡◌, ◌≢◌, ◌⊎◌, ℕ, zero, suc, ◌+◌, ◌<◌, ◌≤◌, Bool, true, false, not, ◌&&◌, cond, List, [], ◌∷◌, ◌++◌, map, Option, Some, None, refl}
-use Rattle.std.specs.List.{filter}
+use Rattle.std.specs.Prelude.{◌≡◌, ℕ, suc, ◌≤◌, Bool, true, false, not, ◌&&◌, cond, List, [], ◌∷◌, Option, Some, None, refl}
 use Rattle.std.specs.Option.{option_map}
 use Rattle.std.proofs.Common.{arith, ap, sym, subst, ◌∙◌, inl, inr}
-use Rattle.std.proofs.lemmas.Bool.{cases_Bool, and_parts}
+use Rattle.std.proofs.lemmas.Bool.{and_parts}
 use Rattle.ap_symbol.specs.declared.symbol.Symbol.{Symbol}
-use Rattle.ap_choose.specs.Choice.{Reading, numbered, firsts, is_allowed, allowed_choice, bars}
+use Rattle.ap_choose.specs.Choice.{Reading, numbered, firsts, is_allowed, bars}
 use Rattle.ap_choose.specs.Laws.{IsOneOf, IsChoice, IsNoLater, IsLeast, LeastIsChosen, units_of}
 use Rattle.ap_choose.specs.declared.forbidden.Pair.{Pair}
 use Rattle.ap_choose.proofs.Choices.{or_option, some_or, best, best_next, attempt, tried, allowed_best}

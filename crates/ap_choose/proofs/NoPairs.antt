@@ -1,13 +1,10 @@
 -- Without forbidden pairs the first readings are chosen.
-use Rattle.std.specs.Prelude.{◌≡◌, ℕ, zero, suc, pred, ◌+◌, ◌<◌, ◌≤◌, nat_lt, Bool, true, false, not, ◌&&◌, cond, List, [], ◌∷◌, ◌++◌, length, map, take, drop, Option, Some, None, refl}
+use Rattle.std.specs.Prelude.{◌≡◌, ℕ, zero, suc, pred, ◌<◌, nat_lt, Bool, true, false, not, ◌&&◌, cond, List, [], ◌∷◌, ◌++◌, map, take, drop, Option, Some, None, refl}
 use Rattle.std.specs.List.{filter, flat_map}
 use Rattle.std.proofs.Common.{arith, ap, sym, subst, ◌∙◌, inl, inr, append_assoc}
 use Rattle.std.proofs.lemmas.Bool.{cases_Bool}
-use Rattle.std.proofs.lemmas.Grind.{flat_map-append}
-use Rattle.std.proofs.lemmas.List.{append-nil, take-append-drop}
-use Rattle.ap_symbol.specs.declared.symbol.Symbol.{Symbol}
+use Rattle.std.proofs.lemmas.List.{take-append-drop}
 use Rattle.ap_stream.specs.Each.{each, item_text, is_over}
-use Rattle.ap_stream.specs.Laws.{AreWords}
 use Rattle.ap_stream.specs.Limits.{span_max}
 use Rattle.ap_stream.specs.Reading.{reads}
 use Rattle.ap_stream.specs.Spelling.{spelled}
@@ -22,10 +19,10 @@ use Rattle.ap_stream.specs.declared.item.Read.{Read}
 use Rattle.ap_stream.proofs.EachKept.{neither}
 use Rattle.ap_stream.proofs.Rows.{IsRow, reads_rows}
 use Rattle.ap_passes.specs.Passes.{first_reading, first_pass}
-use Rattle.ap_choose.specs.Choice.{Reading, numbered, bars, bars_tags, choices, firsts, is_allowed, first_row, allowed_choice, chosen_places}
-use Rattle.ap_choose.specs.Sentences.{readings, is_unit, unit_of, units, begins_unit, part, left, written, sentence_length, sentence_text, sentence_step, copied, choose_step, chosen, chosen_text}
+use Rattle.ap_choose.specs.Choice.{Reading, bars, bars_tags, choices, firsts, is_allowed, first_row, chosen_places}
+use Rattle.ap_choose.specs.Sentences.{is_unit, unit_of, units, begins_unit, part, left, written, sentence_length, sentence_text, sentence_step, copied, choose_step, chosen, chosen_text}
 use Rattle.ap_choose.proofs.ChooseSteps.{step_sentence, step_bare}
-use Rattle.ap_choose.proofs.Kept.{AreRead, WasRead, rows_read, read_take, some_length, drop_after}
+use Rattle.ap_choose.proofs.Kept.{AreRead, rows_read, read_take, some_length, drop_after}
 
 none_barred : (a b : Option (List ℕ)) → bars_tags [] a b ≡ false
 none_barred None b = refl

@@ -1,13 +1,12 @@
 -- A line is a pair where its first space parts two names.
-use Rattle.std.specs.Prelude.{◌≡◌, ◌≢◌, ℕ, suc, ◌+◌, ◌-◌, ◌<◌, ◌≤◌, eqb, Bool, true, false, not, ◌&&◌, ◌||◌, cond, List, [], ◌∷◌, ◌++◌, length, take, drop, get_or, Option, Some, None, IfSome, IsTrue, refl, ◌==◌}
+use Rattle.std.specs.Prelude.{◌≡◌, ◌≢◌, ℕ, suc, ◌+◌, ◌<◌, ◌≤◌, eqb, Bool, true, false, not, cond, List, [], ◌∷◌, ◌++◌, length, take, drop, get_or, Option, Some, None, IfSome, refl, ◌==◌}
 use Rattle.std.specs.List.{list_any, prefix_len}
 use Rattle.std.proofs.Common.{arith, ap, sym, subst, ◌∙◌, inl, inr, length-append}
 use Rattle.std.proofs.lemmas.Bool.{and_parts, or_parts, not-true, eqb-true, cases_lt}
-use Rattle.std.proofs.lemmas.Bool.Decides.{nat_tests}
 use Rattle.std.proofs.lemmas.List.{drop_more, take-append-drop}
 use Rattle.std.proofs.Math.Seq.{take-append_seam}
 use Rattle.std.proofs.lemmas.List.Sums.{prefix_len_stops}
-use Rattle.ap_symbol.specs.TagNames.{is_reserved_lem, is_tag_name}
+use Rattle.ap_symbol.specs.TagNames.{is_reserved_lem}
 use Rattle.ap_choose.specs.declared.forbidden.Pair.{Pair}
 use Rattle.ap_choose.specs.Pairs.{is_comment, IsName, IsPair}
 

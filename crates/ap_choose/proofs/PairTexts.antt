@@ -6,7 +6,7 @@ use Rattle.std.proofs.lemmas.List.{append-nil, drop-drop, drop_all, length-drop}
 use Rattle.std.proofs.lemmas.Bool.{cases_lt}
 use Rattle.ap_stream.proofs.SignLaws.{slice_rest}
 use Rattle.ap_choose.specs.declared.forbidden.Pair.{Pair}
-use Rattle.ap_choose.specs.Pairs.{in_front, lines, Says, Say, none, next, IsBad, AreFine, IsFirstBadOf}
+use Rattle.ap_choose.specs.Pairs.{in_front, lines, Says, Say, none, next, IsBad, IsFirstBadOf}
 
 abbrev pub line_length : List ℕ → ℕ
 line_length text = prefix_len (λ b. not (eqb b 10)) text

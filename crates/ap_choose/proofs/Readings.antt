@@ -1,6 +1,6 @@
 -- The readings of a unit, by their places.
-use Rattle.std.specs.Prelude.{◌≡◌, ℕ, zero, suc, ◌+◌, Bool, true, false, List, [], ◌∷◌, slice_get, slice_index_or, drop, Option, Some, None, refl}
-use Rattle.std.proofs.Common.{arith, ap, sym, ◌∙◌}
+use Rattle.std.specs.Prelude.{◌≡◌, ℕ, zero, suc, ◌+◌, Bool, true, false, List, [], ◌∷◌, slice_get, slice_index_or, Option, Some, None, refl}
+use Rattle.std.proofs.Common.{arith, ap, ◌∙◌}
 use Rattle.ap_symbol.specs.declared.symbol.Symbol.{Symbol}
 use Rattle.ap_stream.specs.UnitBytes.{IsAt}
 use Rattle.ap_choose.specs.Sentences.{reading_at}

@@ -1,14 +1,14 @@
 -- What is written of a unit has no more bytes than the unit that was read.
-use Rattle.std.specs.Prelude.{◌≡◌, ◌⊎◌, ℕ, zero, suc, ◌+◌, ◌<◌, ◌≤◌, pred, nat_lt, Bool, true, false, not, ◌&&◌, ◌||◌, ◌==◌, cond, eqb, leb, List, [], ◌∷◌, ◌++◌, length, take, drop, slice_index_or, encode_utf8, if◌then◌else◌, refl}
-use Rattle.std.specs.List.{flat_map, AllByRecursion}
-use Rattle.std.proofs.Common.{arith, ap, sym, subst, ◌∙◌, inl, inr}
-use Rattle.std.proofs.lemmas.Bool.{cases_Bool, or_parts, eqb-true}
+use Rattle.std.specs.Prelude.{◌≡◌, ℕ, zero, suc, ◌+◌, ◌<◌, ◌≤◌, pred, Bool, true, false, not, ◌&&◌, ◌||◌, cond, eqb, leb, List, [], ◌∷◌, ◌++◌, length, take, drop, slice_index_or, encode_utf8, if◌then◌else◌, refl}
+use Rattle.std.specs.List.{AllByRecursion}
+use Rattle.std.proofs.Common.{arith, ap, sym, subst, ◌∙◌}
+use Rattle.std.proofs.lemmas.Bool.{or_parts, eqb-true}
 use Rattle.std.proofs.lemmas.Bool.Decides.{nat_tests}
 use Rattle.std.proofs.lemmas.Grind.{flat_map-append}
 use Rattle.std.proofs.lemmas.List.{length-append, length-take, append-nil}
 use Rattle.std.proofs.str.Laws.{one as one_byte}
 use Rattle.ap_symbol.specs.Rendering.{is_escaped_lem, letter_bytes, symbol_bytes, rendering}
-use Rattle.ap_symbol.specs.TextWord.{escaped_symbol, bare_symbol}
+use Rattle.ap_symbol.specs.TextWord.{bare_symbol}
 use Rattle.ap_symbol.specs.Words.{is_white}
 use Rattle.ap_symbol.specs.declared.symbol.Symbol.{Symbol}
 use Rattle.ap_symbol.specs.declared.symbol.Symbol.TheVariants as symbol
@@ -16,11 +16,11 @@ use Rattle.ap_stream.specs.Blanks.{Run, Open, Inside, BadChar, Done, blank}
 use Rattle.ap_stream.specs.Chars.{Front, Part, NotChar, Char, char_at}
 use Rattle.ap_stream.specs.Dialects.{is_refused}
 use Rattle.ap_stream.specs.Each.{is_worded}
-use Rattle.ap_stream.specs.Limits.{item_max, span_max, unit_max, stage_max}
-use Rattle.ap_stream.specs.Reading.{First, Needs, Whole, Faulty, Kind, Past, first, limited, past, at_limit, begins_blank, begins_unit, of_run, of_escaped, of_unit, of_char, IsRead}
+use Rattle.ap_stream.specs.Limits.{item_max}
+use Rattle.ap_stream.specs.Reading.{First, Needs, Whole, Faulty, Past, first, limited, past, at_limit, begins_blank, begins_unit, of_run, of_escaped, of_unit, of_char, IsRead}
 use Rattle.ap_stream.specs.Spelling.{spelled}
 use Rattle.ap_stream.specs.Steps.{bytes_of}
-use Rattle.ap_stream.specs.Units.{Name, Runs, Breaks, Stops, name, Sign, Awaits, Bars, Reads, Slash, Dollar, of_name, of_escape, of_bare, is_barred, sign, Form, form_of, in_surface, is_none, may_part, may_end, gone, Rest, Lacks, Wrong, Ends, rest, longer}
+use Rattle.ap_stream.specs.Units.{Name, Runs, Breaks, Stops, name, Sign, Awaits, Bars, Reads, Slash, Dollar, of_name, of_escape, of_bare, is_barred, sign, form_of, in_surface, is_none, may_part, may_end, gone, Rest, Lacks, Wrong, Ends, rest, longer}
 use Rattle.ap_stream.specs.declared.dialect.Dialect.TheVariants.{Analysed}
 use Rattle.ap_stream.specs.declared.fault.LimitKind.TheVariants.{ItemTooLong}
 use Rattle.ap_stream.specs.declared.fault.MalformedKind.TheVariants.{Stray, EmptyWord}
@@ -31,7 +31,7 @@ use Rattle.ap_stream.proofs.BareSpells.{bare_size}
 use Rattle.ap_stream.proofs.Encoding.{Encodes, char_encodes}
 use Rattle.ap_stream.proofs.SignLaws.{whole_fits}
 use Rattle.ap_passes.specs.Passes.{filled_one}
-use Rattle.ap_choose.specs.Sentences.{readings, reading_at, is_unit, unit_part, part, left, written}
+use Rattle.ap_choose.specs.Sentences.{readings, is_unit, unit_part, part, left, written}
 
 -- a symbol of a reading is spelled with as many bytes as it was read with, or fewer
 abbrev SignFits : Sign → Type 0

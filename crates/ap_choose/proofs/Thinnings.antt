@@ -1,7 +1,5 @@
 -- Readings and their chances, one by one; and the first allowed choice of either.
-use Rattle.std.specs.Prelude.{◌≡◌, ◌⊎◌, ℕ, suc, ◌+◌, ◌<◌, ◌≤◌, eqb, Bool, true, false, ◌||◌, cond, List, [], ◌∷◌, ◌++◌, length, map, drop, get_or, slice_get, Option, Some, None, refl}
-use Rattle.std.specs.List.{list_any}
-use Rattle.std.specs.Option.{option_map}
+use Rattle.std.specs.Prelude.{◌≡◌, ℕ, suc, ◌+◌, ◌<◌, ◌≤◌, true, List, [], ◌∷◌, ◌++◌, length, drop, get_or, Option, refl}
 use Rattle.std.proofs.Common.{arith, ap, sym, subst, ◌∙◌, inl, inr, append_assoc}
 use Rattle.std.proofs.lemmas.List.{append-nil, drop_more, drop_all}
 use Rattle.ap_symbol.specs.declared.symbol.Symbol.{Symbol}
@@ -10,7 +8,7 @@ use Rattle.ap_stream.specs.declared.item.Item.TheVariants as item
 use Rattle.ap_stream.specs.declared.item.Read.{Read}
 use Rattle.ap_choose.specs.declared.chance.Chance.{Chance}
 use Rattle.ap_choose.specs.Choice.{Reading, numbered, first_tag}
-use Rattle.ap_choose.specs.Chances.{has_number, IsChance, Thins, AreThin}
+use Rattle.ap_choose.specs.Chances.{has_number, Thins, AreThin}
 use Rattle.ap_choose.specs.Numbering.{number_of}
 use Rattle.ap_choose.specs.Sentences.{readings, unit_of, units}
 

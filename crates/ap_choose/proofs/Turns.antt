@@ -1,26 +1,23 @@
 -- A turn of choosing at work, as its state is seen.
-use Rattle.std.specs.Prelude.{◌≡◌, ◌⊎◌, ℕ, zero, suc, ◌+◌, ◌<◌, ◌≤◌, nat_lt, nat_eq, Bool, true, false, not, ◌&&◌, ◌||◌, cond, List, [], ◌∷◌, ◌++◌, drop, take, length, get_or, refl}
-use Rattle.std.specs.List.{flat_map, AllByRecursion}
+use Rattle.std.specs.Prelude.{◌≡◌, ◌⊎◌, ℕ, ◌+◌, ◌<◌, ◌≤◌, nat_lt, nat_eq, Bool, true, false, not, ◌&&◌, ◌||◌, cond, List, [], ◌∷◌, ◌++◌, drop, length, get_or, refl}
+use Rattle.std.specs.List.{AllByRecursion}
 use Rattle.std.proofs.Common.{arith, ap, sym, subst, ◌∙◌, inl, inr}
-use Rattle.std.proofs.lemmas.Bool.{cases_lt, cases_Bool}
 use Rattle.std.proofs.lemmas.Bool.Decides.{nat_tests}
 use Rattle.std.proofs.lemmas.List.{append-nil}
-use Rattle.ap_stream.specs.Limits.{span_max, unit_max, stage_max}
+use Rattle.ap_stream.specs.Limits.{span_max, stage_max}
 use Rattle.ap_stream.specs.Reading.{IsRead}
 use Rattle.ap_stream.specs.Spelling.{spelled}
-use Rattle.ap_stream.specs.Steps.{Gives, Stops, steps, bytes_of}
+use Rattle.ap_stream.specs.Steps.{Gives, steps, bytes_of}
 use Rattle.ap_stream.specs.Told.{silent, behind, ends_in}
 use Rattle.ap_stream.specs.declared.dialect.Dialect.TheVariants.{Analysed}
 use Rattle.ap_stream.specs.declared.fault.LimitKind.TheVariants.{SpanTooLong}
 use Rattle.ap_stream.specs.declared.fault.StreamFault.TheVariants.{Limit}
-use Rattle.ap_stream.specs.declared.item.Item.{Item}
-use Rattle.ap_stream.specs.declared.item.Item.TheVariants as item
 use Rattle.ap_stream.specs.declared.item.Read.{Read}
 use Rattle.ap_stream.proofs.StepLaws.{steps_none, steps_gives, steps_stops, bytes_append}
 use Rattle.ap_choose.specs.declared.forbidden.Pair.{Pair}
 use Rattle.ap_choose.specs.Sentences.{is_unit, is_last, units, sent_place, begins_unit, sentence_length, sentence_text, first_spelled, choose_step, chosen}
 use Rattle.ap_choose.specs.Choice.{chosen_places}
-use Rattle.ap_choose.specs.Works.{Choosing, IsHeld, choose_work, unit_count, is_over, span, step_length, given_text, IsFirstPlace, Wants}
+use Rattle.ap_choose.specs.Works.{Choosing, IsHeld, choose_work, unit_count, is_over, span, step_length, given_text, IsFirstPlace}
 use Rattle.ap_choose.proofs.ChooseSteps.{given_step, overlong_step, length_within, first_held, next_over, next_whole, next_count}
 use Rattle.ap_choose.proofs.Sizes.{written_size, part_size}
 

@@ -1,5 +1,5 @@
 -- The walk backwards over the units, and what the walk forwards finds.
-use Rattle.std.specs.Prelude.{◌≡◌, ℕ, suc, ◌-◌, ◌+◌, ◌<◌, ◌≤◌, Bool, true, false, List, [], ◌∷◌, ◌++◌, length, map, drop, reverse, get_or, Option, Some, None, refl}
+use Rattle.std.specs.Prelude.{◌≡◌, ℕ, suc, ◌-◌, ◌+◌, ◌<◌, ◌≤◌, Bool, true, List, [], ◌∷◌, ◌++◌, length, drop, reverse, get_or, Option, Some, None, refl}
 use Rattle.std.specs.List.{filter}
 use Rattle.std.specs.Option.{option_map}
 use Rattle.std.proofs.Common.{arith, ap, sym, ◌∙◌}
@@ -9,7 +9,7 @@ use Rattle.ap_choose.specs.Chances.{bars_chances}
 use Rattle.ap_choose.specs.Choice.{firsts, allowed_choice}
 use Rattle.ap_choose.specs.Choosing.{may_go, goes_on, viable, picked, places}
 use Rattle.ap_choose.specs.Numbering.{Numbered}
-use Rattle.ap_choose.proofs.Choices.{some_or, allowed_best, best, picked_best}
+use Rattle.ap_choose.proofs.Choices.{some_or, allowed_best, picked_best}
 
 filter_all : {X : Type 0} (xs : List X) → filter (λ _. true) xs ≡ xs
 filter_all [] = refl

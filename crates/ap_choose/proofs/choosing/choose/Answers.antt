@@ -1,4 +1,4 @@
-use Rattle.std.proofs.Common.{ap, sym, ◌∙◌}
+use Rattle.std.proofs.Common.{◌∙◌}
 use Rattle.ap_choose.proofs.Walks.{chosen_some, chosen_none}
 use Rattle.ap_choose.proofs.choosing.choose.Goals as goal
 

@@ -1,4 +1,4 @@
-use Rattle.std.proofs.Common.{◌≡◌, ◌++◌, drop, ℕ, List}
+use Rattle.std.proofs.Common.{◌≡◌, ◌++◌, drop}
 use Rattle.std.specs.Option.{option_map}
 use Rattle.ap_choose.specs.Choosing.{picked, places}
 use Rattle.ap_choose.specs.Chances.{bars_chances}

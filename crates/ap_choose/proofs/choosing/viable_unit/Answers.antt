@@ -1,4 +1,3 @@
-use Rattle.std.proofs.Common.{ap, ◌∙◌, IfOk}
 use Rattle.ap_choose.specs.Chances.{bars_chances}
 use Rattle.ap_choose.proofs.Walks.{last_unit, next_unit}
 use Rattle.ap_choose.proofs.choosing.viable_unit.Goals as goal

@@ -1,6 +1,5 @@
-use Rattle.std.proofs.Common.{◌≡◌, ◌∙◌, ◌+◌, ◌-◌, ◌≤◌, ◌<◌, ap, sym, subst, arith, refl, take, drop, length, ℕ, List, Ok}
+use Rattle.std.proofs.Common.{◌≡◌, ◌∙◌, ◌+◌, ◌-◌, ap, subst, arith, take, drop, length, ℕ, Ok}
 use Rattle.ap_stream.proofs.SignLaws.{slice_rest}
-use Rattle.ap_choose.specs.declared.forbidden.PairRefusal.TheVariants.{BadPair}
 use Rattle.ap_choose.specs.Pairs.{lines, IsFirstBadOf}
 use Rattle.ap_choose.proofs.PairTexts.{line_length, at_end, bad_here, said_last, so_far, within_text, less_text}
 use Rattle.ap_choose.proofs.reading.read_pairs.Goals as goal

@@ -1,7 +1,5 @@
-use Rattle.std.proofs.Common.{◌∙◌, List, ap, sym, refl}
+use Rattle.std.proofs.Common.{◌∙◌, ap, sym, refl}
 use Rattle.std.specs.List.{list_any}
-use Rattle.ap_symbol.specs.declared.symbol.Symbol.{Symbol}
-use Rattle.ap_stream.specs.declared.item.Item.{Item}
 use Rattle.ap_choose.specs.Sentences.{is_sent, is_last}
 use Rattle.ap_choose.proofs.Readings.{some_at}
 use Rattle.ap_choose.proofs.sentence.is_last.Goals as goal

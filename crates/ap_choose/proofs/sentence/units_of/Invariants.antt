@@ -1,4 +1,3 @@
-use Rattle.std.proofs.Common.{drop}
 use Rattle.ap_choose.proofs.Thinnings.{AreThinning}
 use Rattle.ap_choose.proofs.sentence.units_of.Given as goal
 

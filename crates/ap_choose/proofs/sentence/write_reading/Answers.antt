@@ -1,4 +1,4 @@
-use Rattle.std.proofs.Common.{◌++◌, ◌∙◌, List, ap, sym, false, subst}
+use Rattle.std.proofs.Common.{◌++◌, ◌∙◌, List, ap, sym}
 use Rattle.std.proofs.lemmas.List.{append-nil}
 use Rattle.ap_symbol.specs.declared.symbol.Symbol.{Symbol}
 use Rattle.ap_passes.specs.Passes.{filled_one}

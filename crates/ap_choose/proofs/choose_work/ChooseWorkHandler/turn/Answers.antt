@@ -1,5 +1,5 @@
-use Rattle.std.proofs.Common.{◌≡◌, ◌∙◌, ◌++◌, ◌<◌, ap, sym, subst, refl, arith, inl, inr, length, List, ℕ, []}
-use Rattle.ap_choose.specs.Works.{Choosing, given_text}
+use Rattle.std.proofs.Common.{◌≡◌, ◌∙◌, ◌++◌, ◌<◌, ap, sym, refl, arith, inr, length, List, ℕ}
+use Rattle.ap_choose.specs.Works.{Choosing}
 use Rattle.ap_choose.proofs.Turns.{turned_wrote, turned_overlong, wants_all, over_silent, begun_open}
 use Rattle.ap_stream.proofs.StepLaws.{bytes_none as none_bytes}
 use Rattle.ap_choose.proofs.choose_work.ChooseWorkHandler.turn.Goals as goal

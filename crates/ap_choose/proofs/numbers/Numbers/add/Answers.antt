@@ -1,4 +1,4 @@
-use Rattle.std.proofs.Common.{ap, sym, subst, ◌∙◌, List, ℕ}
+use Rattle.std.proofs.Common.{ap, subst, ◌∙◌, List, ℕ}
 use Rattle.indexmap.specs.IndexSet.{insert_key}
 use Rattle.ap_choose.specs.Numbering.{Numbered, IsNamed}
 use Rattle.ap_choose.proofs.Numberings.{same_pair, named, number_kept, paired}

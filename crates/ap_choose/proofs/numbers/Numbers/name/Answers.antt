@@ -1,4 +1,4 @@
-use Rattle.std.proofs.Common.{ap, sym, ◌∙◌}
+use Rattle.std.proofs.Common.{sym}
 use Rattle.ap_choose.proofs.Numberings.{named_there, named_new}
 use Rattle.ap_choose.proofs.numbers.Numbers.name.Goals as goal
 

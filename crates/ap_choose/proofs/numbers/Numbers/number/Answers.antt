@@ -1,4 +1,4 @@
-use Rattle.std.proofs.Common.{ap, sym, ◌∙◌}
+use Rattle.std.proofs.Common.{ap, ◌∙◌}
 use Rattle.ap_choose.specs.Numbering.{Numbered, number}
 use Rattle.ap_choose.proofs.Numberings.{position_number}
 use Rattle.ap_choose.proofs.numbers.Numbers.number.Goals as goal
