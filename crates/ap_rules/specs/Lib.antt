@@ -16,3 +16,4 @@ pub mod Mistakes
 pub mod Spelling
 pub mod Sentences
 pub mod Soundness
+pub mod Worded
