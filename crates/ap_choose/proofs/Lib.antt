@@ -1,0 +1,11 @@
+pub mod Choices
+pub mod Walks
+pub mod Numberings
+pub mod PairLines
+pub mod PairTexts
+pub mod Thinnings
+pub mod Readings
+pub mod ChooseSteps
+pub mod Sizes
+pub mod Fares
+pub mod Turns
