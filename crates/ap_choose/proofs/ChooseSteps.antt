@@ -180,11 +180,11 @@ sentence_settled items xs whole over = let a = sentence_grows items xs whole in 
 -- the first step
 
 module _ (pairs : List Pair) (items : List Read) where
-  step_sentence : begins_unit items ≡ true → choose_step pairs items ≡ sentence_step pairs items (sentence_length items)
+  pub step_sentence : begins_unit items ≡ true → choose_step pairs items ≡ sentence_step pairs items (sentence_length items)
   unfolding choose_step
   step_sentence e = ap (λ (b : Bool). cond b (sentence_step pairs items (sentence_length items)) (copied items)) e
 
-  step_bare : begins_unit items ≡ false → choose_step pairs items ≡ copied items
+  pub step_bare : begins_unit items ≡ false → choose_step pairs items ≡ copied items
   unfolding choose_step
   step_bare e = ap (λ (b : Bool). cond b (sentence_step pairs items (sentence_length items)) (copied items)) e
 

@@ -5,6 +5,8 @@ use Rattle.std.specs.Option.{option_map}
 use Rattle.std.proofs.Common.{ap, sym, subst, ◌∙◌, inl, inr}
 use Rattle.std.proofs.lemmas.Bool.{cases_Bool, eqb-true}
 use Rattle.std.proofs.lemmas.List.Folds.{list_any-append}
+use Rattle.ap_stream.specs.declared.item.Read.{Read}
+use Rattle.ap_choose.specs.Sentences.{units, written, sentence_text}
 use Rattle.ap_choose.specs.declared.chance.Chance.{Chance}
 use Rattle.ap_choose.specs.declared.forbidden.Pair.{Pair}
 use Rattle.ap_choose.specs.Chances.{same_number, has_number, bars_chances, IsChance, Thins, AreThin}
@@ -166,3 +168,11 @@ module _ (pairs : List Pair) (numbers : Numbered) (is : IsNumbering pairs number
       ap chance_places (allowed_best (bars_chances numbers) start_c (λ one. refl) chances)
       ∙ sym (some_fares (best (bars pairs) start units) (best (bars_chances numbers) start_c chances) (firsts units) (firsts chances) (best_fares units chances start start_c refl thin) (firsts_fare units chances thin))
       ∙ ap reading_places (sym (allowed_best (bars pairs) start (λ one. refl) units))
+
+-- so what is written of some items is their sentence
+pub sentence_is : (pairs : List Pair) (numbers : Numbered) → IsNumbering pairs numbers → (items reads : List Read) → reads ≡ items → (chances slice : List (List Chance)) → AreThin numbers.names (units reads) chances → slice ≡ chances
+    → (found picked : List ℕ) → found ≡ places (allowed_choice (bars_chances numbers) slice) → picked ≡ found → (into text : List ℕ) → into ≡ [] → text ≡ into ++ written reads picked → text ≡ sentence_text pairs items
+sentence_is pairs numbers is items reads r chances slice thin s found picked f p into text i t =
+    let all : AreThin numbers.names (units items) chances = subst (λ (q : List Read). AreThin numbers.names (units q) chances) r thin in
+    t ∙ ap (λ (q : List ℕ). q ++ written reads picked) i ∙ ap (λ (q : List Read). written q picked) r
+    ∙ ap (written items) (p ∙ f ∙ ap (λ (q : List (List Chance)). places (allowed_choice (bars_chances numbers) q)) s ∙ chosen_fares pairs numbers is (units items) chances all)

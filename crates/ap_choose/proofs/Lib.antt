@@ -9,3 +9,6 @@ pub mod ChooseSteps
 pub mod Sizes
 pub mod Fares
 pub mod Turns
+pub mod Kept
+pub mod NoPairs
+pub mod Least

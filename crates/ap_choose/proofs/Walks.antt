@@ -32,8 +32,8 @@ module _ {A : Type 0} (bars : A → A → Bool) where
       let at : length behind - 1 ≡ length units = omega (arith, long) in
       let zero : length (first ∷ units) - 1 - length units ≡ 0 = omega arith in
       let found : next ≡ first =
-          is ∙ ap (λ (q : List (List A)). get_or q (length behind - 1) next) e ∙ ap (λ (n : ℕ). get_or (reverse (first ∷ units)) n next) at
-          ∙ get_or-reverse (first ∷ units) (length units) next (omega arith) ∙ ap (λ (n : ℕ). get_or (first ∷ units) n next) zero in
+      is ∙ ap (λ (q : List (List A)). get_or q (length behind - 1) next) e ∙ ap (λ (n : ℕ). get_or (reverse (first ∷ units)) n next) at
+      ∙ get_or-reverse (first ∷ units) (length units) next (omega arith) ∙ ap (λ (n : ℕ). get_or (first ∷ units) n next) zero in
       ap (λ (q : List A). filter (λ one. may_go bars one q) unit) found
 
   -- one unit more
@@ -41,8 +41,8 @@ module _ {A : Type 0} (bars : A → A → Bool) where
       → reverse (viable bars (drop left units)) ++ filter (goes_on bars (viable bars (drop left units))) unit ∷ [] ≡ reverse (viable bars (drop (left - 1) units))
   one_more unit units left some le is =
       let cut : drop (left - 1) units ≡ unit ∷ drop left units = (
-          let next : left - 1 + 1 ≡ left = omega (arith, some) in
-          drop_here ∙ ap (λ (n : ℕ). get_or units (left - 1) unit ∷ drop n units) next ∙ ap (λ (one : List A). one ∷ drop left units) (sym is)) in
+      let next : left - 1 + 1 ≡ left = omega (arith, some) in
+      drop_here ∙ ap (λ (n : ℕ). get_or units (left - 1) unit ∷ drop n units) next ∙ ap (λ (one : List A). one ∷ drop left units) (sym is)) in
       sym (ap (λ (q : List (List A)). reverse (viable bars q)) cut ∙ reverse_push (filter (goes_on bars (viable bars (drop left units))) unit) (viable bars (drop left units)))
     where
       drop_here : drop (left - 1) units ≡ get_or units (left - 1) unit ∷ drop (left - 1 + 1) units
