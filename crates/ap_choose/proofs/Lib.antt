@@ -1,0 +1,14 @@
+pub mod Choices
+pub mod Walks
+pub mod Numberings
+pub mod PairLines
+pub mod PairTexts
+pub mod Thinnings
+pub mod Readings
+pub mod ChooseSteps
+pub mod Sizes
+pub mod Fares
+pub mod Turns
+pub mod Kept
+pub mod NoPairs
+pub mod Least

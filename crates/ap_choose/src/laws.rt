@@ -1,0 +1,27 @@
+ghost use Rattle.ap_choose.specs.Laws.{ChooseKeeps, LeastIsChosen, NoPairsFirst, ReadingReads};
+
+/// The law that `choose` keeps superblanks: where it gives a text without a fault, the superblanks of
+/// that text are those of the input, in order, whole. It is a statement alone and does nothing.
+pub fn choose_keeps_superblanks()
+    ensures { ChooseKeeps }
+{}
+
+/// The law that without forbidden pairs `choose` writes what `first` writes, where neither has a fault.
+/// It is a statement alone and does nothing.
+pub fn without_pairs_the_first_readings()
+    ensures { NoPairsFirst }
+{}
+
+/// The law that a reading of an analysed unit can be the word of a lexical unit, where it isn't empty.
+/// It is a statement alone and does nothing.
+pub fn readings_are_words()
+    ensures { ReadingReads }
+{}
+
+/// The law that the choice of a sentence is the least: it is a choice of one reading of each unit
+/// without a forbidden pair, and its places, compared as lists of numbers, come no later than those of
+/// any other such choice; and where there is none, it is the first reading of each unit. It is a
+/// statement alone and does nothing.
+pub fn the_least_choice_is_taken()
+    ensures { LeastIsChosen }
+{}
