@@ -1,9 +1,9 @@
 -- What a command gives fits what its words say. These are the only lemmas that speak of every
 -- command.
-use Rattle.std.proofs.Common.{◌≡◌, ℕ, true, List, [], ◌∷◌, ap, sym, ◌∙◌, subst, refl, Some, None}
-use Rattle.ap_tool.specs.Said.{Said, Entries, Sections, Rules}
+use Rattle.std.proofs.Common.{◌≡◌, ℕ, true, List, [], ◌∷◌, ap, sym, ◌∙◌, subst, refl, Option, Some, None}
+use Rattle.ap_tool.specs.Said.{Said, Entries, Sections, Rules, Pairs}
 use Rattle.ap_tool.specs.declared.words.Command.{Command}
-use Rattle.ap_tool.specs.declared.words.Command.TheVariants.{Proc, Expand, Comp, Trim, First, Pretransfer, TransferAlone, Transfer, Interchunk, Postchunk}
+use Rattle.ap_tool.specs.declared.words.Command.TheVariants.{Proc, Expand, Comp, Trim, First, Pretransfer, TransferAlone, Transfer, Interchunk, Postchunk, Choose}
 use Rattle.ap_tool.specs.Words.{out_of, has_stream}
 use Rattle.ap_tool.specs.Rows.{Stage, AreJoined}
 use Rattle.ap_tool.specs.Gives.{Gives, Streams, Lists, Stores, Nothing, gives_of, Making}
@@ -27,11 +27,13 @@ fits (Expand dix) (Entries d ∷ []) = lists _ refl refl
 fits (Expand dix) (Entries d ∷ c ∷ cs) = nothing refl
 fits (Expand dix) (Sections p ∷ cs) = nothing refl
 fits (Expand dix) (Rules r ∷ cs) = nothing refl
+fits (Expand dix) (Pairs ps ∷ cs) = nothing refl
 fits (Comp way dix out) [] = nothing refl
 fits (Comp way dix out) (Entries d ∷ []) = stores _ _ refl refl
 fits (Comp way dix out) (Entries d ∷ c ∷ cs) = nothing refl
 fits (Comp way dix out) (Sections p ∷ cs) = nothing refl
 fits (Comp way dix out) (Rules r ∷ cs) = nothing refl
+fits (Comp way dix out) (Pairs ps ∷ cs) = nothing refl
 fits (Trim mono bi out) [] = nothing refl
 fits (Trim mono bi out) (m ∷ []) = nothing refl
 fits (Trim mono bi out) (m ∷ b ∷ []) = stores _ _ refl refl
@@ -40,6 +42,12 @@ fits First [] = streams _ refl tt refl refl
 fits First (c ∷ cs) = nothing refl
 fits Pretransfer [] = streams _ refl tt refl refl
 fits Pretransfer (c ∷ cs) = nothing refl
+fits (Choose pairs) [] = nothing refl
+fits (Choose pairs) (Pairs ps ∷ []) = streams _ refl tt refl refl
+fits (Choose pairs) (Pairs ps ∷ c ∷ cs) = nothing refl
+fits (Choose pairs) (Entries d ∷ cs) = nothing refl
+fits (Choose pairs) (Sections p ∷ cs) = nothing refl
+fits (Choose pairs) (Rules r ∷ cs) = nothing refl
 fits (TransferAlone t1x) said = nothing refl
 fits (Transfer t1x bidix) said = nothing refl
 fits (Interchunk t2x) said = nothing refl

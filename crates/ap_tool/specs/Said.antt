@@ -1,4 +1,6 @@
 -- What a file says.
+use Rattle.std.specs.Prelude.{List}
+use Rattle.ap_choose.specs.declared.forbidden.Pair.{Pair}
 use Rattle.ap_dix.specs.declared.dictionary.Dictionary.{Dictionary}
 use Rattle.ap_fst.specs.Sections.{Parts}
 use Rattle.ap_rules.specs.Plain.{PlainRules}
@@ -10,3 +12,5 @@ pub data Said : Type 0 where
   Sections : Parts → Said
   -- the rules of a rule file
   Rules : PlainRules → Said
+  -- forbidden pairs of tags
+  Pairs : List Pair → Said

@@ -80,6 +80,15 @@ const G2: &str =
 
 const G3: &str = "<postchunk><section-rules><rule weight=\"2\"></rule></section-rules></postchunk>";
 
+/// Forbidden pairs of tags: one, two, one of two letters, and a line that is no pair.
+const K1: &str = "prn n\n";
+
+const K2: &str = "prn n\nprn vblex\n";
+
+const K3: &str = "a c";
+
+const K4: &str = "# x\na  b\n";
+
 /// A compiled file: one word, with its tag.
 const C: &str =
     "LTC1\nalphabet 65 66 97 98\nsection standard 3 2 1\n0 L97 L97 1\n1 - Tn 2\n2\nsection inconditional 1 0 0\nsection postblank 1 0 0\nsection preblank 1 0 0\nend\n";
@@ -149,6 +158,10 @@ pub(super) fn files_of(alloc: Global, number: u64) -> Result<MemFiles, Fail> {
         ("G1", G1),
         ("G2", G2),
         ("G3", G3),
+        ("K1", K1),
+        ("K2", K2),
+        ("K3", K3),
+        ("K4", K4),
         ("B", B),
         ("C", C),
         ("C1", C1),
