@@ -1,18 +1,18 @@
 -- Pairs and sets that become more, and the edges that are added meanwhile.
-use Rattle.std.proofs.Common.{◌≡◌, inl, inr, ℕ, ◌<◌, ◌≤◌, zero, suc, List, [], ◌∷◌, ◌++◌, length, refl, sym, ◌∙◌, ap, subst, arith, append_assoc, append-nil, Option, Some, None}
+use Rattle.std.proofs.Common.{◌≡◌, inl, inr, ℕ, ◌<◌, zero, suc, List, [], ◌∷◌, ◌++◌, length, refl, sym, ◌∙◌, ap, subst, arith, append_assoc, append-nil, Some}
 use Rattle.std.specs.Prelude.{slice_get, option_map}
 use Rattle.std.specs.Option.{option_to_list}
 use Rattle.std.proofs.lemmas.Bool.{cases_lt}
-use Rattle.std.proofs.lemmas.Option.{same_Some, none-some, slice_get_within}
+use Rattle.std.proofs.lemmas.Option.{same_Some, slice_get_within}
 use Rattle.ap_symbol.specs.declared.symbol.Symbol.{Symbol}
-use Rattle.ap_fst.specs.Lists.{IsIn, Ascends}
+use Rattle.ap_fst.specs.Lists.{IsIn}
 use Rattle.ap_fst.specs.Machines.{Machine}
 use Rattle.ap_fst.specs.declared.label.Label.{Label}
 use Rattle.ap_fst.specs.declared.label.Edge.{Edge}
 use Rattle.ap_trim.specs.Numbers.{HasNumber, Keeps}
 use Rattle.ap_trim.specs.Products.{HasSight, GoesOn, IsTarget, Follow, AddsOuts}
 use Rattle.ap_trim.specs.Stepping.{BeginsWith, IsGoodSight}
-use Rattle.ap_trim.specs.Watching.{Sight, kept, lemma, tags, sight_of}
+use Rattle.ap_trim.specs.Watching.{Sight, lemma, tags, sight_of}
 use Rattle.ap_trim.specs.declared.pairs.Pair.{Pair}
 use Rattle.ap_trim.specs.declared.watch.Watch.{Watch}
 use Rattle.ap_trim.specs.declared.watch.Watch.TheVariants as watch

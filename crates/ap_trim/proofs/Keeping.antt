@@ -9,16 +9,14 @@ use Rattle.ap_symbol.specs.Lists.{IsIn}
 use Rattle.ap_symbol.specs.declared.symbol.Symbol.{Symbol}
 use Rattle.ap_symbol.specs.declared.symbol.Symbol.TheVariants.{Letter, Tag, Blank, Join, Queue, Alarm, Star, At}
 use Rattle.ap_fst.specs.Machines.{Machine}
-use Rattle.ap_fst.specs.Sections.{Parts, IsSection, IsCompiled, section_of, is_plain_side, is_plain_label}
+use Rattle.ap_fst.specs.Sections.{Parts, IsSection, IsCompiled, section_of, is_plain_side}
 use Rattle.ap_fst.specs.Sides.{left_word, right_word}
 use Rattle.ap_fst.specs.Walks.{Walk, ends, goes, AcceptsLabels}
 use Rattle.ap_fst.specs.declared.compiled.Kind2.{Kind2}
 use Rattle.ap_fst.specs.declared.compiled.Kind2.TheVariants.{Standard, Inconditional, Postblank, Preblank}
 use Rattle.ap_fst.specs.declared.label.Label.{Label}
-use Rattle.ap_fst.specs.declared.label.Edge.{Edge}
 use Rattle.ap_fst.proofs.Listing.{in_from_place}
-use Rattle.ap_live.specs.Found.{has_words, outputs}
-use Rattle.ap_live.specs.Greatest.{greatest}
+use Rattle.ap_live.specs.Found.{has_words}
 use Rattle.ap_live.specs.Lexicon.{Lexicon, lexicon_of, inputs_of}
 use Rattle.ap_live.specs.Outputs.{IsOutput}
 use Rattle.ap_live.specs.Readings.{any_words}
@@ -29,7 +27,7 @@ use Rattle.ap_live.proofs.Greatest.{greatest_within, greatest_passes}
 use Rattle.ap_live.proofs.WordOrder.{some_word}
 use Rattle.ap_lookup.specs.Laws.{IsPrefix, HasNone}
 use Rattle.ap_lookup.specs.Matching.{is_match}
-use Rattle.ap_lookup.specs.Translation.{lemma_length, is_mark, is_marked, prefix, untaken, translation}
+use Rattle.ap_lookup.specs.Translation.{lemma_length, is_mark, is_marked, prefix, translation}
 use Rattle.ap_lookup.proofs.Prefixes.{no_head}
 use Rattle.ap_lookup.proofs.Translations.{translation_none}
 use Rattle.ap_trim.specs.Reading.{ReadsWhole, AcceptsAny, IsUnion}

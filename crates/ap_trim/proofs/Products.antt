@@ -1,6 +1,6 @@
 -- What is made of all pairs accepts what is kept.
-use Rattle.std.proofs.Common.{◌≡◌, inl, inr, ◌⊎◌, ℕ, ◌+◌, ◌<◌, ◌≤◌, zero, suc, true, eqb, Bool, List, [], ◌∷◌, ◌++◌, length, refl, sym, ◌∙◌, ap, subst, arith, append_assoc, append-nil, Some}
-use Rattle.std.specs.Prelude.{◌↔◌, slice_get, IsTrue}
+use Rattle.std.proofs.Common.{◌≡◌, inl, inr, ◌⊎◌, ℕ, ◌+◌, ◌<◌, ◌≤◌, true, eqb, Bool, List, [], ◌∷◌, ◌++◌, length, refl, sym, ◌∙◌, ap, subst, arith, append_assoc, append-nil, Some}
+use Rattle.std.specs.Prelude.{slice_get, IsTrue}
 use Rattle.std.specs.List.{filter}
 use Rattle.std.specs.Option.{option_to_list}
 use Rattle.std.specs.Ordering.{nat_cmp, ordering_then}
@@ -23,10 +23,10 @@ use Rattle.ap_fst.proofs.PlaceLaws.{cmp_less, cmp_same, less_from_cmp}
 use Rattle.ap_fst.proofs.Trims.{ascends_append}
 use Rattle.ap_det.specs.Determinism.{IsDeterministic}
 use Rattle.ap_det.specs.Subsets.{start_cmp}
-use Rattle.ap_trim.specs.Numbers.{HasNumber, Keeps}
-use Rattle.ap_trim.specs.Products.{HasSight, GoesOn, IsTarget, AddsOuts, IsPairEdge, LeavesTo, IsFirst, IsGoodPair, AddsFinal, added, same, IsFinalPair, AreProduct, Follow}
+use Rattle.ap_trim.specs.Numbers.{HasNumber}
+use Rattle.ap_trim.specs.Products.{HasSight, IsTarget, AddsOuts, IsPairEdge, LeavesTo, IsFirst, IsGoodPair, AddsFinal, added, same, IsFinalPair, AreProduct, Follow}
 use Rattle.ap_trim.specs.Sections.{IsKeptOf}
-use Rattle.ap_trim.specs.Stepping.{BeginsWith, IsGoodSight}
+use Rattle.ap_trim.specs.Stepping.{BeginsWith}
 use Rattle.ap_trim.specs.Watching.{Sight, sight_of, Sees, IsGood, IsKeptBy}
 use Rattle.ap_trim.specs.declared.pairs.Pair.{Pair}
 use Rattle.ap_trim.specs.declared.watch.Watch.{Watch}

@@ -1,12 +1,12 @@
 -- What is kept of a section is a section.
-use Rattle.std.proofs.Common.{◌≡◌, inl, inr, ℕ, ◌<◌, ◌≤◌, zero, suc, List, [], ◌∷◌, ◌++◌, refl, sym, ◌∙◌, ap, subst, arith}
+use Rattle.std.proofs.Common.{◌≡◌, inl, inr, ℕ, ◌<◌, zero, suc, List, [], ◌∷◌, ◌++◌, refl, sym, ◌∙◌, subst, arith}
 use Rattle.std.specs.Prelude.{◌↔◌, IsTrue}
 use Rattle.std.proofs.lemmas.Bool.{cases_eq, cases_Bool, true≢false}
 use Rattle.ap_fst.specs.Lists.{IsIn}
-use Rattle.ap_fst.specs.Machines.{Machine, IsMachine}
+use Rattle.ap_fst.specs.Machines.{Machine}
 use Rattle.ap_fst.specs.Sections.{is_plain_label, IsSection}
-use Rattle.ap_fst.specs.Silence.{HasNoEmptyCycle, HasBoundedRuns}
-use Rattle.ap_fst.specs.Trimming.{IsTrimmed, IsReached, IsFinishing}
+use Rattle.ap_fst.specs.Silence.{HasBoundedRuns}
+use Rattle.ap_fst.specs.Trimming.{IsReached, IsFinishing}
 use Rattle.ap_fst.specs.Walks.{Walk, ends, goes, AcceptsLabels}
 use Rattle.ap_fst.specs.declared.label.Label.{Label}
 use Rattle.ap_fst.specs.declared.label.Edge.{Edge}

@@ -1,8 +1,6 @@
 -- Steps from a watch to the next one.
 use Rattle.std.proofs.Common.{◌≡◌, ℕ, ◌<◌, Bool, true, false, List, [], ◌∷◌, ◌++◌, length, refl, sym, ◌∙◌, ap, subst, append-nil, Option, Some, None}
 use Rattle.std.specs.Prelude.{◌↔◌, IsTrue, slice_get, option_map}
-use Rattle.std.specs.Option.{option_to_list}
-use Rattle.std.proofs.lemmas.Bool.{true≢false}
 use Rattle.std.proofs.lemmas.Option.{same_Some, none-some, slice_get_within}
 use Rattle.ap_symbol.specs.declared.symbol.Symbol.{Symbol}
 use Rattle.ap_fst.specs.Lists.{IsIn}
@@ -15,7 +13,7 @@ use Rattle.ap_trim.specs.Products.{HasSight, GoesOn}
 use Rattle.ap_trim.specs.Reading.{AreRead, FitsTo, Quietly}
 use Rattle.ap_trim.specs.Stepping.{BeginsWith, StepsTo, GoesBehind, IsGoodSight}
 use Rattle.ap_trim.specs.Trimming.{is_joint}
-use Rattle.ap_trim.specs.Watching.{Sight, kept, lemma, tags, sight_of, Sees, IsGood}
+use Rattle.ap_trim.specs.Watching.{kept, lemma, tags, Sees, IsGood}
 use Rattle.ap_trim.specs.declared.watch.Watch.{Watch}
 use Rattle.ap_trim.specs.declared.watch.Watch.TheVariants as watch
 use Rattle.ap_trim.proofs.Lemmas.{any_front, any_back, any_neither, any_one}

@@ -1,5 +1,5 @@
 -- What drafts of the sections accept together.
-use Rattle.std.proofs.Common.{◌≡◌, inl, inr, List}
+use Rattle.std.proofs.Common.{inl, inr, List}
 use Rattle.std.specs.Prelude.{◌↔◌}
 use Rattle.ap_fst.specs.Machines.{Machine}
 use Rattle.ap_fst.specs.Paths.{Accepts, IsEither}

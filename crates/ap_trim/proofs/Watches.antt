@@ -1,5 +1,5 @@
 -- What a watch says of a word that goes on by a symbol, and of one that ends.
-use Rattle.std.proofs.Common.{◌≡◌, inl, inr, ◌⊎◌, ℕ, ◌+◌, ◌<◌, ◌≤◌, Bool, true, false, List, [], ◌∷◌, ◌++◌, length, take, refl, sym, ◌∙◌, ap, subst, arith, append_assoc, append-nil, length-append}
+use Rattle.std.proofs.Common.{◌≡◌, inl, inr, ℕ, ◌+◌, ◌≤◌, true, false, List, [], ◌∷◌, ◌++◌, length, take, sym, ◌∙◌, ap, subst, arith, append_assoc, append-nil, length-append}
 use Rattle.std.specs.Prelude.{◌↔◌}
 use Rattle.std.proofs.lemmas.Bool.{cases_lt, true≢false}
 use Rattle.std.proofs.lemmas.List.{take_all}
@@ -7,10 +7,10 @@ use Rattle.ap_symbol.specs.declared.symbol.Symbol.{Symbol}
 use Rattle.ap_fst.specs.Machines.{Machine}
 use Rattle.ap_det.specs.Subsets.{HoldsFinal}
 use Rattle.ap_lookup.specs.Translation.{lemma_length, is_tag}
-use Rattle.ap_trim.specs.Reading.{ReadsWhole, AreRead}
+use Rattle.ap_trim.specs.Reading.{ReadsWhole}
 use Rattle.ap_trim.specs.Stepping.{HasNoFront}
-use Rattle.ap_trim.specs.Trimming.{is_joint, holds_joint}
-use Rattle.ap_trim.specs.Watching.{TakesFront, IsTaken, IsKeptBy, has_tag, Sight, kept, lemma, tags, IsLemma, IsTagged, Sees, IsGood}
+use Rattle.ap_trim.specs.Trimming.{is_joint}
+use Rattle.ap_trim.specs.Watching.{IsTaken, IsKeptBy, has_tag, Sight, kept, lemma, tags, IsLemma, Sees, IsGood}
 use Rattle.ap_trim.proofs.Lemmas.{any_front, any_back, any_one, lemma_untagged, lemma_at_tag, lemma_tagged, lemma_within, take_front}
 use Rattle.ap_trim.proofs.Readings.{whole_read}
 

@@ -1,5 +1,5 @@
 -- What of a word a transducer reads, where letters fit without regard to case.
-use Rattle.std.specs.Prelude.{◌≡◌, ◌↔◌, ℕ, ◌≤◌, false, IsTrue, List, Option, Some, None, slice_get, length, take}
+use Rattle.std.specs.Prelude.{◌≡◌, ◌↔◌, ℕ, false, IsTrue, List, Option, Some, None}
 use Rattle.ap_symbol.specs.Fitting.{fits_lem, lists_fit}
 use Rattle.ap_symbol.specs.declared.symbol.Symbol.{Symbol}
 use Rattle.ap_fst.specs.Lists.{IsIn}
@@ -10,7 +10,6 @@ use Rattle.ap_fst.specs.Walks.{Walk, AcceptsLabels}
 use Rattle.ap_fst.specs.declared.compiled.Kind2.{Kind2}
 use Rattle.ap_fst.specs.declared.label.Label.{Label}
 use Rattle.ap_fst.specs.declared.label.Edge.{Edge}
-use Rattle.ap_lookup.specs.Translation.{lemma_length}
 
 -- labels whose left word fits the word lead from the start to the state
 pub record Reads (m : Machine) (word : List Symbol) (state : ℕ) : Type 0 where

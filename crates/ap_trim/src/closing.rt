@@ -20,7 +20,8 @@ fn add_states(states: &mut States, more: &[usize]) -> Result<(), Memory>
 
 /// The states to which edges from a state with an empty left side lead.
 fn quiet_targets(alloc: Global, fst: &Fst, state: usize) -> Result<Vec<usize>, Memory>
-    ensures { IfOk result (λ targets. (t : ℕ) → IsIn t targets.items ↔ LeavesBy fst.now state None t) }
+    ensures { IfOk result (λ targets. (t : ℕ) → IsIn t targets.items ↔
+        LeavesBy fst.now state None t) }
 {
     let mut targets = Vec::new(alloc);
     add_by(fst, state, None, &mut targets)?;

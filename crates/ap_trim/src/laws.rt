@@ -7,7 +7,8 @@ use ap_min::{canonical_is_least, canonical_is_one};
 
 /// What is left of an analyser is one value.
 pub fn trimmed_is_one()
-    ensures { (mono bilingual a b : Parts) → IsTrimmedBy mono bilingual a → IsTrimmedBy mono bilingual b → a ≡ b }
+    ensures { (mono bilingual a b : Parts) → IsTrimmedBy mono bilingual a →
+        IsTrimmedBy mono bilingual b → a ≡ b }
 {
     canonical_is_one();
 }
@@ -15,7 +16,8 @@ pub fn trimmed_is_one()
 /// No transducer with at most one edge per state and label that accepts what is left of a kind of
 /// section has fewer states than that section of what is left.
 pub fn trimmed_is_least()
-    ensures { (mono bilingual made : Parts) (kind : Kind2) → IsTrimmedBy mono bilingual made → IsLeastFor mono bilingual kind (section_of made kind) }
+    ensures { (mono bilingual made : Parts) (kind : Kind2) → IsTrimmedBy mono bilingual made →
+        IsLeastFor mono bilingual kind (section_of made kind) }
 {
     canonical_is_least();
 }

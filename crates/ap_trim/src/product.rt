@@ -28,7 +28,8 @@ fn add_final(
     finals: &mut Finals,
 ) -> Result<(), Memory>
     requires { HasSight sets.now pair.watch }
-    ensures { OnOk result (AddsFinal mono.now bilingual.now sets.now pair number finals.old finals.new) }
+    ensures { OnOk result (AddsFinal mono.now bilingual.now sets.now pair number finals.old
+        finals.new) }
 {
     if is_good_pair(mono, bilingual, sets, pair) {
         return finals.push(number);
@@ -48,7 +49,8 @@ fn add_out(
     edges: &mut Edges,
 ) -> Result<(), Memory>
     requires { HasSight sets.old watch }
-    ensures { OnOk result (AddsOuts bilingual.now watch from (exit.now ∷ []) sets.old sets.new pairs.old pairs.new edges.old edges.new) }
+    ensures { OnOk result (AddsOuts bilingual.now watch from (exit.now ∷ []) sets.old sets.new
+        pairs.old pairs.new edges.old edges.new) }
 {
     let watch = step(alloc, bilingual, &exit.label.right, watch, sets)?;
     let state = exit.to;
@@ -70,7 +72,8 @@ fn add_outs(
     edges: &mut Edges,
 ) -> Result<(), Memory>
     requires { HasSight sets.old watch }
-    ensures { OnOk result (AddsOuts bilingual.now watch from exits.now sets.old sets.new pairs.old pairs.new edges.old edges.new) }
+    ensures { OnOk result (AddsOuts bilingual.now watch from exits.now sets.old sets.new pairs.old
+        pairs.new edges.old edges.new) }
 {
     for exit in exits {
         add_out(alloc, bilingual, exit, watch, from, sets, pairs, edges)?;
@@ -78,9 +81,9 @@ fn add_outs(
     Ok(())
 }
 
-/// The label strings of a section of an analyser whose right word is kept. A state of the result is a
-/// state of the section with what is known of the right word; pairs are numbered in the order in which
-/// they are met, so only what is reached is there.
+/// The label strings of a section of an analyser whose right word is kept. A state of the result is
+/// a state of the section with what is known of the right word; pairs are numbered in the order in
+/// which they are met, so only what is reached is there.
 pub(crate) fn product(alloc: Global, mono: &Fst, bilingual: &Fst) -> Result<Fst, Memory>
     requires { IsDeterministic mono.now }
     ensures { IfOk result (λ made. IsKeptOf mono.now bilingual.now made) }

@@ -19,7 +19,8 @@ fn edge_at(edges: &[Edge], place: usize) -> Option<&Edge>
 
 /// Adds the state that the edge at a place enters.
 fn add_target(edges: &[Edge], place: usize, targets: &mut Vec<usize>) -> Result<(), Memory>
-    ensures { OnOk result (AddsWhere (LeadsAt (slice_get edges.now) place) targets.old.items targets.new.items) }
+    ensures { OnOk result (AddsWhere (LeadsAt (slice_get edges.now) place) targets.old.items
+        targets.new.items) }
 {
     if let Some(edge) = edge_at(edges, place) {
         targets.push(edge.to)?;
@@ -29,7 +30,8 @@ fn add_target(edges: &[Edge], place: usize, targets: &mut Vec<usize>) -> Result<
 
 /// Adds the states that the edges from low up to high enter.
 fn add_span(edges: &[Edge], low: usize, high: usize, targets: &mut Vec<usize>) -> Result<(), Memory>
-    ensures { OnOk result (AddsWhere (LeadsWithin (slice_get edges.now) low high) targets.old.items targets.new.items) }
+    ensures { OnOk result (AddsWhere (LeadsWithin (slice_get edges.now) low high) targets.old.items
+        targets.new.items) }
 {
     for place in low..high {
         add_target(edges, place, targets)?;
@@ -44,7 +46,8 @@ pub(crate) fn add_by(
     left: Option<&Symbol>,
     targets: &mut Vec<usize>,
 ) -> Result<(), Memory>
-    ensures { OnOk result (AddsWhere (LeavesBy fst.now state (option_copied left.entry)) targets.old.items targets.new.items) }
+    ensures { OnOk result (AddsWhere (LeavesBy fst.now state (option_copied left.entry))
+        targets.old.items targets.new.items) }
 {
     let (low, high) = fst.span_by(state, left);
     add_span(fst.edges(), low, high, targets)?;
@@ -72,8 +75,8 @@ fn other_case(symbol: &Symbol) -> Option<Symbol>
     }
 }
 
-/// Adds the states to which edges from a state lead whose left side fits the symbol. `other` is what
-/// fits it beside the symbol itself.
+/// Adds the states to which edges from a state lead whose left side fits the symbol. `other` is
+/// what fits it beside the symbol itself.
 fn add_fitting(
     fst: &Fst,
     state: usize,
@@ -82,7 +85,8 @@ fn add_fitting(
     targets: &mut Vec<usize>,
 ) -> Result<(), Memory>
     requires { IsOther (record { symbol = symbol.now; sensitive = false }) (option_copied other) }
-    ensures { OnOk result (AddsWhere (FitsFrom fst.now symbol.now state) targets.old.items targets.new.items) }
+    ensures { OnOk result (AddsWhere (FitsFrom fst.now symbol.now state) targets.old.items
+        targets.new.items) }
 {
     add_by(fst, state, Some(symbol), targets)?;
     match other {
@@ -103,7 +107,8 @@ fn targets_by(
     other: Option<&Symbol>,
 ) -> Result<Vec<usize>, Memory>
     requires { IsOther (record { symbol = symbol.now; sensitive = false }) (option_copied other) }
-    ensures { IfOk result (λ targets. (t : ℕ) → IsIn t targets.items ↔ FitsTo fst.now set.now symbol.now t) }
+    ensures { IfOk result (λ targets. (t : ℕ) → IsIn t targets.items ↔
+        FitsTo fst.now set.now symbol.now t) }
 {
     let mut targets = Vec::new(alloc);
     for state in set {
@@ -119,7 +124,8 @@ pub(crate) fn targets_of(
     set: &[usize],
     symbol: &Symbol,
 ) -> Result<Vec<usize>, Memory>
-    ensures { IfOk result (λ targets. (t : ℕ) → IsIn t targets.items ↔ FitsTo fst.now set.now symbol.now t) }
+    ensures { IfOk result (λ targets. (t : ℕ) → IsIn t targets.items ↔
+        FitsTo fst.now set.now symbol.now t) }
 {
     let other = other_case(symbol);
     targets_by(alloc, fst, set, symbol, other.as_ref())

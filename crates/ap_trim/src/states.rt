@@ -7,7 +7,8 @@ use indexmap::IndexSet;
 use std::alloc::Global;
 use std::marker::Model;
 
-/// States, each once, in the order in which they came. Whether a state is there is found by hashing.
+/// States, each once, in the order in which they came. Whether a state is there is found by
+/// hashing.
 #[derive(Debug, Drop)]
 pub(crate) struct States {
     states: IndexSet<usize>,

@@ -53,8 +53,8 @@ fn next_set(
     Ok(next)
 }
 
-/// A symbol more, behind which the word has a tag: it is kept from now on where what was read so far
-/// is accepted.
+/// A symbol more, behind which the word has a tag: it is kept from now on where what was read so
+/// far is accepted.
 fn step_behind(
     alloc: Global,
     fst: &Fst,
@@ -83,7 +83,8 @@ fn step_lemma(
 ) -> Result<Watch, Memory>
     requires number { number < length sets.old }
     requires unjoined { joint_test symbol.now ≡ false }
-    ensures goes { IfOk result (λ watch. GoesOn fst.now sets.new (Lemma number) watch (symbol.now ∷ [])) }
+    ensures goes { IfOk result (λ watch. GoesOn fst.now sets.new (Lemma number) watch
+        (symbol.now ∷ [])) }
     ensures keeps { IfOk result (λ watch. Keeps sets.old sets.new) }
 {
     if !is_tag(symbol) {
@@ -134,7 +135,8 @@ pub(crate) fn step(
     sets: &mut Sets,
 ) -> Result<Watch, Memory>
     requires { HasSight sets.old watch }
-    ensures goes { IfOk result (λ next. GoesOn fst.now sets.new watch next (option_to_list side.now)) }
+    ensures goes { IfOk result (λ next. GoesOn fst.now sets.new watch next
+        (option_to_list side.now)) }
     ensures keeps { IfOk result (λ next. Keeps sets.old sets.new) }
 {
     match side {

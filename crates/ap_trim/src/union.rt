@@ -11,7 +11,8 @@ use std::alloc::Global;
 
 /// A draft of a section.
 fn section_draft(alloc: Global, compiled: &Compiled, kind: Kind2) -> Result<Draft, Memory>
-    ensures { IfOk result (λ made. (labels : List Label) → Accepts made labels ↔ AcceptsLabels (section_of compiled.now kind) labels) }
+    ensures { IfOk result (λ made. (labels : List Label) → Accepts made labels ↔
+        AcceptsLabels (section_of compiled.now kind) labels) }
 {
     let draft = Draft::of(alloc, compiled.section(kind))?;
     Ok(draft)

@@ -1,7 +1,6 @@
-use Rattle.std.proofs.Common.{◌+◌, List, take, [], ◌∷◌, ◌++◌, ap, sym, ◌∙◌}
-use Rattle.std.proofs.lemmas.List.{take_more, take_all}
+use Rattle.std.proofs.Common.{◌+◌, take, [], ◌∷◌, ◌++◌, ap, sym, ◌∙◌}
+use Rattle.std.proofs.lemmas.List.{take_more}
 use Rattle.ap_fst.specs.declared.label.Edge.{Edge}
-use Rattle.ap_trim.specs.Products.{AddsOuts}
 use Rattle.ap_trim.proofs.Growths.{outs_begun, outs_then}
 use Rattle.ap_trim.proofs.product.add_outs.Goals as goal
 

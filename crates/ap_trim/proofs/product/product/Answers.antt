@@ -1,4 +1,4 @@
-use Rattle.std.proofs.Common.{arith, ◌≡◌, ◌≤◌, ℕ, List, length, subst, sym, ◌∙◌}
+use Rattle.std.proofs.Common.{arith, ◌≤◌, List, length, subst, sym}
 use Rattle.ap_fst.specs.Machines.{Machine}
 use Rattle.ap_fst.specs.declared.label.Edge.{Edge}
 use Rattle.ap_trim.specs.Products.{AddsOuts}
