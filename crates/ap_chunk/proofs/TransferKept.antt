@@ -180,13 +180,21 @@ unknown_end : AreNamed (111 ∷ 119 ∷ 110 ∷ [])
 unknown_end = (inl (omega arith), refl, (inl (omega arith), refl, (inl (omega arith), refl, tt)))
 
 unknown_named : AreNamed (117 ∷ 110 ∷ 107 ∷ 110 ∷ 111 ∷ 119 ∷ 110 ∷ [])
-unknown_named = (inl (omega arith), refl, (inl (omega arith), refl, (inl (omega arith), refl, (inl (omega arith), refl, unknown_end))))
+unknown_named = (
+  inl (omega arith),
+  refl,
+  (inl (omega arith), refl, (inl (omega arith), refl, (inl (omega arith), refl, unknown_end))),
+)
 
 default_end : AreNamed (117 ∷ 108 ∷ 116 ∷ [])
 default_end = (inl (omega arith), refl, (inl (omega arith), refl, (inl (omega arith), refl, tt)))
 
 default_named : AreNamed (100 ∷ 101 ∷ 102 ∷ 97 ∷ 117 ∷ 108 ∷ 116 ∷ [])
-default_named = (inl (omega arith), refl, (inl (omega arith), refl, (inl (omega arith), refl, (inl (omega arith), refl, default_end))))
+default_named = (
+  inl (omega arith),
+  refl,
+  (inl (omega arith), refl, (inl (omega arith), refl, (inl (omega arith), refl, default_end))),
+)
 
 unknown_tag : AreSpelt false (Tag (codes "unknown") ∷ [])
 unfolding lib.Utf8.encode
@@ -197,15 +205,33 @@ unfolding lib.Utf8.encode
 default_tag = ((refl, (codes "default", refl, default_named, omega arith)), tt)
 
 unknown_rest : AreSpelt false (Letter 111 ∷ Letter 119 ∷ Letter 110 ∷ Tag (codes "unknown") ∷ [])
-unknown_rest = ((inl (omega arith), refl), ((inl (omega arith), refl), ((inl (omega arith), refl), unknown_tag)))
+unknown_rest = (
+  (inl (omega arith), refl),
+  ((inl (omega arith), refl), ((inl (omega arith), refl), unknown_tag)),
+)
 
 default_rest : AreSpelt false (Letter 117 ∷ Letter 108 ∷ Letter 116 ∷ Tag (codes "default") ∷ [])
-default_rest = ((inl (omega arith), refl), ((inl (omega arith), refl), ((inl (omega arith), refl), default_tag)))
+default_rest = (
+  (inl (omega arith), refl),
+  ((inl (omega arith), refl), ((inl (omega arith), refl), default_tag)),
+)
 
 name_spelt : (v : Bool) → AreSpelt false (fallback_name v)
 unfolding fallback_name
-name_spelt true = ((inl (omega arith), refl), ((inl (omega arith), refl), ((inl (omega arith), refl), ((inl (omega arith), refl), unknown_rest))))
-name_spelt false = ((inl (omega arith), refl), ((inl (omega arith), refl), ((inl (omega arith), refl), ((inl (omega arith), refl), default_rest))))
+name_spelt true = (
+  (inl (omega arith), refl),
+  (
+    (inl (omega arith), refl),
+    ((inl (omega arith), refl), ((inl (omega arith), refl), unknown_rest)),
+  ),
+)
+name_spelt false = (
+  (inl (omega arith), refl),
+  (
+    (inl (omega arith), refl),
+    ((inl (omega arith), refl), ((inl (omega arith), refl), default_rest)),
+  ),
+)
 
 part_bytes : (word : List Symbol) → lone_unit word ≡ flat_map inner_bytes (lone_part word)
 unfolding lone_part

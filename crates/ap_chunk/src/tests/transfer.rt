@@ -37,10 +37,10 @@ pub(crate) fn run<S: Stage>(
 {
     let mut pipe = Pipe::new(alloc, 64)?;
     let mut out = Bytes::new(alloc);
-    let mut at: usize = 0;
+    let mut rest = text;
     'pieces: for _turn in 0..400 {
-        let end = text.len().min(at.saturating_add(size));
-        at += stage.take(&text[at..end])?;
+        let used = stage.take(&rest[..rest.len().min(size)])?;
+        rest = &rest[used..];
         gather(stage, &mut pipe, &mut out)?;
     }
     for _turn in 0..20 {
