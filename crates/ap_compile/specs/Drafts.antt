@@ -41,11 +41,11 @@ pub record Any {X : Type 0} (Q : X → List EntryLabel → Type 0) (items : List
 
 -- one entry, which is kept, with this part alone
 pub record IsRenamed (direction : Direction) (entries : List Entry) (part : EntryPart) : Type 0
-    where
-  pub entry : Entry
-  pub alone : entries ≡ entry ∷ []
-  pub kept : IsTrue (is_kept direction entry)
-  pub parts : entry.parts ≡ part ∷ []
+  where
+    pub entry : Entry
+    pub alone : entries ≡ entry ∷ []
+    pub kept : IsTrue (is_kept direction entry)
+    pub parts : entry.parts ≡ part ∷ []
 
 -- the entry is kept and derives the labels
 pub record Spells (d : Dictionary) (direction : Direction) (entry : Entry)

@@ -126,9 +126,11 @@ pub copied_is : (items slice : List Read) (d : Read) (before after : List ℕ) �
 copied_is [] slice d before after e some is = absurd (omega arith)
 copied_is (read ∷ reads) slice d before after e some is =
     let first : (get_or slice 0 d).item ≡ read.item =
-    ap (λ (z : List Read). (get_or z 0 d).item) e in
-    (spelled read.item, ap (Gives 1) (append-nil (spelled read.item)),
-    is ∙ ap (λ (t : Item). before ++ spelled t) first)
+    ap (λ (z : List Read). (get_or z 0 d).item) e in (
+      spelled read.item,
+      ap (Gives 1) (append-nil (spelled read.item)),
+      is ∙ ap (λ (t : Item). before ++ spelled t) first,
+    )
 
 module _ (lexicon : Lexicon) (items slice : List Read) (same : slice ≡ items)
     (alarm : begins_alarm items ≡ true) where
