@@ -13,14 +13,24 @@ const SWAP: &str =
 
 fn turned(alloc: Global, text: &str, size: usize) -> Result<Bytes, Fail> {
     let rules = read_rules(alloc, TURN.as_bytes(), Form::Interchunk)?;
-    let mut stage = Interchunk::new(alloc, rules)?;
-    Ok(run(alloc, &mut stage, text.as_bytes(), size)?)
+    match rules.form {
+        Form::Interchunk => {
+            let mut stage = Interchunk::new(alloc, rules)?;
+            Ok(run(alloc, &mut stage, text.as_bytes(), size)?)
+        }
+        Form::Transfer | Form::Postchunk => Ok(Bytes::new(alloc)),
+    }
 }
 
 fn swapped(alloc: Global, text: &str, size: usize) -> Result<Bytes, Fail> {
     let rules = read_rules(alloc, SWAP.as_bytes(), Form::Postchunk)?;
-    let mut stage = Postchunk::new(alloc, rules)?;
-    Ok(run(alloc, &mut stage, text.as_bytes(), size)?)
+    match rules.form {
+        Form::Postchunk => {
+            let mut stage = Postchunk::new(alloc, rules)?;
+            Ok(run(alloc, &mut stage, text.as_bytes(), size)?)
+        }
+        Form::Transfer | Form::Interchunk => Ok(Bytes::new(alloc)),
+    }
 }
 
 #[test]

@@ -54,8 +54,13 @@ pub(crate) fn run<S: Stage>(
 
 fn transferred(alloc: Global, rules: &str, text: &str, size: usize) -> Result<Bytes, Fail> {
     let read = read_rules(alloc, rules.as_bytes(), Form::Transfer)?;
-    let mut stage = Transfer::new(alloc, read)?;
-    Ok(run(alloc, &mut stage, text.as_bytes(), size)?)
+    match read.form {
+        Form::Transfer => {
+            let mut stage = Transfer::new(alloc, read)?;
+            Ok(run(alloc, &mut stage, text.as_bytes(), size)?)
+        }
+        Form::Interchunk | Form::Postchunk => Ok(Bytes::new(alloc)),
+    }
 }
 
 #[test]
