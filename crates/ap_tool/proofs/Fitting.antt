@@ -1,6 +1,6 @@
 -- What a command gives fits what its words say. These are the only lemmas that speak of every
 -- command.
-use Rattle.std.proofs.Common.{◌≡◌, ℕ, true, List, [], ◌∷◌, ap, sym, ◌∙◌, subst, refl, Option, Some, None}
+use Rattle.std.proofs.Common.{◌≡◌, ℕ, true, List, [], ◌∷◌, ap, sym, ◌∙◌, subst, refl, Some, None}
 use Rattle.ap_tool.specs.Said.{Said, Entries, Sections, Rules, Pairs}
 use Rattle.ap_tool.specs.declared.words.Command.{Command}
 use Rattle.ap_tool.specs.declared.words.Command.TheVariants.{Proc, Expand, Comp, Trim, First, Pretransfer, TransferAlone, Transfer, Interchunk, Postchunk, Choose}

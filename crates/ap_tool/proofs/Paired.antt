@@ -1,5 +1,5 @@
 -- A text says one list of forbidden pairs, or has one first bad line.
-use Rattle.std.proofs.Common.{◌≡◌, ℕ, suc, Bool, true, false, List, [], ◌∷◌, ◌++◌, length, ap, sym, ◌∙◌, subst, refl, inl, inr}
+use Rattle.std.proofs.Common.{◌≡◌, ℕ, suc, true, false, List, [], ◌∷◌, ◌++◌, length, ap, sym, ◌∙◌, subst, refl, inl, inr}
 use Rattle.std.specs.Prelude.{eqb, not}
 use Rattle.std.specs.List.{prefix_len}
 use Rattle.ap_choose.specs.declared.forbidden.Pair.{Pair}

@@ -1,5 +1,5 @@
 -- What is left of an analyser is one value, by what the two files say.
-use Rattle.std.proofs.Common.{◌≡◌, List, sym, ◌∙◌, subst, refl}
+use Rattle.std.proofs.Common.{◌≡◌, sym, ◌∙◌, subst, refl}
 use Rattle.ap_dix.specs.declared.dictionary.Dictionary.{Dictionary}
 use Rattle.ap_dix.specs.declared.dictionary.Direction.{Direction}
 use Rattle.ap_fst.specs.Sections.{Parts}
