@@ -342,7 +342,8 @@ module _ (items : List Read) (read : Read) (some : 0 < length items) (going : is
     begun : begins_unit items ≡ true
     begun = by items some going
       where
-        by : (items : List Read) → 0 < length items → is_over items ≡ false → begins_unit items ≡ true
+        by : (items : List Read) → 0 < length items → is_over items ≡ false →
+            begins_unit items ≡ true
         by [] some e = absurd (omega arith)
         by (first ∷ items) some e = unit (is_unit first.item) e
           where
@@ -397,7 +398,8 @@ module _ (items : List Read) (read : Read) (some : 0 < length items) (going : is
     next_over =
         let l = length-append items (read ∷ []) in
         let n : length (items ++ read ∷ []) ≡ suc (length items) = omega (arith, l) in
-        ap (λ (b : Bool). b || nat_lt 999 (unit_count (items ++ read ∷ []))) (last (is_last read.item)
+        ap (λ (b : Bool). b || nat_lt 999 (unit_count (items ++ read ∷ [])))
+        (last (is_last read.item)
         ∙ ap (λ (k : ℕ). nat_lt k (suc (length items))) (sym (sent_push items read sent_end))
         ∙ ap (nat_lt (sent_place (items ++ read ∷ []))) (sym n))
         ∙ over items some begun

@@ -56,7 +56,8 @@ module _ (names : List (List ℕ)) (words : List (List Symbol)) (at : ℕ) (foun
     thin_kept new n = record {
       on = λ more k.
           let chance : Chance = record { place = at; tag = tag } in
-          let on : Thins names (found ++ chance ∷ []) (numbered (at + 1) (drop (at + 1) words)) more =
+          let on : Thins names (found ++ chance ∷ []) (numbered (at + 1) (drop (at + 1) words))
+          more =
           subst (λ (f : List Chance). Thins names f (numbered (at + 1) (drop (at + 1) words))
           more) n k in
           subst (Thins names [] (numbered 0 words)) (sym (append_assoc found (chance ∷ []) more)
@@ -105,5 +106,6 @@ module _ (names : List (List ℕ)) (items : List Read) (at : ℕ) (found : List 
   other_more e = record {
     on =
         λ more j. h.on more (subst (λ (us : List (List Reading)). AreThin names us more)
-        (sym (next_units ∙ ap (λ (us : List (List Reading)). us ++ units (drop (at + 1) items)) e)) j);
+        (sym (next_units
+        ∙ ap (λ (us : List (List Reading)). us ++ units (drop (at + 1) items)) e)) j);
   }

@@ -12,7 +12,8 @@ use std::str;
 
 /// The tag name that the bytes are.
 fn name_of(alloc: Global, bytes: &[u8]) -> Result<Option<TagName>, Memory>
-    ensures some { IfOk result (λ made. IfSome made (λ name. (name ≡ bytes.now) × IsName bytes.now)) }
+    ensures some { IfOk result (λ made. IfSome made (λ name. (name ≡ bytes.now)
+        × IsName bytes.now)) }
     ensures none { result ≡ Ok None → IsName bytes.now → ⊥ }
 {
     match str::from_utf8(bytes) {
