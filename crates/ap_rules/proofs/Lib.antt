@@ -10,3 +10,7 @@ pub mod OwnFaults
 pub mod RuleLaws
 pub mod Sound
 pub mod SectionsSound
+pub mod WordsMade
+pub mod TreeCharacters
+pub mod WordedValues
+pub mod WordedRules

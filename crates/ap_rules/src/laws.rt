@@ -3,6 +3,7 @@ ghost use Rattle.ap_rules.specs.Plain.{PlainRules};
 ghost use Rattle.ap_rules.specs.Sentences.{SpellsRules, IsRefusedFor};
 ghost use Rattle.ap_rules.specs.Soundness.{IsSound};
 ghost use Rattle.ap_rules.specs.Spelling.{Spells, IsFirstFault};
+ghost use Rattle.ap_rules.specs.Worded.{AreWorded};
 ghost use Rattle.ap_rules.specs.declared.refusal.RuleFault.{RuleFault};
 ghost use Rattle.ap_rules.specs.declared.rules.Form.{Form};
 
@@ -46,4 +47,9 @@ pub fn spells_without_fault()
 /// What a text spells is sound.
 pub fn spells_is_sound()
     ensures { (form : Form) (text : List ℕ) (r : PlainRules) → Spells form text r → IsSound r }
+{}
+
+/// The words of what a text spells are words of the program.
+pub fn spells_words()
+    ensures { (form : Form) (text : List ℕ) (r : PlainRules) → Spells form text r → AreWorded r }
 {}
