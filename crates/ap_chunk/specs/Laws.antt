@@ -6,7 +6,7 @@ use Rattle.ap_symbol.specs.Words.{AreProper}
 use Rattle.ap_symbol.specs.declared.symbol.Symbol.{Symbol}
 use Rattle.ap_stream.specs.Laws.{AreSpelt, EachSpelt}
 use Rattle.ap_stream.specs.Pieces.{HaveSameSuperblanks}
-use Rattle.ap_stream.specs.Told.{Clean}
+use Rattle.ap_stream.specs.Told.{Ending, Clean}
 use Rattle.ap_stream.specs.declared.dialect.Dialect.{Dialect}
 use Rattle.ap_stream.specs.declared.dialect.Dialect.TheVariants.{Bilingual, Lexical, Chunked}
 use Rattle.ap_rules.specs.Views.{plain_rules}
@@ -23,7 +23,7 @@ use Rattle.ap_exec.specs.declared.template.Atom.TheVariants.{Unit as The_unit, S
 use Rattle.ap_exec.specs.declared.template.Piece.{Piece}
 use Rattle.ap_exec.specs.declared.template.Piece.TheVariants.{Atom as The_atom, Chunk}
 use Rattle.ap_chunk.specs.Carrying.{Held}
-use Rattle.ap_chunk.specs.Stages.{transferred_text}
+use Rattle.ap_chunk.specs.Stages.{transferred_text, interchunked_text, postchunked_text}
 
 -- the words of a unit of transfer can be written
 pub record IsSpeltUnit (unit : MatchedUnit) : Type 0 where
@@ -74,3 +74,10 @@ TransferKeeps = (rules : Rules) (text : List ℕ) → rules.form ≡ Transfer �
     → (transferred_text rules text Clean).fault ≡ None →
     HaveSameSuperblanks Bilingual (given_dialect rules.default) text
     (transferred_text rules text Clean).text
+
+-- what the stages give depends on the plain rules alone
+abbrev pub PlainRulesDecide : Type 0
+PlainRulesDecide = (r s : Rules) (text : List ℕ) (ending : Ending) → plain_rules r ≡ plain_rules s →
+    (transferred_text r text ending ≡ transferred_text s text ending)
+    × (interchunked_text r text ending ≡ interchunked_text s text ending)
+    × (postchunked_text r text ending ≡ postchunked_text s text ending)

@@ -1,5 +1,5 @@
 ghost use Rattle.ap_chunk.specs.Going.{GoesOnAlike, OneIsChosen, TriesAll};
-ghost use Rattle.ap_chunk.specs.Laws.{TransferKeeps};
+ghost use Rattle.ap_chunk.specs.Laws.{PlainRulesDecide, TransferKeeps};
 ghost use Rattle.ap_chunk.specs.Rows.{RowsTell};
 
 /// The law that going on unit by unit, from the places in patterns that fit so far, chooses what
@@ -32,4 +32,10 @@ pub fn rows_tell()
 /// order, whole. It is a statement alone and does nothing.
 pub fn transfer_keeps_superblanks()
     ensures { TransferKeeps }
+{}
+
+/// The law that what the stages give depends on the plain rules alone, which is all that a rule
+/// file says. It is a statement alone and does nothing.
+pub fn plain_rules_decide()
+    ensures { PlainRulesDecide }
 {}
