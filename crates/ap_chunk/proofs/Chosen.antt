@@ -113,7 +113,7 @@ longer patterns rule units more n f =
           fits_longer f.pattern units more f.fit;
     }
 
-within : (patterns : List (List ℕ)) (rule : ℕ) (units : List (ℕ → Bool)) (n : ℕ) →
+pub within : (patterns : List (List ℕ)) (rule : ℕ) (units : List (ℕ → Bool)) (n : ℕ) →
     RuleFits patterns rule units n → n ≤ length units
 within patterns rule units n f = let size : n ≡ length f.pattern = f.size in
     let le : length f.pattern ≤ length units = fits_length f.pattern units f.fit in
@@ -252,7 +252,8 @@ pub over_opens : (patterns : List (List ℕ)) (units : List (ℕ → Bool)) (rul
 over_opens patterns units rule h =
     over_opens_at patterns units rule (slice_get patterns rule) refl h
 
-opens_none : (patterns : List (List ℕ)) (units : List (ℕ → Bool)) → (SomeLive patterns units → ⊥) →
+pub opens_none : (patterns : List (List ℕ)) (units : List (ℕ → Bool)) →
+    (SomeLive patterns units → ⊥) →
     IsLeast (is_over patterns units) None → SomeOpens patterns units → ⊥
 opens_none patterns units dead none s = elim (opens_parts s.pattern units s.fit) [
   | inl g ↦ dead (record { rule = s.rule; live = ap (of_rule (λ p. goes_on p units)) s.at ∙ g })

@@ -8,3 +8,13 @@ pub mod Chosen
 pub mod Going
 pub mod Tried
 pub mod RowLaws
+mod Walks
+mod Carried
+mod ChunkSteps
+mod Fronts
+mod Turns
+mod UnitWords
+mod Firsts
+mod ChunkWords
+mod FilledKept
+mod TransferKept

@@ -6,3 +6,12 @@ pub mod Choice
 pub mod Live
 pub mod Going
 pub mod Rows
+pub mod Carrying
+pub mod Parts
+pub mod Chunks
+pub mod Matches
+pub mod Unmatched
+pub mod Stages
+pub mod Searching
+pub mod Working
+pub mod Laws

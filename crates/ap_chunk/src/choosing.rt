@@ -116,7 +116,7 @@ impl Choosing {
 
     /// What is chosen after one more unit: where a pattern is over there, its rule, and else what
     /// was chosen before.
-    fn better(&self, before: Option<Choice>) -> Option<Choice>
+    pub(crate) fn better(&self, before: Option<Choice>) -> Option<Choice>
         ensures more { (units : List (ℕ → Bool)) (u : ℕ → Bool) → Stands self.now (units ++ u ∷ [])
             → IsChosen self.now.patterns units before →
             IsChosen self.now.patterns (units ++ u ∷ []) result }

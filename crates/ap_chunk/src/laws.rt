@@ -1,4 +1,5 @@
 ghost use Rattle.ap_chunk.specs.Going.{GoesOnAlike, OneIsChosen, TriesAll};
+ghost use Rattle.ap_chunk.specs.Laws.{TransferKeeps};
 ghost use Rattle.ap_chunk.specs.Rows.{RowsTell};
 
 /// The law that going on unit by unit, from the places in patterns that fit so far, chooses what
@@ -23,4 +24,11 @@ pub fn one_is_chosen()
 /// others. It is a statement alone and does nothing.
 pub fn rows_tell()
     ensures { RowsTell }
+{}
+
+/// The law that transfer with units as the default keeps superblanks, by rules that give units alone
+/// whose words can be written: where it gives a text without a fault, the superblanks of that text
+/// are those of the input, in order, whole. It is a statement alone and does nothing.
+pub fn transfer_keeps_superblanks()
+    ensures { TransferKeeps }
 {}

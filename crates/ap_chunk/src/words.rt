@@ -6,7 +6,7 @@ ghost use Rattle.ap_chunk.specs.Tests.{first_tag, division};
 
 use ap_symbol::{Symbol, fits};
 
-fn is_tag(symbol: &Symbol) -> bool
+pub(crate) fn is_tag(symbol: &Symbol) -> bool
     ensures { result ≡ is_tag symbol.now }
 {
     matches!(symbol, Symbol::Tag(_))
@@ -23,7 +23,7 @@ fn is_marked(word: &[Symbol]) -> bool
 }
 
 /// The place of the first tag, counted from 0; the number of symbols where there is none.
-fn first_tag(word: &[Symbol]) -> usize
+pub(crate) fn first_tag(word: &[Symbol]) -> usize
     ensures value { result ≡ first_tag word.now }
     ensures within { result ≤ length word.now }
 {

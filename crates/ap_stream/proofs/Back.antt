@@ -21,7 +21,7 @@ use Rattle.ap_stream.specs.declared.item.Item.TheVariants as item
 use Rattle.ap_stream.specs.Dialects.{has_words}
 use Rattle.ap_stream.specs.Chars.{Front, Part, NotChar, Char, char_at, tail2, tail3, tail4, is_tail, is_second}
 use Rattle.ap_stream.specs.Units.{Form, form_of, Name, Stops, behind_name, name, name_char, Sign, Reads, sign, sign_bare, sign_escape, sign_tag, of_bare, of_name, bare_of, is_barred, first_is, in_surface, is_none, may_part, may_end, Rest, Lacks, Wrong, Ends, rest, longer, longer_longer, longer_zero, rest_symbol, rest_slash, rest_dollar}
-use Rattle.ap_stream.specs.InUnits.{first_words}
+use Rattle.ap_stream.specs.InUnits.{first_words, words_brace}
 use Rattle.ap_stream.specs.Reading.{First, Whole, first, of_unit}
 use Rattle.ap_stream.specs.Spelling.{unit_bytes, joined, slashed}
 use Rattle.ap_symbol.specs.Coded.{AreNamed}
@@ -299,7 +299,7 @@ some_symbol surface symbol.Star h = omega arith
 some_symbol surface symbol.At h = omega arith
 
 -- a word
-word_back : (form : Form) (words : List (List Symbol)) (word more : List Symbol) (x : List ℕ) →
+pub word_back : (form : Form) (words : List (List Symbol)) (word more : List Symbol) (x : List ℕ) →
     AreSpelt (in_surface form words) more →
     rest form words word 0 (rendering more ++ x)
     ≡ longer (length (rendering more)) (rest form words (word ++ more) 0 x)
@@ -342,12 +342,12 @@ may_go several part r u v e f = rw (e, f) refl
 
 -- the words behind the first
 later_back : (form : Form) (words : List (List Symbol)) (word : List Symbol)
-    (more : List (List Symbol)) (x : List ℕ) → form.several ≡ true → is_none words ≡ false →
-    EachSpelt more →
+    (more : List (List Symbol)) (x : List ℕ) → form.braced ≡ false → form.several ≡ true →
+    is_none words ≡ false → EachSpelt more →
     rest form words word 0 (flat_map slashed more ++ 36 ∷ x)
     ≡ Ends (words ++ word ∷ more) (length (flat_map slashed more) + 1)
-later_back form words word [] x s n h = rest_dollar form words word x ∙ rw (s, n) refl
-later_back form words word (w ∷ more) x s n h =
+later_back form words word [] x b s n h = rest_dollar form words word x ∙ rw (b, s, n) refl
+later_back form words word (w ∷ more) x b s n h =
     let tail : List ℕ = flat_map slashed more ++ 36 ∷ x in
     let part : may_part words word ≡ true = rw n refl in
     let spelt : AreSpelt (in_surface form (words ++ word ∷ [])) w =
@@ -359,7 +359,7 @@ later_back form words word (w ∷ more) x s n h =
     (Ends ((words ++ word ∷ []) ++ w ∷ more) (length (flat_map slashed more) + 1)) =
     word_back form (words ++ word ∷ []) [] w (flat_map slashed more ++ 36 ∷ x) spelt
     ∙ ap (longer (length (rendering w)))
-    (later_back form (words ++ word ∷ []) w more x s (none_after words word) h.1) in
+    (later_back form (words ++ word ∷ []) w more x b s (none_after words word) h.1) in
     let size : 1 + (length (rendering w) + (length (flat_map slashed more) + 1))
     ≡ length (flat_map slashed (w ∷ more)) + 1 =
     let l = ap length (flat_map-cons slashed w more)
@@ -385,12 +385,12 @@ some_is (s ∷ word) h = refl
 
 -- from the end of the first word on
 behind_first : (form : Form) (word : List Symbol) (more : List (List Symbol)) (x : List ℕ) →
-    0 < length word → EachSpelt more → AreAsMany form.several more →
+    form.braced ≡ false → 0 < length word → EachSpelt more → AreAsMany form.several more →
     rest form [] word 0 (flat_map slashed more ++ 36 ∷ x)
     ≡ Ends (word ∷ more) (length (flat_map slashed more) + 1)
-behind_first form word [] x some h many = rest_dollar form [] word x
-    ∙ rw (many, some_is word some) refl
-behind_first form word (w ∷ more) x some h many =
+behind_first form word [] x b some h many = rest_dollar form [] word x
+    ∙ rw (b, many, some_is word some) refl
+behind_first form word (w ∷ more) x b some h many =
     let part : may_part [] word ≡ true = rw (some_is word some) refl in
     let spelt : AreSpelt (in_surface form (word ∷ [])) w =
     subst (λ v. AreSpelt v w) (sym (not_surface form (word ∷ []) refl)) h.0 in
@@ -398,7 +398,7 @@ behind_first form word (w ∷ more) x some h many =
     ≡ longer (length (rendering w))
     (Ends (word ∷ w ∷ more) (length (flat_map slashed more) + 1)) =
     word_back form (word ∷ []) [] w (flat_map slashed more ++ 36 ∷ x) spelt
-    ∙ ap (longer (length (rendering w))) (later_back form (word ∷ []) w more x many refl h.1) in
+    ∙ ap (longer (length (rendering w))) (later_back form (word ∷ []) w more x b many refl h.1) in
     let size : 1 + (length (rendering w) + (length (flat_map slashed more) + 1))
     ≡ length (flat_map slashed (w ∷ more)) + 1 =
     let l = ap length (flat_map-cons slashed w more)
@@ -424,7 +424,8 @@ unit_back dialect (word ∷ more) x h =
     (Ends (word ∷ more) (length (flat_map slashed more) + 1)) =
     word_back (form_of dialect) [] [] word (flat_map slashed more ++ 36 ∷ x) spelt
     ∙ ap (longer (length (rendering word)))
-    (behind_first (form_of dialect) word more x h.1 h.3 h.4) in
+    (behind_first (form_of dialect) word more x
+    (words_brace dialect h.0) h.1 h.3 h.4) in
     let size : 1 + (length (rendering word) + (length (flat_map slashed more) + 1))
     ≡ length (unit_bytes (word ∷ more)) =
     let l = length-append (joined (word ∷ more)) (36 ∷ []) in let k =

@@ -3,20 +3,23 @@ use Rattle.std.specs.Prelude.{◌≡◌, ℕ, suc, ◌+◌, ◌<◌, ◌≤◌, 
 use Rattle.std.proofs.Common.{arith, ap, sym, ◌∙◌}
 use Rattle.std.proofs.lemmas.Bool.{eqb-true}
 use Rattle.std.proofs.lemmas.List.{length-take}
+use Rattle.ap_symbol.specs.declared.symbol.Symbol.{Symbol}
 use Rattle.ap_stream.specs.Limits.{item_max}
 use Rattle.ap_stream.specs.declared.dialect.Dialect.{Dialect}
 use Rattle.ap_stream.specs.declared.item.Item.{Item}
 use Rattle.ap_stream.specs.declared.item.Item.TheVariants as item
 use Rattle.ap_stream.specs.declared.item.Read.{Read}
-use Rattle.ap_stream.specs.Dialects.{is_refused}
+use Rattle.ap_stream.specs.Dialects.{is_refused, has_chunks, has_units}
 use Rattle.ap_stream.specs.Each.{is_worded}
 use Rattle.ap_stream.specs.Units.{Rest, Lacks, Wrong, Ends, rest, form_of}
 use Rattle.ap_stream.specs.Chars.{Front, Part, NotChar, Char, char_at}
-use Rattle.ap_stream.specs.Blanks.{Run, Open, Inside, BadChar, Done, blank}
+use Rattle.ap_stream.specs.Blanks.{Run, Open, Inside, BadChar, Done, blank, begins_blank}
 use Rattle.ap_stream.proofs.Encoding.{Encodes, char_encodes}
-use Rattle.ap_stream.specs.Reading.{First, Needs, Whole, Faulty, Kind, Past, first, limited, past, at_limit, begins_blank, of_run, of_escaped, of_char, plain, IsRead, of_unit, begins_unit}
+use Rattle.ap_stream.specs.Reading.{First, Needs, Whole, Faulty, Kind, Past, first, limited, past, at_limit, of_run, of_escaped, of_char, plain, IsRead, of_unit, begins_unit, of_body, of_chunk, of_caret, name_in}
 use Rattle.ap_stream.specs.declared.fault.LimitKind.TheVariants.{ItemTooLong}
 use Rattle.ap_stream.specs.Spelling.{spelled}
+use Rattle.ap_stream.specs.Chunks.{Body, Opens, Fails, Closes, body}
+use Rattle.ap_stream.specs.declared.item.Inner.{Inner}
 
 abbrev pub Spells : List ℕ → First → Type 0
 Spells text Needs = Unit {0}
@@ -54,6 +57,24 @@ spells_unit text Lacks = tt
 spells_unit text (Wrong kind) = tt
 spells_unit text (Ends words n) = λ e. absurd (cc)
 
+spells_body : (text : List ℕ) (name : List Symbol) (parts : List Inner) (n : ℕ) (b : Body) →
+    Spells text (of_body name parts n b)
+spells_body text name parts n Opens = tt
+spells_body text name parts n (Fails kind) = tt
+spells_body text name parts n (Closes more m) = λ e. absurd (cc)
+
+spells_chunk : (text bytes : List ℕ) (r : Rest) → Spells text (of_chunk bytes r)
+spells_chunk text bytes Lacks = tt
+spells_chunk text bytes (Wrong kind) = tt
+spells_chunk text bytes (Ends words n) =
+    spells_body text (name_in words) [] (1 + n) (body n bytes)
+
+spells_caret : (dialect : Dialect) (text bytes : List ℕ) (r : Rest) →
+    Spells text (of_caret dialect bytes r)
+spells_caret dialect text bytes r =
+    spells_cond text (has_chunks dialect) (of_chunk bytes r) (of_unit r)
+    (λ _. spells_chunk text bytes r) (λ _. spells_unit text r)
+
 pub first_spells : (dialect : Dialect) (text : List ℕ) → Spells text (first dialect text)
 unfolding first
 first_spells dialect [] = tt
@@ -62,8 +83,9 @@ first_spells dialect (b ∷ bs) =
     (λ _. spells_run (b ∷ bs) (blank 0 (b ∷ bs)))
     (λ _. spells_cond (b ∷ bs) (eqb b 92) (of_escaped (char_at bs)) _
     (λ is. spells_escaped b bs (char_at bs) (eqb-true b 92 is) (char_encodes bs))
-    (λ _. spells_cond (b ∷ bs) (begins_unit dialect b) (of_unit (rest (form_of dialect) [] [] 0 bs))
-    _ (λ _. spells_unit (b ∷ bs) (rest (form_of dialect) [] [] 0 bs))
+    (λ _. spells_cond (b ∷ bs) (begins_unit dialect b)
+    (of_caret dialect bs (rest (form_of dialect) [] [] 0 bs)) _
+    (λ _. spells_caret dialect (b ∷ bs) bs (rest (form_of dialect) [] [] 0 bs))
     (λ _. spells_char dialect (b ∷ bs) (char_at (b ∷ bs)) (char_encodes (b ∷ bs)))))
 
 -- some text begins with the bytes of the item

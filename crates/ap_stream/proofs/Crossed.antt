@@ -1,7 +1,7 @@
 -- Bytes that are crossed at once.
 use Rattle.std.specs.Prelude.{◌≡◌, ◌==◌, ◌||◌, ◌&&◌, not, ℕ, zero, suc, ◌+◌, ◌-◌, ◌<◌, ◌≤◌, List, [], ◌∷◌, ◌++◌, drop, take, length, min, Bool, true, false, cond, eqb, ltb, refl, slice_index, Option, Some, None}
 use Rattle.std.proofs.Common.{arith, ap, sym, subst, ◌∙◌, append_assoc, length-append, get_or}
-use Rattle.std.proofs.lemmas.List.{append-nil, take-append-drop, take_all, drop_all, length-take, get_or-take, take-take}
+use Rattle.std.proofs.lemmas.List.{append-nil, take-append-drop, take_all, drop_all, length-take, length-take-le, get_or-take, take-take}
 use Rattle.std.proofs.lemmas.Bool.{false≢true, ltb-true, eqb-true, and_parts, not-true}
 use Rattle.std.proofs.lemmas.Bool.Decides.{nat_tests}
 use Rattle.ap_stream.specs.Limits.{unit_max}
@@ -17,7 +17,12 @@ use Rattle.ap_stream.specs.Stands.{Stands, Within, within_on}
 use Rattle.ap_symbol.specs.TagNames.{is_reserved_lem}
 use Rattle.ap_stream.specs.Step.{nothing_part}
 use Rattle.ap_stream.specs.Given.{Standing}
-use Rattle.ap_stream.specs.Crossing.{GoesOn, AllGoOn, stops_word, is_lone, is_named, word_crossed, tag_crossed, crossed_by, crossing, and_on, AllCross}
+use Rattle.ap_stream.specs.InChunks.{InPart, part_grows, inner_on, part_on}
+use Rattle.ap_stream.specs.Levels.{StandsIn, StandsPart, between, part_begins, part_stands, stands_part}
+use Rattle.ap_stream.specs.declared.dialect.Dialect.TheVariants.{Lexical}
+use Rattle.ap_stream.specs.declared.level.Level.{Level}
+use Rattle.ap_stream.specs.declared.level.Level.TheVariants as level
+use Rattle.ap_stream.specs.Crossing.{GoesOn, AllGoOn, stops_word, is_lone, is_named, word_crossed, tag_crossed, crossed_by, crossing, and_on, AllCross, AllCrossIn}
 
 pub goes_on : (b : ℕ) → b < 128 → ((b == 93 || b == 92) ≡ true → ⊥) → GoesOn b
 goes_on b small bare = record {
@@ -50,6 +55,7 @@ record Lone (b : ℕ) : Type 0 where
   slash : eqb b 47 ≡ false
   dollar : eqb b 36 ≡ false
   angle : eqb b 60 ≡ false
+  brace : eqb b 123 ≡ false
   barred : (surface : Bool) → is_barred surface b ≡ false
 
 or_none : (a b : Bool) → (a || b) ≡ false → (a ≡ false) × (b ≡ false)
@@ -79,14 +85,15 @@ lone b h =
       slash = c.0;
       dollar = d.0;
       angle = e.0;
-      barred = λ surface. rw (g.0, f.0, i.0, j.0, k.0, l.0, e.0, l.1) (and_none surface);
+      brace = i.0;
+      barred = λ surface. rw (g.0, f.0, j.0, k.0, l.0, e.0, l.1) (and_none surface);
     }
 
 lone_sign : (surface : Bool) (b : ℕ) (x : List ℕ) → Lone b →
     sign surface (b ∷ x) ≡ Reads (bare_of surface b) 1
 lone_sign surface b x l =
     sign_bare surface (b ∷ []) x (Char b 1) (omega arith) l.escape (λ _. l.angle)
-    (ascii_char b x l.ascii) ∙ rw (l.slash, l.dollar, l.barred surface) refl
+    (ascii_char b x l.ascii) ∙ rw (l.slash, l.dollar, l.brace, l.barred surface) refl
 
 lone_symbol : (dialect : Dialect) (at : Spot) (done : List ℕ) (b : ℕ) → InUnit dialect at done →
     Lone b → InUnit dialect (grown_spot at) (done ++ b ∷ [])
@@ -209,42 +216,6 @@ pub crossing_none : (dialect : Dialect) (at : Mode) → crossing dialect at [] �
 unfolding crossing
 crossing_none dialect at = refl
 
-module _ (done size n m : ℕ) (held piece after : List ℕ) (d : length held ≤ done)
-    (fits : n ≤ length (take m piece)) (short : m ≤ unit_max - length held)
-    (few : length held ≤ unit_max) (a : after ≡ held ++ take n piece)
-    (s : size ≡ length after) where
-  cut : length (take m piece) ≡ min m (length piece)
-  cut = length-take m piece
-
-  len : length (take n piece) ≡ n
-  len = length-take n piece ∙ omega (arith, cut, fits)
-
-  total : length after ≡ length held + n
-  total = rw (a, length-append, len) refl
-
-  after_short : length after ≤ unit_max
-  after_short = omega (arith, total, cut, fits, few, short)
-
-  front : take done held ≡ held
-  front = take_all done held d
-
-  back : drop done held ≡ []
-  back = drop_all done held d
-
-  whole : take size after ≡ after
-  whole = take_all size after (omega (arith, s))
-
-  none : drop size after ≡ []
-  none = drop_all size after (omega (arith, s))
-
-  each : (P : ℕ → Type 0) → ((k : ℕ) → k < n → P (get_or (take m piece) k 0)) → (k : ℕ) →
-      k < length (take n piece) → P (get_or (take n piece) k 0)
-  each P all k l =
-      let same : get_or (take m piece) k 0 ≡ get_or (take n piece) k 0 =
-      get_or-take m piece k 0 (omega (arith, l, len, cut, fits))
-      ∙ sym (get_or-take n piece k 0 (omega (arith, l, len))) in
-      subst P same (all k (omega (arith, l, len)))
-
 -- within a unit a reader stands where it stands in the unit, with no start of a character behind it
 stands_at : (dialect : Dialect) (at : Mode) (held : List ℕ) → InUnitAt dialect at held →
     Stands dialect at held []
@@ -257,80 +228,122 @@ stands_at dialect mode.Inside held h = absurd h
 stands_at dialect mode.InsideEscape held h = absurd h
 stands_at dialect (mode.WordEscape at) held h = absurd h
 
-module _ (dialect : Dialect) (done size n m : ℕ) (held piece after : List ℕ) (at to : Mode)
-    (d : length held ≤ done) (fits : n ≤ length (take m piece)) (short : m ≤ unit_max - length held)
-    (few : length held ≤ unit_max) (a : after ≡ held ++ take n piece)
-    (s : size ≡ length after) where
-  shorter : take n (take m piece) ≡ take n piece
-  shorter = take-take n m piece
-      (omega (arith, cut done size n m held piece after d fits short few a s, fits))
+-- such bytes go on with what stands at their front
+crossed_stands : (dialect : Dialect) (at to : Mode) (held run : List ℕ) → 0 < length run →
+    AllCross dialect at to (length run) run → Stands dialect at held [] →
+    Stands dialect to (held ++ run) []
+crossed_stands dialect mode.Start to held run some all h = absurd (omega (arith, some, all))
+crossed_stands dialect mode.Escape to held run some all h = absurd (omega (arith, some, all))
+crossed_stands dialect mode.Blank to held run some all h = absurd (omega (arith, some, all))
+crossed_stands dialect mode.InsideEscape to held run some all h = absurd (omega (arith, some, all))
+crossed_stands dialect (mode.WordEscape at) to held run some all h =
+    absurd (omega (arith, some, all))
+crossed_stands dialect mode.Inside to held run some all h =
+    subst (λ (z : Mode). Stands dialect z (held ++ run) []) (sym all.0) (crossed held run h all.1)
+crossed_stands dialect (mode.Word at) to held run some all h =
+    stands_at dialect to (held ++ run) (crossed_all dialect (mode.Word at) to held run h.0
+    (ap (crossing dialect (mode.Word at)) (sym (take_all (length run) run (omega arith))) ∙ all))
+crossed_stands dialect (mode.Tag at some_named) to held run some all h =
+    stands_at dialect to (held ++ run) (crossed_all dialect (mode.Tag at some_named) to held run h.0
+    (ap (crossing dialect (mode.Tag at some_named)) (sym (take_all (length run) run (omega arith)))
+    ∙ all))
 
-  unit_crossed : InUnitAt dialect at held → crossing dialect at (take n (take m piece)) ≡ Some to →
-      Standing dialect true to size after
-  unit_crossed h all =
-      let on : InUnitAt dialect to after =
-      subst (InUnitAt dialect to) (sym a)
-      (crossed_all dialect at to held (take n piece) h
-      (ap (crossing dialect at) (sym shorter) ∙ all)) in
-      record {
-        fits = omega (arith, s);
-        short = λ _. after_short done size n m held piece after d fits short few a s;
-        stands = rw (
-          whole done size n m held piece after d fits short few a s,
-          none done size n m held piece after d fits short few a s,
-        )
-            (stands_at dialect to after on);
-      }
+-- in a content too
+crossed_in : (dialect : Dialect) (at to : Level) (held run : List ℕ) → 0 < length run →
+    AllCrossIn dialect at to (length run) run → StandsIn dialect at held [] →
+    StandsIn dialect to (held ++ run) []
+crossed_in dialect (level.Item at) to held run some all h =
+    subst (λ (z : Level). StandsIn dialect z (held ++ run) []) (sym all.1)
+    (crossed_stands dialect at all.0 held run some all.2 h)
+crossed_in dialect (level.Part from at) to held run some all h =
+    let grown : InPart dialect from (held ++ run) = part_grows dialect from held h.0 run in
+    let inner : drop from held ++ run ≡ drop from (held ++ run) =
+    sym (inner_on dialect from held h.0 run) in
+    subst (λ (z : Level). StandsIn dialect z (held ++ run) []) (sym all.1)
+    (grown, subst (λ (q : List ℕ). StandsPart all.0 q []) inner
+    (crossed_part at all.0 (drop from held) run (between at) refl h.1 some all.2))
+  where
+    crossed_part : (at to : Mode) (held run : List ℕ) (b : Bool) → between at ≡ b →
+        StandsPart at held [] → 0 < length run → AllCross Lexical at to (length run) run →
+        StandsPart to (held ++ run) []
+    crossed_part at to held run false e h some all =
+        stands_part to (held ++ run) [] (part_on held run (part_begins at held [] e h))
+        (crossed_stands Lexical at to held run some all (part_stands at held [] e h))
+    crossed_part mode.Start to held run true e h some all = absurd (omega (arith, some, all))
+    crossed_part mode.Escape to held run true e h some all = absurd h
+    crossed_part mode.Blank to held run true e h some all = absurd (cc)
+    crossed_part mode.Inside to held run true e h some all = absurd (cc)
+    crossed_part mode.InsideEscape to held run true e h some all = absurd (cc)
+    crossed_part (mode.Word at) to held run true e h some all = absurd (cc)
+    crossed_part (mode.WordEscape at) to held run true e h some all = absurd (cc)
+    crossed_part (mode.Tag at more) to held run true e h some all = absurd (cc)
+crossed_in dialect level.Closed to held run some all h = absurd (omega (arith, some, all))
+
+-- so many of the first bytes
+some_cross : (dialect : Dialect) (at to : Mode) (n : ℕ) (bytes : List ℕ) → n ≤ length bytes →
+    AllCross dialect at to n bytes → AllCross dialect at to (length (take n bytes)) (take n bytes)
+some_cross dialect at to n bytes fits h = by at to h
+  where
+    size : length (take n bytes) ≡ n
+    size = length-take-le n bytes fits
+
+    none : n ≡ 0 → length (take n bytes) ≡ 0
+    none e = size ∙ e
+
+    twice : take (length (take n bytes)) (take n bytes) ≡ take n bytes
+    twice = take_all (length (take n bytes)) (take n bytes) (omega arith)
+
+    by : (at to : Mode) → AllCross dialect at to n bytes →
+        AllCross dialect at to (length (take n bytes)) (take n bytes)
+    by mode.Start to h = none h
+    by mode.Escape to h = none h
+    by mode.Blank to h = none h
+    by mode.InsideEscape to h = none h
+    by (mode.WordEscape at) to h = none h
+    by mode.Inside to h = (
+      h.0,
+      λ k l. subst GoesOn (sym (get_or-take n bytes k 0 (omega (arith, l, size))))
+          (h.1 k (omega (arith, l, size))),
+    )
+    by (mode.Word at) to h = ap (crossing dialect (mode.Word at)) twice ∙ h
+    by (mode.Tag at more) to h = ap (crossing dialect (mode.Tag at more)) twice ∙ h
+
+some_cross_in : (dialect : Dialect) (at to : Level) (n : ℕ) (bytes : List ℕ) → n ≤ length bytes →
+    AllCrossIn dialect at to n bytes →
+    AllCrossIn dialect at to (length (take n bytes)) (take n bytes)
+some_cross_in dialect (level.Item at) to n bytes fits h =
+    (h.0, h.1, some_cross dialect at h.0 n bytes fits h.2)
+some_cross_in dialect (level.Part from at) to n bytes fits h =
+    (h.0, h.1, some_cross Lexical at h.0 n bytes fits h.2)
+some_cross_in dialect level.Closed to n bytes fits h = length-take-le n bytes fits ∙ h
 
 -- a reader crosses such bytes
 pub stands_crossed : (dialect : Dialect) (done size n m : ℕ) (held piece after : List ℕ)
-    (looked : Bool) (at to : Mode) → looked ≡ true → 0 < n → Standing dialect looked at done held →
-    length held ≤ done →
-    n ≤ length (take m piece) → AllCross dialect at to n (take m piece) → m ≤ unit_max - length held
-    → after ≡ held ++ take n piece → size ≡ length after → Standing dialect looked to size after
+    (looked : Bool) (at to : Level) → looked ≡ true → 0 < n →
+    Standing dialect looked at done held → length held ≤ done → n ≤ length (take m piece) →
+    AllCrossIn dialect at to n (take m piece) → m ≤ unit_max - length held →
+    after ≡ held ++ take n piece → size ≡ length after → Standing dialect looked to size after
 stands_crossed dialect done size n m held piece after false at to e some h d fits all short a
     s = absurd (cc)
-stands_crossed dialect done size n m held piece after true mode.Start to e some h d fits all short a
-    s = absurd (omega (arith, some, all))
-stands_crossed dialect done size n m held piece after true mode.Escape to e some h d fits all short
-    a s = absurd (omega (arith, some, all))
-stands_crossed dialect done size n m held piece after true mode.Blank to e some h d fits all short a
-    s = absurd (omega (arith, some, all))
-stands_crossed dialect done size n m held piece after true mode.InsideEscape to e some h d fits all
-    short a s = absurd (omega (arith, some, all))
-stands_crossed dialect done size n m held piece after true (mode.WordEscape at) to e some h d fits
-    all short a s = absurd (omega (arith, some, all))
-stands_crossed dialect done size n m held piece after true mode.Inside to e some h d fits
-    all short a s =
+stands_crossed dialect done size n m held piece after true at to e some h d fits all short a s =
     let few : length held ≤ unit_max = h.short refl in
-    let within : Within false held [] =
-    rw (
-      front done size n m held piece after d fits short few a s,
-      back done size n m held piece after d fits short few a s,
-    ) at h.stands in
-    let on : Within false after [] = let P : List ℕ → Type 0 = λ q. Within false q [] in
-    subst P (sym a) (crossed held (take n piece) within
-    (each done size n m held piece after d fits short few a s GoesOn all.1)) in
-    let there : Standing dialect true mode.Inside size after = record {
+    let cut : length (take m piece) ≡ min m (length piece) = length-take m piece in
+    let shorter : take n (take m piece) ≡ take n piece =
+    take-take n m piece (omega (arith, cut, fits)) in
+    let len : length (take n piece) ≡ n = length-take n piece ∙ omega (arith, cut, fits) in
+    let total : length after ≡ length held + n = ap length a ∙ length-append held (take n piece)
+    ∙ ap (λ k. length held + k) len in
+    let runs : AllCrossIn dialect at to (length (take n piece)) (take n piece) =
+    subst (λ (q : List ℕ). AllCrossIn dialect at to (length q) q) shorter
+    (some_cross_in dialect at to n (take m piece) fits all) in
+    let here : StandsIn dialect at held [] =
+    rw (take_all done held d, drop_all done held d) at h.stands in
+    let there : StandsIn dialect to after [] =
+    subst (λ (q : List ℕ). StandsIn dialect to q []) (sym a)
+    (crossed_in dialect at to held (take n piece) (omega (arith, some, len)) runs here) in
+    record {
       fits = omega (arith, s);
-      short = λ _. after_short done size n m held piece after d fits short few a s;
-      stands = rw (
-        whole done size n m held piece after d fits short few a s,
-        none done size n m held piece after d fits short few a s,
-      ) on;
-    } in
-    subst (λ (z : Mode). Standing dialect true z size after) (sym all.0) there
-stands_crossed dialect done size n m held piece after true (mode.Word at) to e some h d fits
-    all short a s =
-    let few : length held ≤ unit_max = h.short refl in
-    let unit : InUnit dialect at held = let P : List ℕ → Type 0 = λ q. InUnit dialect at q in
-    subst P (front done size n m held piece after d fits short few a s) h.stands.0 in
-    unit_crossed dialect done size n m held piece after (mode.Word at) to d fits short
-    few a s unit all
-stands_crossed dialect done size n m held piece after true (mode.Tag at more) to e some h d fits
-    all short a s =
-    let few : length held ≤ unit_max = h.short refl in
-    let unit : InTag dialect at more held = let P : List ℕ → Type 0 = λ q. InTag dialect at more q
-    in subst P (front done size n m held piece after d fits short few a s) h.stands.0 in
-    unit_crossed dialect done size n m held piece after (mode.Tag at more) to d fits short
-    few a s unit all
+      short = λ _. omega (arith, total, cut, fits, few, short);
+      stands = rw (take_all size after (omega (arith, s)), drop_all size after (omega (arith, s)))
+          there;
+    }

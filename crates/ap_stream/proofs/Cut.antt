@@ -12,7 +12,7 @@ use Rattle.ap_symbol.specs.declared.symbol.Symbol.{Symbol}
 use Rattle.ap_symbol.specs.declared.symbol.Symbol.TheVariants.{Tag}
 use Rattle.ap_stream.specs.declared.fault.MalformedKind.TheVariants.{Stray, BadTag, EmptyWord}
 use Rattle.ap_stream.specs.Chars.{Front, Part, NotChar, Char, char_at, char_fits}
-use Rattle.ap_stream.specs.Units.{Form, Name, Runs, Breaks, Stops, name, name_by, name_char, behind_name, Sign, Awaits, Bars, Reads, Slash, Dollar, sign, of_bare, of_name, of_escape, bare_of, is_barred, begins_tag, in_surface, may_part, may_end, Rest, Lacks, Wrong, Ends, rest, longer, gone, rest_symbol, rest_slash, rest_dollar}
+use Rattle.ap_stream.specs.Units.{Form, Name, Runs, Breaks, Stops, name, name_by, name_char, behind_name, Sign, Awaits, Bars, Reads, Slash, Dollar, sign, of_bare, of_name, of_escape, bare_of, is_barred, begins_tag, in_surface, may_part, may_end, Rest, Lacks, Wrong, Ends, rest, longer, gone, rest_symbol, rest_slash, rest_dollar, Brace, early, rest_brace}
 use Rattle.ap_stream.proofs.Back.{char_back}
 use Rattle.ap_stream.proofs.Encoding.{char_encodes}
 use Rattle.ap_stream.proofs.WordsRead.{char_coded}
@@ -133,16 +133,18 @@ SignCut surface bs x s n = (sign surface (take n bs ++ x) ≡ Reads s n) × (0 <
 
 bare_size : (surface : Bool) (c m : ℕ) (s : Symbol) (n : ℕ) → of_bare surface (Char c m)
     ≡ Reads s n → m ≡ n
-bare_size surface c m s n h = by (eqb c 47) (eqb c 36) (is_barred surface c) h
+bare_size surface c m s n h = by (eqb c 47) (eqb c 36) (eqb c 123) (is_barred surface c) h
   where
-    by : (u v w : Bool) → cond u Slash
-        (cond v Dollar (cond w (Bars Stray) (Reads (bare_of surface c) m))) ≡ Reads s n → m ≡ n
-    by true v w h = absurd (cc)
-    by false true w h = absurd (cc)
-    by false false true h = absurd (cc)
-    by false false false h = cc
+    by : (u v z w : Bool) → cond u Slash
+        (cond v Dollar (cond z Brace (cond w (Bars Stray) (Reads (bare_of surface c) m))))
+        ≡ Reads s n → m ≡ n
+    by true v z w h = absurd (cc)
+    by false true z w h = absurd (cc)
+    by false false true w h = absurd (cc)
+    by false false false true h = absurd (cc)
+    by false false false false h = cc
 
-sign_cut_at : (surface : Bool) (b : ℕ) (bs x : List ℕ) (s : Symbol) (n : ℕ) →
+pub sign_cut_at : (surface : Bool) (b : ℕ) (bs x : List ℕ) (s : Symbol) (n : ℕ) →
     sign surface (b ∷ bs) ≡ Reads s n → SignCut surface (b ∷ bs) x s n
 unfolding sign
 sign_cut_at surface b bs x s n h = by_escape (eqb b 92) refl h
@@ -214,13 +216,14 @@ sign_cut_at surface b bs x s n h = by_escape (eqb b 92) refl h
     by_escape true e h = escaped (char_at bs) refl e h
     by_escape false e h = by_tag (begins_tag surface b) refl e h
 
--- the / or $ that ends a word is a byte of its own
-abbrev EndsIn : ℕ → Sign → Type 0
+-- the / or $ or { that ends a word is a byte of its own
+abbrev pub EndsIn : ℕ → Sign → Type 0
 EndsIn b Awaits = Unit {0}
 EndsIn b (Bars kind) = Unit {0}
 EndsIn b (Reads s n) = Unit {0}
 EndsIn b Slash = b ≡ 47
 EndsIn b Dollar = b ≡ 36
+EndsIn b Brace = b ≡ 123
 
 ends_cond : (b : ℕ) (v : Bool) (s t : Sign) → (v ≡ true → EndsIn b s) → (v ≡ false → EndsIn b t) →
     EndsIn b (cond v s t)
@@ -248,10 +251,12 @@ ends_bare surface b bs (Char c n) e =
     (first_byte b bs c n e (omega (arith, is))).0 ∙ is)
     (λ _. ends_cond b (eqb c 36) Dollar _ (λ t. let is = eqb-true c 36 t in
     (first_byte b bs c n e (omega (arith, is))).0 ∙ is)
+    (λ _. ends_cond b (eqb c 123) Brace _ (λ t. let is = eqb-true c 123 t in
+    (first_byte b bs c n e (omega (arith, is))).0 ∙ is)
     (λ _. ends_cond b (is_barred surface c) (Bars Stray) (Reads (bare_of surface c) n)
-    (λ _. tt) (λ _. tt)))
+    (λ _. tt) (λ _. tt))))
 
-sign_ends : (surface : Bool) (b : ℕ) (bs : List ℕ) → EndsIn b (sign surface (b ∷ bs))
+pub sign_ends : (surface : Bool) (b : ℕ) (bs : List ℕ) → EndsIn b (sign surface (b ∷ bs))
 unfolding sign
 sign_ends surface b bs =
     ends_cond b (eqb b 92) (of_escape (char_at bs)) _ (λ _. ends_escape b (char_at bs))
@@ -333,7 +338,7 @@ module _ (form : Form) (words : List (List Symbol)) (word : List Symbol) (b : �
       may_go several part r e f = rw (e, f) refl
 
   dollar_goes : b ≡ 36 → (may : Bool) → may_end form words word ≡ may →
-      cond may (Ends (words ++ word ∷ []) 1) (Wrong EmptyWord) ≡ Ends made n →
+      cond may (Ends (words ++ word ∷ []) 1) (Wrong (early form)) ≡ Ends made n →
       RestCut form words word (b ∷ bs) x made n
   dollar_goes is false u h = absurd (cc)
   dollar_goes is true u h =
@@ -346,7 +351,24 @@ module _ (form : Form) (words : List (List Symbol)) (word : List Symbol) (b : �
       )
     where
       may_stop : (may : Bool) → may ≡ true →
-          cond may (Ends (words ++ word ∷ []) 1) (Wrong EmptyWord) ≡ Ends (words ++ word ∷ []) 1
+          cond may (Ends (words ++ word ∷ []) 1) (Wrong (early form)) ≡ Ends (words ++ word ∷ []) 1
+      may_stop may e = rw e refl
+
+  brace_goes : b ≡ 123 → (braced : Bool) → form.braced ≡ braced →
+      cond braced (Ends (words ++ word ∷ []) 1) (Wrong Stray) ≡ Ends made n →
+      RestCut form words word (b ∷ bs) x made n
+  brace_goes is false u h = absurd (cc)
+  brace_goes is true u h =
+      let size : 1 ≡ n = cc in (
+        ap (λ q. rest form words word 0 (take q (b ∷ bs) ++ x)) (sym size)
+            ∙ ap (λ q. rest form words word 0 (q ∷ x)) is ∙ rest_brace form words word x
+            ∙ may_stop form.braced u ∙ h,
+        omega (arith, size),
+        omega (arith, size),
+      )
+    where
+      may_stop : (may : Bool) → may ≡ true →
+          cond may (Ends (words ++ word ∷ []) 1) (Wrong Stray) ≡ Ends (words ++ word ∷ []) 1
       may_stop may e = rw e refl
 
   front_goes : (s : Sign) → sign (in_surface form words) (b ∷ bs) ≡ s → EndsIn b s →
@@ -360,6 +382,7 @@ module _ (form : Form) (words : List (List Symbol)) (word : List Symbol) (b : �
       slash_goes is go form.several (may_part words word) refl refl
       (rest form (words ++ word ∷ []) [] 0 bs) refl h
   front_goes Dollar e is go h = dollar_goes is (may_end form words word) refl h
+  front_goes Brace e is go h = brace_goes is form.braced refl h
 
 pub rest_cut : (form : Form) (words : List (List Symbol)) (word : List Symbol) (skip : ℕ)
     (bs x : List ℕ) (made : List (List Symbol)) (n : ℕ) → rest form words word skip bs ≡ Ends made n

@@ -1,5 +1,5 @@
 -- A tool that takes each item by itself keeps superblanks.
-use Rattle.std.specs.Prelude.{◌≡◌, ℕ, Bool, true, false, List, [], ◌∷◌, ◌++◌, Option, Some, None, refl, if◌then◌else◌}
+use Rattle.std.specs.Prelude.{◌≡◌, ℕ, Bool, true, false, List, [], ◌∷◌, ◌++◌, length, Option, Some, None, refl, if◌then◌else◌}
 use Rattle.std.proofs.Common.{ap, sym, subst, ◌∙◌}
 use Rattle.std.proofs.lemmas.List.{append-nil}
 use Rattle.std.proofs.lemmas.List.Concat.{flat_map-cons}
@@ -13,14 +13,47 @@ use Rattle.ap_stream.specs.declared.item.Item.TheVariants as item
 use Rattle.ap_stream.specs.declared.item.Read.{Read}
 use Rattle.ap_stream.specs.Each.{each, item_text, is_over}
 use Rattle.ap_stream.specs.Laws.{AreWords}
-use Rattle.ap_stream.specs.Pieces.{HasSuperblanks, nothing, piece, plain, white, unit, HaveSameSuperblanks, StayBare, MakesNone, supers_of}
-use Rattle.ap_stream.specs.Reading.{first, reads}
-use Rattle.ap_stream.specs.Spelling.{unit_bytes}
+use Rattle.ap_stream.specs.Pieces.{HasSuperblanks, nothing, piece, plain, white, unit, HaveSameSuperblanks, StayBare, MakesNone, supers_of, chunk, BareStay}
+use Rattle.ap_stream.specs.Reading.{first, reads, Whole}
+use Rattle.ap_stream.specs.Spelling.{unit_bytes, spelled, chunk_bytes}
 use Rattle.ap_stream.specs.Supers.{blank_supers, item_supers}
 use Rattle.ap_stream.specs.Told.{behind, ends_in, or_else}
 use Rattle.ap_stream.proofs.Back.{unit_back}
 use Rattle.ap_stream.proofs.Joined.{joined, one_piece}
-use Rattle.ap_stream.proofs.Rows.{IsRow, Rows, reads_rows, rows_have}
+use Rattle.ap_stream.proofs.Rows.{IsRow, Rows, reads_rows, rows_have, ChunkRow}
+use Rattle.ap_stream.specs.declared.item.Chunk.{Chunk}
+use Rattle.ap_stream.specs.declared.dialect.Dialect.TheVariants.{Raw, Analysed, Lexical, Bilingual, Chunked, Generated}
+use Rattle.ap_stream.proofs.ChunkCut.{chunk_back}
+use Rattle.ap_stream.specs.InChunks.{only_chunked}
+
+-- what stands bare stays so
+bare_stay : (from to : Dialect) → StayBare from to → BareStay from to
+bare_stay Raw to h = h
+bare_stay Analysed to h = h
+bare_stay Lexical to h = h
+bare_stay Bilingual to h = h
+bare_stay Chunked to h = h.0
+bare_stay Generated to h = h
+
+-- a chunk is written as a chunk
+chunk_stays : (from to : Dialect) (c : Chunk) (bytes : List ℕ) → StayBare from to →
+    ChunkRow from c bytes →
+    HasSuperblanks to (spelled (item.Chunk c)) (item_supers (item.Chunk c))
+chunk_stays Raw to c bytes stay h = absurd h
+chunk_stays Analysed to c bytes stay h = absurd h
+chunk_stays Lexical to c bytes stay h = absurd h
+chunk_stays Bilingual to c bytes stay h = absurd h
+chunk_stays Chunked to c bytes stay h =
+    let text : List ℕ = chunk_bytes c.name c.content in
+    let back : first Chunked (chunk_bytes c.name c.content) ≡ Whole (item.Chunk c) (length text) =
+    ap (first Chunked) (sym (append-nil (chunk_bytes c.name c.content)))
+    ∙ chunk_back c.name c.content [] h.1 h.2 in
+    one_piece to text (item_supers (item.Chunk c)) (chunk (record {
+      chunks = stay.1;
+      chunk = c;
+      read = ap (λ (d : Dialect). first d text) (only_chunked to stay.1) ∙ back;
+    }) refl)
+chunk_stays Generated to c bytes stay h = absurd h
 
 -- what is written of an item as it is spelled, in a dialect where what stands bare may do so too
 pub spelled_has : (from to : Dialect) (given : List (List Symbol) → List ℕ) (thing : Item)
@@ -31,14 +64,14 @@ spelled_has from to given (item.Plain c) bytes stay none h =
     (plain (record {
       character = c;
       code = h.0;
-      allowed = λ e. stay c.letter (h.1 e);
+      allowed = λ e. bare_stay from to stay c.letter (h.1 e);
       spelled =
           refl;
     }) refl)
 spelled_has from to given (item.Blank all) bytes stay none h =
     subst (λ (q : List ℕ). HasSuperblanks to q (blank_supers 0 q)) (sym h.0) (h.1 to)
 spelled_has from to given (item.Unit words) bytes stay none h = none words h.1
-spelled_has from to given (item.Chunk c) bytes stay none h = absurd h
+spelled_has from to given (item.Chunk c) bytes stay none h = chunk_stays from to c bytes stay h
 
 module _ (from to : Dialect) (given : List (List Symbol) → List ℕ) (stay : StayBare from to)
     (none : MakesNone from to given) where

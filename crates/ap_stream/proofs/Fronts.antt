@@ -1,5 +1,6 @@
 -- The piece at the front of a text: its size and its superblanks are told by the text.
 use Rattle.std.specs.Prelude.{◌≡◌, ℕ, suc, ◌+◌, ◌<◌, ◌≤◌, List, [], ◌∷◌, ◌++◌, drop, take, length, Bool, true, false, cond, eqb, ltb, ◌&&◌, ◌||◌, not, refl, encode_utf8}
+use Rattle.std.specs.List.{flat_map}
 use Rattle.std.proofs.Common.{arith, ap, sym, subst, ◌∙◌, append_assoc, length-append, inl, inr}
 use Rattle.std.proofs.lemmas.Bool.{eqb-true, and_parts, ne_eqb, cases_lt}
 use Rattle.std.proofs.lemmas.Bool.Decides.{nat_tests}
@@ -8,22 +9,28 @@ use Rattle.std.proofs.Math.Seq.{drop-append_seam, take-append_seam}
 use Rattle.ap_symbol.specs.Coded.{IsCode}
 use Rattle.ap_symbol.specs.declared.symbol.Symbol.{Symbol}
 use Rattle.ap_stream.specs.declared.dialect.Dialect.{Dialect}
+use Rattle.ap_stream.specs.declared.dialect.Dialect.TheVariants.{Chunked}
 use Rattle.ap_stream.specs.declared.item.Item.{Item}
 use Rattle.ap_stream.specs.declared.item.Item.TheVariants as item
-use Rattle.ap_stream.specs.Blanks.{Run, Open, Inside, BadChar, Done, Close, Within, Bad, Closed, closing, longer, is_white, blank}
+use Rattle.ap_stream.specs.Blanks.{Run, Open, Inside, BadChar, Done, Close, Within, Bad, Closed, closing, longer, is_white, blank, begins_blank}
 use Rattle.ap_stream.specs.Chars.{Front, Part, NotChar, Char, char_at}
-use Rattle.ap_stream.specs.Dialects.{is_refused, has_words}
-use Rattle.ap_stream.specs.InUnits.{unit_always}
+use Rattle.ap_stream.specs.Dialects.{is_refused, has_words, has_chunks, has_units}
+use Rattle.ap_stream.specs.InUnits.{unit_always, units_words, braced_chunks}
 use Rattle.ap_stream.specs.UnitBytes.{UnitOf}
-use Rattle.ap_stream.specs.Pieces.{HaveSameSuperblanks, HasSuperblanks, nothing, piece, IsPiece, plain, white, superblank, unit, IsPlain, IsUnit, IsToBracket, closed, bare, escaped, is_bare}
+use Rattle.ap_stream.specs.Pieces.{HaveSameSuperblanks, HasSuperblanks, nothing, piece, IsPiece, plain, white, superblank, unit, IsPlain, IsUnit, IsToBracket, closed, bare, escaped, is_bare, IsChunk, chunk}
 use Rattle.ap_stream.specs.declared.fault.MalformedKind.TheVariants.{Stray}
-use Rattle.ap_stream.specs.Reading.{First, Needs, Whole, Faulty, Bad as OfKind, first, begins_blank, begins_unit, of_run, of_escaped, of_char, of_unit, plain as plain_item}
-use Rattle.ap_stream.specs.Supers.{item_supers}
+use Rattle.ap_stream.specs.Reading.{First, Needs, Whole, Faulty, Bad as OfKind, first, begins_unit, of_run, of_escaped, of_char, of_unit, plain as plain_item, of_body, of_chunk, of_caret, name_in}
+use Rattle.ap_stream.specs.Supers.{item_supers, inner_supers}
 use Rattle.ap_stream.specs.Stands.{blank_first, escape_first, unit_first, letter_whole, escaped_whole}
 use Rattle.ap_stream.specs.Units.{Rest, Lacks, Wrong, Ends, rest, form_of}
 use Rattle.ap_stream.proofs.Back.{char_back}
 use Rattle.ap_stream.proofs.Cut.{first_byte, char_size, rest_cut}
 use Rattle.ap_stream.proofs.Superblanks.{closing_first}
+use Rattle.ap_stream.specs.Chunks.{Body, Opens, Fails, Closes, body}
+use Rattle.ap_stream.specs.declared.item.Inner.{Inner}
+use Rattle.ap_stream.specs.InChunks.{only_chunked}
+use Rattle.ap_stream.proofs.ChunkWalk.{shaped}
+use Rattle.ap_stream.proofs.ChunkCut.{chunk_cut}
 
 -- tests of bytes below 128 say of a character what they say of its first byte
 
@@ -61,7 +68,7 @@ pub low_escape : IsLow (λ b. eqb b 92)
 low_escape = differs 92 (omega arith)
 
 pub low_unit : (dialect : Dialect) → IsLow (begins_unit dialect)
-low_unit dialect b high = rw (differs 94 (omega arith) b high) (by (has_words dialect))
+low_unit dialect b high = rw (differs 94 (omega arith) b high) (by (has_units dialect))
   where
     by : (v : Bool) → (v && false) ≡ false
     by true = refl
@@ -160,21 +167,21 @@ unfolding first
 unit_cut dialect [] words n h = absurd (cc)
 unit_cut dialect (b ∷ bs) words n h = by_blank (begins_blank b) h
   where
-    of_rest : begins_unit dialect b ≡ true → (r : Rest) → rest (form_of dialect) [] [] 0 bs ≡ r →
+    of_rest : begins_unit dialect b ≡ true → has_words dialect ≡ true → (r : Rest) → rest (form_of dialect) [] [] 0 bs ≡ r →
         of_unit r ≡ Whole (item.Unit words) n → UnitOf dialect (take n (b ∷ bs)) words × (0 < n)
         × (n ≤ length (b ∷ bs))
-    of_rest u Lacks e h = absurd (cc)
-    of_rest u (Wrong kind) e h = absurd (cc)
-    of_rest u (Ends all k) e h =
+    of_rest u w Lacks e h = absurd (cc)
+    of_rest u w (Wrong kind) e h = absurd (cc)
+    of_rest u w (Ends all k) e h =
         let same : all ≡ words = cc in
         let size : 1 + k ≡ n = cc in
-        let is = and_parts (has_words dialect) (eqb b 94) u in
+        let is = and_parts (has_units dialect) (eqb b 94) u in
         let fits = (rest_cut (form_of dialect) [] [] 0 bs [] all k e).2 in
         let len : length (take k bs) ≡ k = length-take-le k bs fits in
         let grown : n ≡ suc k = omega (arith, size) in (
           record {
             tail = take k bs;
-            has = is.0;
+            has = w;
             begins = ap (λ q. take q (b ∷ bs)) grown ∙ ap (λ q. q ∷ take k bs) (eqb-true b 94 is.1);
             on = λ x. (rest_cut (form_of dialect) [] [] 0 bs x all k e).0
                 ∙ ap (λ (q : List (List Symbol)). Ends q k) same ∙ ap (Ends words) (sym len);
@@ -182,6 +189,26 @@ unit_cut dialect (b ∷ bs) words n h = by_blank (begins_blank b) h
           omega (arith, size),
           omega (arith, size, fits),
         )
+
+    no_body : (name : List Symbol) (parts : List Inner) (m : ℕ) (z : Body) →
+        of_body name parts m z ≡ Whole (item.Unit words) n → ⊥
+    no_body name parts m Opens h = cc
+    no_body name parts m (Fails kind) h = cc
+    no_body name parts m (Closes more k) h = cc
+
+    no_chunk : (r : Rest) → of_chunk bs r ≡ Whole (item.Unit words) n → ⊥
+    no_chunk Lacks h = cc
+    no_chunk (Wrong kind) h = cc
+    no_chunk (Ends all k) h = no_body (name_in all) [] (1 + k) (body k bs) h
+
+    of_caret_at : begins_unit dialect b ≡ true → (v : Bool) → has_chunks dialect ≡ v → (r : Rest) →
+        rest (form_of dialect) [] [] 0 bs ≡ r → cond v (of_chunk bs r) (of_unit r)
+        ≡ Whole (item.Unit words) n → UnitOf dialect (take n (b ∷ bs)) words × (0 < n)
+        × (n ≤ length (b ∷ bs))
+    of_caret_at u true c r e h = absurd (no_chunk r h)
+    of_caret_at u false c r e h =
+        of_rest u (units_words dialect (and_parts (has_units dialect) (eqb b 94) u).0
+        (braced_chunks dialect ∙ c)) r e h
 
     run : (r : Run) → of_run (b ∷ bs) r ≡ Whole (item.Unit words) n → ⊥
     run Open h = cc
@@ -205,15 +232,16 @@ unit_cut dialect (b ∷ bs) words n h = by_blank (begins_blank b) h
     letter (Char c m) h = letter_at (is_refused dialect c) c m h
 
     by_unit : (v : Bool) → begins_unit dialect b ≡ v →
-        cond v (of_unit (rest (form_of dialect) [] [] 0 bs)) (of_char dialect (char_at (b ∷ bs)))
-        ≡ Whole (item.Unit words) n → UnitOf dialect (take n (b ∷ bs)) words × (0 < n)
+        cond v (of_caret dialect bs (rest (form_of dialect) [] [] 0 bs))
+        (of_char dialect (char_at (b ∷ bs))) ≡ Whole (item.Unit words) n → UnitOf dialect (take n (b ∷ bs)) words × (0 < n)
         × (n ≤ length (b ∷ bs))
-    by_unit true u h = of_rest u (rest (form_of dialect) [] [] 0 bs) refl h
+    by_unit true u h =
+        of_caret_at u (has_chunks dialect) refl (rest (form_of dialect) [] [] 0 bs) refl h
     by_unit false u h = absurd (letter (char_at (b ∷ bs)) h)
 
     by_escape : (v : Bool) →
         cond v (of_escaped (char_at bs))
-        (cond (begins_unit dialect b) (of_unit (rest (form_of dialect) [] [] 0 bs))
+        (cond (begins_unit dialect b) (of_caret dialect bs (rest (form_of dialect) [] [] 0 bs))
         (of_char dialect (char_at (b ∷ bs)))) ≡ Whole (item.Unit words) n →
         UnitOf dialect (take n (b ∷ bs)) words × (0 < n) × (n ≤ length (b ∷ bs))
     by_escape true h = absurd (escape (char_at bs) h)
@@ -221,7 +249,7 @@ unit_cut dialect (b ∷ bs) words n h = by_blank (begins_blank b) h
 
     by_blank : (v : Bool) → cond v (of_run (b ∷ bs) (blank 0 (b ∷ bs)))
         (cond (eqb b 92) (of_escaped (char_at bs))
-        (cond (begins_unit dialect b) (of_unit (rest (form_of dialect) [] [] 0 bs))
+        (cond (begins_unit dialect b) (of_caret dialect bs (rest (form_of dialect) [] [] 0 bs))
         (of_char dialect (char_at (b ∷ bs))))) ≡ Whole (item.Unit words) n
         → UnitOf dialect (take n (b ∷ bs)) words × (0 < n) × (n ≤ length (b ∷ bs))
     by_blank true h = absurd (run (blank 0 (b ∷ bs)) h)
@@ -253,48 +281,56 @@ size_at dialect (b ∷ bs) =
     cond (is_white b) 1 (cond (eqb b 91) (close_size (closing false 0 bs))
     (whole_size (first dialect (b ∷ bs))))
 
--- a piece is a superblank where it begins with [
-abbrev own_at : List ℕ → List (List ℕ)
-own_at [] = []
-own_at (b ∷ bs) = cond (eqb b 91) ((b ∷ bs) ∷ []) []
+abbrev whole_supers : First → List (List ℕ)
+whole_supers Needs = []
+whole_supers (Whole thing n) = item_supers thing
+whole_supers (Faulty kind) = []
+
+-- a piece is a superblank where it begins with [, and else white space or the item that it is
+abbrev own_at : Dialect → List ℕ → List (List ℕ)
+own_at dialect [] = []
+own_at dialect (b ∷ bs) =
+    cond (is_white b) [] (cond (eqb b 91) ((b ∷ bs) ∷ []) (whole_supers (first dialect (b ∷ bs))))
 
 record IsFront (dialect : Dialect) (bytes : List ℕ) (own : List (List ℕ)) : Type 0 where
   some : 0 < length bytes
   size : (x : List ℕ) → size_at dialect (bytes ++ x) ≡ length bytes
-  own_is : own ≡ own_at bytes
+  own_is : own ≡ own_at dialect bytes
 
 either_none : (a b : Bool) → (a || b) ≡ false → (a ≡ false) × (b ≡ false)
 either_none true b h = absurd (cc)
 either_none false b h = (refl, h)
 
--- a character or a unit: however the text goes on, it is the item at its front
-pub record IsWhole (dialect : Dialect) (bytes : List ℕ) : Type 0 where
+-- a character, a unit or a chunk, and its superblanks: however the text goes on, it is the item at
+-- its front
+pub record IsWhole (dialect : Dialect) (own : List (List ℕ)) (bytes : List ℕ) : Type 0 where
   pub thing : Item
-  pub none : item_supers thing ≡ []
+  pub supers : item_supers thing ≡ own
   pub some : 0 < length bytes
   pub dark : blank_first bytes ≡ false
   pub read : (x : List ℕ) → first dialect (bytes ++ x) ≡ Whole thing (length bytes)
 
-whole_front : (dialect : Dialect) (bytes : List ℕ) (own : List (List ℕ)) → IsWhole dialect bytes →
-    own ≡ [] → IsFront dialect bytes own
-whole_front dialect [] own h e = absurd (let s = h.some in omega (arith, s))
-whole_front dialect (b ∷ bs) own h e =
+whole_front : (dialect : Dialect) (bytes : List ℕ) (own given : List (List ℕ)) →
+    IsWhole dialect given bytes → own ≡ given → IsFront dialect bytes own
+whole_front dialect [] own given h e = absurd (let s = h.some in omega (arith, s))
+whole_front dialect (b ∷ bs) own given h e =
     let n = either_none (is_white b) (eqb b 91) h.dark in
+    let alone : first dialect (b ∷ bs) ≡ Whole h.thing (length (b ∷ bs)) =
+    ap (first dialect) (sym (append-nil (b ∷ bs))) ∙ h.read [] in
     record {
       some = h.some;
       size = λ x. rw (n.0, n.1) (ap whole_size (h.read x));
-      own_is =
-          e ∙ rw n.1 refl;
+      own_is = e ∙ sym h.supers ∙ rw (n.0, n.1) (ap whole_supers (sym alone));
     }
 
 pub plain_whole : (dialect : Dialect) (bytes : List ℕ) → IsPlain dialect bytes →
-    IsWhole dialect bytes
+    IsWhole dialect [] bytes
 plain_whole dialect bytes p = by p.character.escaped refl
   where
-    escaped_whole_item : IsWhole dialect (92 ∷ encode_utf8 p.character.letter)
+    escaped_whole_item : IsWhole dialect [] (92 ∷ encode_utf8 p.character.letter)
     escaped_whole_item = record {
       thing = plain_item p.character.letter true;
-      none = refl;
+      supers = refl;
       some = omega arith;
       dark = refl;
       read = λ x. escaped_whole dialect (encode_utf8 p.character.letter) p.character.letter
@@ -303,33 +339,51 @@ plain_whole dialect bytes p = by p.character.escaped refl
     }
 
     bare_whole_item : IsFree dialect p.character.letter →
-        IsWhole dialect (encode_utf8 p.character.letter)
+        IsWhole dialect [] (encode_utf8 p.character.letter)
     bare_whole_item free = record {
       thing = plain_item p.character.letter false;
-      none = refl;
+      supers = refl;
       some = alone_some p.character.letter p.code;
       dark = free_blank p.character.letter p.code dialect free;
       read = free_whole p.character.letter p.code dialect free;
     }
 
-    by : (v : Bool) → p.character.escaped ≡ v → IsWhole dialect bytes
+    by : (v : Bool) → p.character.escaped ≡ v → IsWhole dialect [] bytes
     by true v =
         let is : bytes ≡ 92 ∷ encode_utf8 p.character.letter = p.spelled ∙ rw v refl in
-        subst (λ (q : List ℕ). IsWhole dialect q) (sym is) escaped_whole_item
+        subst (λ (q : List ℕ). IsWhole dialect [] q) (sym is) escaped_whole_item
     by false v =
         let is : bytes ≡ encode_utf8 p.character.letter = p.spelled ∙ rw v refl in
-        subst (λ (q : List ℕ). IsWhole dialect q) (sym is)
+        subst (λ (q : List ℕ). IsWhole dialect [] q) (sym is)
         (bare_whole_item (bare_free dialect p.character.letter (p.allowed v)))
 
-pub unit_whole : (dialect : Dialect) (bytes : List ℕ) → IsUnit dialect bytes → IsWhole dialect bytes
+pub unit_whole : (dialect : Dialect) (bytes : List ℕ) → IsUnit dialect bytes →
+    IsWhole dialect [] bytes
 unit_whole dialect bytes u =
     let k = unit_of_bytes dialect bytes u in
     record {
       thing = item.Unit u.words;
-      none = refl;
+      supers = refl;
       some = k.1;
       dark = ap blank_first k.0.begins;
       read = unit_always dialect bytes u.words k.0;
+    }
+
+pub chunk_whole : (dialect : Dialect) (bytes : List ℕ) (c : IsChunk dialect bytes) →
+    IsWhole dialect (flat_map inner_supers c.chunk.content) bytes
+chunk_whole dialect bytes c =
+    let is : dialect ≡ Chunked = only_chunked dialect c.chunks in
+    let alone : first Chunked bytes ≡ Whole (item.Chunk c.chunk) (length bytes) =
+    ap (λ (d : Dialect). first d bytes) (sym is) ∙ c.read in
+    let k = chunk_cut bytes c.chunk (length bytes) alone in
+    let all : take (length bytes) bytes ≡ bytes = take_all (length bytes) bytes (omega arith) in
+    record {
+      thing = item.Chunk c.chunk;
+      supers = refl;
+      some = k.some;
+      dark = ap blank_first (shaped bytes c.chunk (length bytes) alone).begins;
+      read = λ x. ap (λ (d : Dialect). first d (bytes ++ x)) is
+          ∙ ap (λ (q : List ℕ). first Chunked (q ++ x)) (sym all) ∙ k.read x;
     }
 
 pub white_other : (b : ℕ) → is_white b ≡ true → eqb b 91 ≡ false
@@ -343,10 +397,10 @@ white_other b w = by (eqb b 91) refl
 front_is : (dialect : Dialect) (bytes : List ℕ) (own : List (List ℕ)) → IsPiece dialect bytes own →
     IsFront dialect bytes own
 front_is dialect bytes own (plain p e) =
-    whole_front dialect bytes own (plain_whole dialect bytes p) e
+    whole_front dialect bytes own [] (plain_whole dialect bytes p) e
 front_is dialect bytes own (white b is w e) =
     subst (λ (q : List ℕ). IsFront dialect q own) (sym is)
-    (record { some = omega arith; size = λ x. rw w refl; own_is = e ∙ rw (white_other b w) refl })
+    (record { some = omega arith; size = λ x. rw w refl; own_is = e ∙ rw w refl })
 front_is dialect bytes own (superblank s e) =
     subst (λ (q : List ℕ). IsFront dialect q own) (sym s.begins)
     (record {
@@ -355,7 +409,10 @@ front_is dialect bytes own (superblank s e) =
       own_is =
           e ∙ ap (λ (q : List ℕ). q ∷ []) s.begins;
     })
-front_is dialect bytes own (unit u e) = whole_front dialect bytes own (unit_whole dialect bytes u) e
+front_is dialect bytes own (unit u e) =
+    whole_front dialect bytes own [] (unit_whole dialect bytes u) e
+front_is dialect bytes own (chunk c e) =
+    whole_front dialect bytes own _ (chunk_whole dialect bytes c) e
 
 -- two pieces at the front of a text are one
 same_front : (dialect : Dialect) (a b x y : List ℕ) (own other : List (List ℕ)) →
@@ -366,7 +423,7 @@ same_front dialect a b x y own other h k e =
     let s : a ≡ b = sym (take-append_seam a x) ∙ ap (take (length a)) e
     ∙ ap (λ m. take m (b ++ y)) n ∙ take-append_seam b y in (
       s,
-      h.own_is ∙ ap own_at s ∙ sym k.own_is,
+      h.own_is ∙ ap (own_at dialect) s ∙ sym k.own_is,
       sym (drop-append_seam a x) ∙ ap (drop (length a)) e
           ∙ ap (λ m. drop m (b ++ y)) n ∙ drop-append_seam b y,
     )

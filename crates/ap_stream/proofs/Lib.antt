@@ -13,6 +13,8 @@ pub mod EachLaws
 pub mod WordsRead
 pub mod Spelt
 pub mod KeptNames
+pub mod ChunkWalk
+pub mod ChunkCut
 pub mod Crossed
 pub mod Spells
 pub mod Superblanks

@@ -17,7 +17,7 @@ use Rattle.ap_symbol.specs.TagNames.{is_reserved_lem}
 use Rattle.ap_symbol.specs.TextWord.{bare_symbol}
 use Rattle.ap_stream.specs.declared.fault.MalformedKind.TheVariants.{Stray, BadTag}
 use Rattle.ap_stream.specs.Chars.{Front, Part, NotChar, Char, char_at, tail2, tail3, tail4, is_tail, is_second, Fits, char_fits}
-use Rattle.ap_stream.specs.Units.{Form, Name, Runs, Breaks, Stops, name, name_by, behind_name, Sign, Awaits, Bars, Reads, Slash, Dollar, sign, of_bare, of_name, bare_of, is_barred, begins_tag, in_surface, rest, longer, longer_longer, longer_zero}
+use Rattle.ap_stream.specs.Units.{Form, Name, Runs, Breaks, Stops, name, name_by, behind_name, Sign, Awaits, Bars, Reads, Slash, Dollar, sign, of_bare, of_name, bare_of, is_barred, begins_tag, in_surface, rest, longer, longer_longer, longer_zero, Brace}
 use Rattle.ap_stream.specs.PlainBytes.{is_stop, plain_size}
 use Rattle.ap_stream.specs.Signs.{Barren}
 use Rattle.ap_stream.proofs.Encoding.{tail_range, second_parts, char_encodes, Encodes}
@@ -137,17 +137,17 @@ module _ (c n : ℕ) (bytes : List ℕ) (e : encode_utf8 c ≡ take n bytes) whe
     unlike is_stop c 13 h refl,
   ) at w
 
-  is_letter : is_stop c ≡ false → eqb c 60 ≡ false → is_barred false c ≡ false → eqb c 43 ≡ false →
-      eqb c 35 ≡ false → eqb c 126 ≡ false → eqb c 42 ≡ false → eqb c 64 ≡ false →
+  is_letter : is_stop c ≡ false → eqb c 60 ≡ false → eqb c 123 ≡ false →
+      is_barred false c ≡ false → eqb c 43 ≡ false → eqb c 35 ≡ false → eqb c 126 ≡ false → eqb c 42 ≡ false → eqb c 64 ≡ false →
       symbol_bytes (symbol.Letter c) ≡ take n bytes
-  is_letter h angle bars j q a s t =
+  is_letter h angle brace bars j q a s t =
       rw (
         unlike (is_barred false) c 94 bars refl,
         unlike is_stop c 36 h refl,
         unlike is_stop c 47 h refl,
         angle,
         unlike (is_barred false) c 62 bars refl,
-        unlike (is_barred false) c 123 bars refl,
+        brace,
         unlike (is_barred false) c 125 bars refl,
         unlike is_stop c 92 h refl,
         unlike (is_barred false) c 91 bars refl,
@@ -159,16 +159,17 @@ module _ (c n : ℕ) (bytes : List ℕ) (e : encode_utf8 c ≡ take n bytes) whe
         a,
       ) e
 
-  bare_renders : is_stop c ≡ false → eqb c 60 ≡ false → is_barred false c ≡ false →
+  bare_renders : is_stop c ≡ false → eqb c 60 ≡ false → eqb c 123 ≡ false →
+      is_barred false c ≡ false →
       symbol_bytes (bare_symbol c) ≡ take n bytes
-  bare_renders h angle bars =
+  bare_renders h angle brace bars =
       pick Here (is_white c) symbol.Blank _ (λ w. is_code 32 (omega arith) (is_space h w))
       (λ _. pick Here (eqb c 43) symbol.Join _ (λ t. is_code 43 (omega arith) t)
       (λ j. pick Here (eqb c 35) symbol.Queue _ (λ t. is_code 35 (omega arith) t)
       (λ q. pick Here (eqb c 126) symbol.Alarm _ (λ t. is_code 126 (omega arith) t)
       (λ a. pick Here (eqb c 42) symbol.Star _ (λ t. is_code 42 (omega arith) t)
       (λ s. pick Here (eqb c 64) symbol.At (symbol.Letter c) (λ t. is_code 64 (omega arith) t)
-      (λ t. is_letter h angle bars j q a s t))))))
+      (λ t. is_letter h angle brace bars j q a s t))))))
     where
       Here : Symbol → Type 0
       Here s = symbol_bytes s ≡ take n bytes
@@ -277,6 +278,7 @@ Plain surface bytes (Reads s n) = (0 < n) × (n ≤ length bytes)
     × (list_any is_stop (take n bytes) ≡ false) × (surface ≡ false → symbol_bytes s ≡ take n bytes)
 Plain surface bytes Slash = ⊥
 Plain surface bytes Dollar = ⊥
+Plain surface bytes Brace = Unit {0}
 
 plain_cond : (surface : Bool) (bytes : List ℕ) (b : Bool) (s t : Sign) →
     (b ≡ true → Plain surface bytes s) → (b ≡ false → Plain surface bytes t) →
@@ -319,14 +321,15 @@ plain_bare surface b bs h tag NotChar e = tt
 plain_bare surface b bs h tag (Char c n) e =
     plain_cond surface (b ∷ bs) (eqb c 47) Slash _ (λ t. stopped 47 t refl)
     (λ _. plain_cond surface (b ∷ bs) (eqb c 36) Dollar _ (λ t. stopped 36 t refl)
-    (λ _. plain_cond surface (b ∷ bs) (is_barred surface c) (Bars Stray)
+    (λ _. plain_cond surface (b ∷ bs) (eqb c 123) Brace _ (λ _. tt)
+    (λ brace. plain_cond surface (b ∷ bs) (is_barred surface c) (Bars Stray)
     (Reads (bare_of surface c) n) (λ _. tt)
     (λ free. (
       fits.0,
       fits.1,
       subst (λ (f : Front). Keeps (b ∷ bs) f) e (char_keeps b bs h),
-      λ s. rendered surface s tag free,
-    ))))
+      λ s. rendered surface s tag brace free,
+    )))))
   where
     fits : Fits (Char c n) (length (b ∷ bs))
     fits = subst (λ (f : Front). Fits f (length (b ∷ bs))) e (char_fits (b ∷ bs))
@@ -341,12 +344,12 @@ plain_bare surface b bs h tag (Char c n) e =
     stopped k t s = absurd (let z : is_stop c ≡ true = ap is_stop (eqb-true c k t) ∙ s in
         let g = goes in cc)
 
-    rendered : (v : Bool) → v ≡ false → begins_tag v b ≡ false → is_barred v c ≡ false →
-        symbol_bytes (bare_of v c) ≡ take n (b ∷ bs)
-    rendered true s tag free = absurd (cc)
-    rendered false s tag free =
+    rendered : (v : Bool) → v ≡ false → begins_tag v b ≡ false → eqb c 123 ≡ false →
+        is_barred v c ≡ false → symbol_bytes (bare_of v c) ≡ take n (b ∷ bs)
+    rendered true s tag brace free = absurd (cc)
+    rendered false s tag brace free =
         bare_renders c n (b ∷ bs) spelled goes
-        (char_no_angle c b n bs spelled (no_angle (eqb b 60) tag)) free
+        (char_no_angle c b n bs spelled (no_angle (eqb b 60) tag)) brace free
       where
         no_angle : (v : Bool) → (v && true) ≡ false → v ≡ false
         no_angle true t = absurd (cc)
@@ -420,12 +423,13 @@ pub record Run (form : Form) (words : List (List Symbol)) (word : List Symbol)
       ++ take (plain_size bs) bs
 
 pub run : (fuel : ℕ) (form : Form) (words : List (List Symbol)) (word : List Symbol) (bs : List ℕ) →
-    length bs ≤ fuel → IsWhole (rest form words word 0 bs) → Run form words word bs
+    form.braced ≡ false → length bs ≤ fuel → IsWhole (rest form words word 0 bs) →
+    Run form words word bs
 unfolding rest plain_size
-run fuel form words word [] l w = absurd w
-run zero form words word (b ∷ bs) l w = absurd (omega (arith, l))
-run (suc fuel) form words word (b ∷ bs) l w =
-    by (is_stop b) refl (λ s n. run fuel form words (word ++ s ∷ []) (drop n (b ∷ bs)))
+run fuel form words word [] u l w = absurd w
+run zero form words word (b ∷ bs) u l w = absurd (omega (arith, l))
+run (suc fuel) form words word (b ∷ bs) u l w =
+    by (is_stop b) refl (λ s n. run fuel form words (word ++ s ∷ []) (drop n (b ∷ bs)) u)
   where
     here : plain_size (b ∷ bs) ≡ 0 → Run form words word (b ∷ bs)
     here z = record {
@@ -477,6 +481,7 @@ run (suc fuel) form words word (b ∷ bs) l w =
     at (Reads s n) e p go = further s n e p (go s n)
     at Slash e p go = absurd p
     at Dollar e p go = absurd p
+    at Brace e p go = absurd (laws.unbraced form words word (b ∷ bs) e (omega arith) u w)
 
     by : (v : Bool) → is_stop b ≡ v →
         ((s : Symbol) (n : ℕ) → length (drop n (b ∷ bs)) ≤ fuel →

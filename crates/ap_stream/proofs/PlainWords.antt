@@ -12,6 +12,7 @@ use Rattle.ap_stream.proofs.PlainBytes.{Run, run}
 use Rattle.ap_stream.proofs.Proper.{unit_proper}
 use Rattle.ap_stream.proofs.SignLaws as laws
 use Rattle.ap_stream.proofs.UnitWords as units
+use Rattle.ap_stream.specs.InUnits.{words_brace}
 
 -- so many words stand behind
 pub record Behind (dialect : Dialect) (held : List ℕ) (count from : ℕ) : Type 0 where
@@ -46,7 +47,8 @@ module _ (dialect : Dialect) (held : List ℕ) (all : List (List Symbol))
   size = plain_size (drop from held)
 
   here : Run (form_of dialect) h.words [] (drop from held)
-  here = run (length (drop from held)) (form_of dialect) h.words [] (drop from held) (omega arith)
+  here = run (length (drop from held)) (form_of dialect) h.words [] (drop from held)
+      (words_brace dialect u.has) (omega arith)
       (laws.whole_here dialect held all h.words [] from u h.begun h.on)
 
   ended : rest (form_of dialect) [] [] 0 (drop 1 held)

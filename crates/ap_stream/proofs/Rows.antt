@@ -3,7 +3,7 @@ use Rattle.std.specs.Prelude.{◌≡◌, ◌≢◌, ℕ, zero, suc, ◌+◌, ◌
 use Rattle.std.proofs.Common.{arith, ap, sym, subst, ◌∙◌}
 use Rattle.std.proofs.lemmas.Bool.{eqb-true}
 use Rattle.std.proofs.lemmas.Bool.Decides.{nat_tests}
-use Rattle.std.proofs.lemmas.List.{append-nil, length-take, length-drop, take-append-drop, take-take}
+use Rattle.std.proofs.lemmas.List.{append-nil, length-take, length-take-le, length-drop, take-append-drop, take-take}
 use Rattle.std.proofs.lemmas.List.Concat.{flat_map-cons}
 use Rattle.std.proofs.lemmas.Str.{encode_ascii}
 use Rattle.std.proofs.Math.Seq.{take-add, take-append_seam, drop-append_seam}
@@ -15,14 +15,14 @@ use Rattle.ap_stream.specs.declared.fault.MalformedKind.TheVariants.{Stray, Unfi
 use Rattle.ap_stream.specs.declared.item.Item.{Item}
 use Rattle.ap_stream.specs.declared.item.Item.TheVariants as item
 use Rattle.ap_stream.specs.declared.item.Read.{Read}
-use Rattle.ap_stream.specs.Blanks.{Run, Open, Inside, BadChar, Done, further, behind_close, blank, Close, Within, Bad, Closed, closing, closing_by, closes, escapes, longer, is_white}
+use Rattle.ap_stream.specs.Blanks.{Run, Open, Inside, BadChar, Done, further, behind_close, blank, Close, Within, Bad, Closed, closing, closing_by, closes, escapes, longer, is_white, begins_blank, blank_some}
 use Rattle.ap_stream.specs.Chars.{Front, Part, NotChar, Char, char_at}
-use Rattle.ap_stream.specs.Dialects.{is_refused}
+use Rattle.ap_stream.specs.Dialects.{is_refused, has_chunks}
 use Rattle.ap_stream.specs.InUnits.{unit_always}
-use Rattle.ap_stream.specs.Laws.{AreWords}
+use Rattle.ap_stream.specs.Laws.{AreWords, AreSpelt, AreParts}
 use Rattle.ap_stream.specs.Limits.{item_max}
-use Rattle.ap_stream.specs.Pieces.{HasSuperblanks, nothing, piece, plain, white, superblank, unit, IsUnit, IsSuperblank, IsToBracket, closed, bare, escaped, is_bare, supers_of}
-use Rattle.ap_stream.specs.Reading.{First, Needs, Whole, Faulty, Bad as OfKind, Past, first, last, Last, Complete, Broken, last_run, begins_blank, begins_unit, of_run, of_escaped, of_char, of_unit, plain as plain_item, limited, at_limit, past, walk, walked, reads, at_end, counted}
+use Rattle.ap_stream.specs.Pieces.{HasSuperblanks, nothing, piece, plain, white, superblank, unit, IsUnit, IsSuperblank, IsToBracket, closed, bare, escaped, is_bare, supers_of, IsChunk, chunk}
+use Rattle.ap_stream.specs.Reading.{First, Needs, Whole, Faulty, Bad as OfKind, Past, first, last, Last, Complete, Broken, last_run, begins_unit, of_run, of_escaped, of_char, of_unit, plain as plain_item, limited, at_limit, past, walk, walked, reads, at_end, counted, of_caret, of_chunk, of_body, name_in}
 use Rattle.ap_stream.specs.Spelling.{character_bytes}
 use Rattle.ap_stream.specs.Supers.{blank_supers, item_supers}
 use Rattle.ap_stream.specs.Units.{Rest, Lacks, Wrong, Ends, rest, form_of}
@@ -31,11 +31,15 @@ use Rattle.ap_stream.proofs.Fronts.{white_other, same_test, low_blank, low_escap
 use Rattle.ap_stream.proofs.Joined.{joined, one_piece}
 use Rattle.ap_stream.proofs.Superblanks.{supers_other, supers_closed}
 use Rattle.ap_stream.proofs.WordsRead.{unit_words}
+use Rattle.ap_stream.specs.Chunks.{Body, Opens, Fails, Closes, body}
+use Rattle.ap_stream.specs.declared.item.Chunk.{Chunk}
+use Rattle.ap_stream.specs.declared.dialect.Dialect.TheVariants.{Raw, Analysed, Lexical, Bilingual, Chunked, Generated}
+use Rattle.ap_stream.proofs.ChunkCut.{chunk_cut}
 
 -- a superblank that is read
 
 -- behind a backslash stands any one character
-abbrev Behind : Bool → List ℕ → Type 0
+abbrev pub Behind : Bool → List ℕ → Type 0
 Behind true bytes = (c : ℕ) × (more : List ℕ) × IsCode c × IsToBracket more
     × (bytes ≡ encode_utf8 c ++ more)
 Behind false bytes = IsToBracket bytes
@@ -94,10 +98,10 @@ close_behind false b bs c m h t =
     let is : c ≡ 93 = eqb-true c 93 t in
     closed (sym (char_bytes (b ∷ bs) c m h) ∙ ap encode_utf8 is ∙ encode_ascii 93 (omega arith))
 
-abbrev ClosedAt : Bool → List ℕ → ℕ → Type 0
+abbrev pub ClosedAt : Bool → List ℕ → ℕ → Type 0
 ClosedAt e bs n = Behind e (take n bs) × (n ≤ length bs)
 
-closed_at : (e : Bool) (skip : ℕ) (bs : List ℕ) (n : ℕ) → closing e skip bs ≡ Closed n →
+pub closed_at : (e : Bool) (skip : ℕ) (bs : List ℕ) (n : ℕ) → closing e skip bs ≡ Closed n →
     ClosedAt e (drop skip bs) n
 unfolding closing
 closed_at e skip [] n h = absurd (cc)
@@ -224,6 +228,16 @@ run_row zero (b ∷ bs) = run_cond (b ∷ bs) (is_white b) (further 1 (blank 0 b
         subst (λ q. RunRow (q ∷ bs) (further 1 (further n (blank n bs)))) (sym is)
         (super_run bs n (blank n bs) e (go n))
 
+-- a chunk that is read, and its bytes, in the dialect that has them
+abbrev pub ChunkRow : Dialect → Chunk → List ℕ → Type 0
+ChunkRow Raw c bytes = ⊥
+ChunkRow Analysed c bytes = ⊥
+ChunkRow Lexical c bytes = ⊥
+ChunkRow Bilingual c bytes = ⊥
+ChunkRow Chunked c bytes = (first Chunked bytes ≡ Whole (item.Chunk c) (length bytes))
+    × AreSpelt false c.name × AreParts c.content
+ChunkRow Generated c bytes = ⊥
+
 -- an item that is read, and its bytes
 abbrev pub IsRow : Dialect → Item → List ℕ → Type 0
 IsRow dialect (item.Plain c) bytes =
@@ -231,7 +245,7 @@ IsRow dialect (item.Plain c) bytes =
     × (bytes ≡ character_bytes c)
 IsRow dialect (item.Blank blank) bytes = (blank ≡ bytes) × BlankRow bytes
 IsRow dialect (item.Unit words) bytes = IsUnit dialect bytes × AreWords dialect words
-IsRow dialect (item.Chunk c) bytes = ⊥
+IsRow dialect (item.Chunk c) bytes = ChunkRow dialect c bytes
 
 abbrev FirstRow : Dialect → List ℕ → First → Type 0
 FirstRow dialect bs Needs = Unit {0}
@@ -243,25 +257,6 @@ row_cond : (dialect : Dialect) (bs : List ℕ) (v : Bool) (f g : First) →
     FirstRow dialect bs (cond v f g)
 row_cond dialect bs true f g h k = h refl
 row_cond dialect bs false f g h k = k refl
-
-pub blank_some : (b : ℕ) (bs : List ℕ) (n : ℕ) → begins_blank b ≡ true →
-    blank 0 (b ∷ bs) ≡ Done n → 0 < n
-unfolding blank
-blank_some b bs n begins h = by_white (is_white b) (eqb b 91) begins h
-  where
-    more : (r : Run) → further 1 r ≡ Done n → 0 < n
-    more Open h = absurd (cc)
-    more Inside h = absurd (cc)
-    more BadChar h = absurd (cc)
-    more (Done m) h = let size : 1 + m ≡ n = cc in omega (arith, size)
-
-    by_white : (v w : Bool) → (v || w) ≡ true →
-        cond v (further 1 (blank 0 bs))
-        (cond w (further 1 (behind_close (closing false 0 bs) (λ n. blank n bs))) (Done 0))
-        ≡ Done n → 0 < n
-    by_white true w t h = more (blank 0 bs) h
-    by_white false true t h = more (behind_close (closing false 0 bs) (λ n. blank n bs)) h
-    by_white false false t h = absurd (cc)
 
 row_run : (dialect : Dialect) (b : ℕ) (bs : List ℕ) (r : Run) → begins_blank b ≡ true →
     blank 0 (b ∷ bs) ≡ r → RunRow (b ∷ bs) r → FirstRow dialect (b ∷ bs) (of_run (b ∷ bs) r)
@@ -322,16 +317,50 @@ row_unit dialect bs words n e =
     ∙ unit_always dialect (take n bs) words c.0 [] in
     ((record { words = words; read = alone }, unit_words dialect bs words n e), c.1, c.2)
 
+chunk_row : (dialect : Dialect) (bs : List ℕ) (c : Chunk) (n : ℕ) → has_chunks dialect ≡ true →
+    first dialect bs ≡ Whole (item.Chunk c) n → FirstRow dialect bs (Whole (item.Chunk c) n)
+chunk_row Raw bs c n has e = absurd (cc)
+chunk_row Analysed bs c n has e = absurd (cc)
+chunk_row Lexical bs c n has e = absurd (cc)
+chunk_row Bilingual bs c n has e = absurd (cc)
+chunk_row Chunked bs c n has e =
+    let k = chunk_cut bs c n e in
+    let alone : first Chunked (take n bs) ≡ Whole (item.Chunk c) (length (take n bs)) =
+    ap (first Chunked) (sym (append-nil (take n bs))) ∙ k.read []
+    ∙ ap (Whole (item.Chunk c)) (sym (length-take-le n bs k.fits)) in
+    ((alone, k.name, k.parts), k.some, k.fits)
+chunk_row Generated bs c n has e = absurd (cc)
+
 unit_row : (dialect : Dialect) (b : ℕ) (bs : List ℕ) → begins_blank b ≡ false → eqb b 92 ≡ false →
     begins_unit dialect b ≡ true →
-    FirstRow dialect (b ∷ bs) (of_unit (rest (form_of dialect) [] [] 0 bs))
+    FirstRow dialect (b ∷ bs) (of_caret dialect bs (rest (form_of dialect) [] [] 0 bs))
 unfolding first
-unit_row dialect b bs u v w = by (rest (form_of dialect) [] [] 0 bs) refl
+unit_row dialect b bs u v w =
+    row_cond dialect (b ∷ bs) (has_chunks dialect)
+    (of_chunk bs (rest (form_of dialect) [] [] 0 bs)) (of_unit (rest (form_of dialect) [] [] 0 bs))
+    (λ c. with_body c (rest (form_of dialect) [] [] 0 bs) refl)
+    (λ c. by c (rest (form_of dialect) [] [] 0 bs) refl)
   where
-    by : (r : Rest) → rest (form_of dialect) [] [] 0 bs ≡ r → FirstRow dialect (b ∷ bs) (of_unit r)
-    by Lacks e = tt
-    by (Wrong kind) e = tt
-    by (Ends words n) e = row_unit dialect (b ∷ bs) words (1 + n) (rw (u, v, w, e) refl)
+    by : has_chunks dialect ≡ false → (r : Rest) → rest (form_of dialect) [] [] 0 bs ≡ r →
+        FirstRow dialect (b ∷ bs) (of_unit r)
+    by c Lacks e = tt
+    by c (Wrong kind) e = tt
+    by c (Ends words n) e = row_unit dialect (b ∷ bs) words (1 + n) (rw (u, v, w, c, e) refl)
+
+    closed_row : has_chunks dialect ≡ true → (words : List (List Symbol)) (n : ℕ) →
+        rest (form_of dialect) [] [] 0 bs ≡ Ends words n → (z : Body) → body n bs ≡ z →
+        FirstRow dialect (b ∷ bs) (of_body (name_in words) [] (1 + n) z)
+    closed_row c words n e Opens f = tt
+    closed_row c words n e (Fails kind) f = tt
+    closed_row c words n e (Closes parts m) f =
+        chunk_row dialect (b ∷ bs) (record { name = name_in words; content = parts }) (1 + n + m) c
+        (rw (u, v, w, c, e, f) refl)
+
+    with_body : has_chunks dialect ≡ true → (r : Rest) → rest (form_of dialect) [] [] 0 bs ≡ r →
+        FirstRow dialect (b ∷ bs) (of_chunk bs r)
+    with_body c Lacks e = tt
+    with_body c (Wrong kind) e = tt
+    with_body c (Ends words n) e = closed_row c words n e (body n bs) refl
 
 first_row : (dialect : Dialect) (bs : List ℕ) → FirstRow dialect bs (first dialect bs)
 unfolding first
@@ -342,7 +371,7 @@ first_row dialect (b ∷ bs) =
     (λ u. row_cond dialect (b ∷ bs) (eqb b 92) (of_escaped (char_at bs)) _
     (λ t. row_escaped dialect b bs (char_at bs) (eqb-true b 92 t) refl)
     (λ v. row_cond dialect (b ∷ bs) (begins_unit dialect b)
-    (of_unit (rest (form_of dialect) [] [] 0 bs)) (of_char dialect (char_at (b ∷ bs)))
+    (of_caret dialect bs (rest (form_of dialect) [] [] 0 bs)) (of_char dialect (char_at (b ∷ bs)))
     (λ t. unit_row dialect b bs u v t)
     (λ w. row_char dialect b bs (char_at (b ∷ bs)) u v w refl)))
 
@@ -445,6 +474,17 @@ pub reads_rows : (dialect : Dialect) (place : ℕ) (text : List ℕ) → (reads 
 unfolding reads
 reads_rows dialect place text h = walk_rows dialect place 0 text h
 
+chunk_has : (dialect : Dialect) (c : Chunk) (bytes : List ℕ) → ChunkRow dialect c bytes →
+    HasSuperblanks dialect bytes (item_supers (item.Chunk c))
+chunk_has Raw c bytes h = absurd h
+chunk_has Analysed c bytes h = absurd h
+chunk_has Lexical c bytes h = absurd h
+chunk_has Bilingual c bytes h = absurd h
+chunk_has Chunked c bytes h =
+    one_piece Chunked bytes (item_supers (item.Chunk c))
+    (chunk (record { chunks = refl; chunk = c; read = h.0 }) refl)
+chunk_has Generated c bytes h = absurd h
+
 -- the superblanks of an item
 pub row_has : (dialect : Dialect) (thing : Item) (bytes : List ℕ) → IsRow dialect thing bytes →
     HasSuperblanks dialect bytes (item_supers thing)
@@ -454,7 +494,7 @@ row_has dialect (item.Plain c) bytes h =
 row_has dialect (item.Blank all) bytes h =
     subst (λ (q : List ℕ). HasSuperblanks dialect bytes (blank_supers 0 q)) (sym h.0) (h.1 dialect)
 row_has dialect (item.Unit words) bytes h = one_piece dialect bytes [] (unit h.0 refl)
-row_has dialect (item.Chunk c) bytes h = absurd h
+row_has dialect (item.Chunk c) bytes h = chunk_has dialect c bytes h
 
 pub rows_have : (dialect : Dialect) (text : List ℕ) (items : List Read) → Rows dialect text items →
     HasSuperblanks dialect text (supers_of items)

@@ -8,13 +8,13 @@ use Rattle.std.proofs.Math.Seq.{drop-append_seam, take-append_seam, take-append-
 use Rattle.ap_stream.specs.declared.dialect.Dialect.{Dialect}
 use Rattle.ap_stream.specs.declared.item.Item.{Item}
 use Rattle.ap_stream.specs.declared.item.Item.TheVariants as item
-use Rattle.ap_stream.specs.Blanks.{Run, Open, Inside, BadChar, Done, further, blank, blank_white, blank_bracket, blank_done, blank_at, is_white}
-use Rattle.ap_stream.specs.Pieces.{HasSuperblanks, nothing, piece, IsPiece, plain, white, superblank, unit, IsToBracket}
-use Rattle.ap_stream.specs.Reading.{Needs, Whole, first, last, Complete, begins_blank, of_run, last_run}
+use Rattle.ap_stream.specs.Blanks.{Run, Open, Inside, BadChar, Done, further, blank, blank_white, blank_bracket, blank_done, blank_at, is_white, begins_blank, blank_some}
+use Rattle.ap_stream.specs.Pieces.{HasSuperblanks, nothing, piece, IsPiece, plain, white, superblank, unit, IsToBracket, chunk}
+use Rattle.ap_stream.specs.Reading.{Needs, Whole, first, last, Complete, of_run, last_run}
 use Rattle.ap_stream.specs.Stands.{blank_first}
 use Rattle.ap_stream.specs.Supers.{blank_supers, item_supers, items_of, supers}
-use Rattle.ap_stream.proofs.Fronts.{to_bracket, white_other, IsWhole, plain_whole, unit_whole, one_list}
-use Rattle.ap_stream.proofs.Rows.{blank_some, drop_pred}
+use Rattle.ap_stream.proofs.Fronts.{to_bracket, white_other, IsWhole, plain_whole, unit_whole, one_list, chunk_whole}
+use Rattle.ap_stream.proofs.Rows.{drop_pred}
 use Rattle.ap_stream.proofs.Superblanks.{supers_other, supers_closed}
 
 -- the scan goes on behind an item
@@ -140,8 +140,8 @@ module _ (dialect : Dialect) where
       (subst (λ (q : List (List ℕ)). RunCut dialect [] q (blank 0 [])) (sym f) here)
   run_cut text supers (piece front rest own more p h e f) = by p (run_cut rest more h)
     where
-      whole : IsWhole dialect front → RunCut dialect text supers (blank 0 text)
-      whole w = no_blank text supers (let l = ap length e ∙ length-append front rest in
+      whole : (given : List (List ℕ)) → IsWhole dialect given front → RunCut dialect text supers (blank 0 text)
+      whole given w = no_blank text supers (let l = ap length e ∙ length-append front rest in
           omega (arith, l, w.some)) (ap blank_first e ∙ on front w.some w.dark)
           (piece front rest own more p h e f)
         where
@@ -156,8 +156,9 @@ module _ (dialect : Dialect) where
 
       by : IsPiece dialect front own → RunCut dialect rest more (blank 0 rest) →
           RunCut dialect text supers (blank 0 text)
-      by (plain q k) c = whole (plain_whole dialect front q)
-      by (unit q k) c = whole (unit_whole dialect front q)
+      by (plain q k) c = whole [] (plain_whole dialect front q)
+      by (unit q k) c = whole [] (unit_whole dialect front q)
+      by (chunk q k) c = whole _ (chunk_whole dialect front q)
       by (white b is w k) c =
           as_text (b ∷ rest) more (e ∙ ap (λ (z : List ℕ). z ++ rest) is)
           (f ∙ ap (λ (z : List (List ℕ)). z ++ more) k)
@@ -205,17 +206,17 @@ module _ (dialect : Dialect) where
       (first_blank dialect b bs t ∙ ap (of_run (b ∷ bs)) e) some) c.2
       (go (drop n (b ∷ bs)) c.1 (omega (arith, l, some, short)) c.3) c.4
 
-  finds_whole : (k b : ℕ) (bs front rest : List ℕ) (found own more : List (List ℕ)) →
-      length bs ≤ k → FindsBelow k → b ∷ bs ≡ front ++ rest → IsWhole dialect front → own ≡ [] →
-      found ≡ own ++ more → HasSuperblanks dialect rest more → Finds (b ∷ bs) found
-  finds_whole k b bs front rest found own more short go e w none f h =
+  finds_whole : (k b : ℕ) (bs front rest : List ℕ) (found own given more : List (List ℕ)) →
+      length bs ≤ k → FindsBelow k → b ∷ bs ≡ front ++ rest → IsWhole dialect given front →
+      own ≡ given → found ≡ own ++ more → HasSuperblanks dialect rest more → Finds (b ∷ bs) found
+  finds_whole k b bs front rest found own given more short go e w is f h =
       let there : first dialect (b ∷ bs) ≡ Whole w.thing (length front) =
       ap (first dialect) e ∙ w.read rest in
       let back : drop (length front) (b ∷ bs) ≡ rest = ap (drop (length front)) e
       ∙ drop-append_seam front rest in
       let l = ap length e ∙ length-append front rest in
       finds_item (b ∷ bs) w.thing (items_of dialect 0 (drop (length front) (b ∷ bs))) own more found
-      (items_whole dialect b bs w.thing (length front) there w.some) (w.none ∙ sym none)
+      (items_whole dialect b bs w.thing (length front) there w.some) (w.supers ∙ sym is)
       (ap (λ (q : List ℕ). flat_map item_supers (items_of dialect 0 q)) back
       ∙ go rest more (omega (arith, l, w.some, short)) h) f
 
@@ -224,9 +225,13 @@ module _ (dialect : Dialect) where
       HasSuperblanks dialect rest more → HasSuperblanks dialect (b ∷ bs) found →
       IsPiece dialect front own → Finds (b ∷ bs) found
   finds_piece k b bs front rest found own more short go e f h all (plain q none) =
-      finds_whole k b bs front rest found own more short go e (plain_whole dialect front q) none f h
+      finds_whole k b bs front rest found own [] more short go e (plain_whole dialect front q) none
+      f h
   finds_piece k b bs front rest found own more short go e f h all (unit q none) =
-      finds_whole k b bs front rest found own more short go e (unit_whole dialect front q) none f h
+      finds_whole k b bs front rest found own [] more short go e (unit_whole dialect front q) none
+      f h
+  finds_piece k b bs front rest found own more short go e f h all (chunk q is) =
+      finds_whole k b bs front rest found own _ more short go e (chunk_whole dialect front q) is f h
   finds_piece k b bs front rest found own more short go e f h all (white a is w none) =
       finds_blank k b bs found short
       (begins (ap blank_first (e ∙ ap (λ (z : List ℕ). z ++ rest) is)) w) go (blank 0 (b ∷ bs)) refl

@@ -9,13 +9,15 @@ use Rattle.ap_symbol.specs.declared.symbol.Symbol.{Symbol}
 use Rattle.ap_symbol.specs.Rendering.{rendering}
 use Rattle.ap_stream.specs.declared.dialect.Dialect.{Dialect}
 use Rattle.ap_stream.specs.declared.fault.MalformedKind.TheVariants.{Stray, EmptyWord}
-use Rattle.ap_stream.specs.Units.{Form, form_of, is_none, may_part, may_end, Rest, Lacks, Wrong, Ends, rest, longer, rest_slash, rest_dollar}
+use Rattle.ap_stream.specs.Units.{Form, form_of, is_none, may_part, may_end, Rest, Lacks, Wrong, Ends, rest, longer, rest_slash, rest_dollar, early}
 use Rattle.ap_stream.specs.UnitBytes.{UnitOf, ended_words, unit_words}
 use Rattle.ap_stream.specs.PlainBytes.{is_stop, is_odd, plain_size}
 use Rattle.ap_stream.specs.Spelling.{unit_bytes, joined}
 use Rattle.ap_stream.proofs.PlainBytes.{Run, run}
 use Rattle.ap_stream.proofs.SignLaws.{IsWhole}
 use Rattle.ap_stream.proofs.UnitWords.{words_are}
+use Rattle.ap_stream.specs.InUnits.{words_brace}
+use Rattle.ap_stream.specs.declared.fault.MalformedKind.{MalformedKind}
 
 rest_nil : (form : Form) (words : List (List Symbol)) (word : List Symbol) →
     rest form words word 0 [] ≡ Lacks
@@ -71,10 +73,10 @@ ended_size Lacks = 0
 ended_size (Wrong kind) = 0
 ended_size (Ends words n) = n
 
-dollar_ends : (v : Bool) (k n : ℕ) (words all : List (List Symbol)) →
-    longer k (cond v (Ends words 1) (Wrong EmptyWord)) ≡ Ends all n → (all ≡ words) × (n ≡ k + 1)
-dollar_ends true k n words all e = (sym (ap ended_words e), sym (ap ended_size e))
-dollar_ends false k n words all e = absurd (cc)
+dollar_ends : (v : Bool) (kind : MalformedKind) (k n : ℕ) (words all : List (List Symbol)) →
+    longer k (cond v (Ends words 1) (Wrong kind)) ≡ Ends all n → (all ≡ words) × (n ≡ k + 1)
+dollar_ends true kind k n words all e = (sym (ap ended_words e), sym (ap ended_size e))
+dollar_ends false kind k n words all e = absurd (cc)
 
 slash_ends : (u v : Bool) (k n : ℕ) (r : Rest) (all : List (List Symbol)) →
     longer k (cond u (cond v (longer 1 r) (Wrong EmptyWord)) (Wrong Stray)) ≡ Ends all n →
@@ -95,14 +97,15 @@ pub record Joins (words : List (List Symbol)) (bs : List ℕ) (all : List (List 
   pub bytes : take n bs ≡ joined (word ∷ more) ++ 36 ∷ []
 
 joins : (fuel : ℕ) (form : Form) (words : List (List Symbol)) (bs : List ℕ)
-    (all : List (List Symbol)) (n : ℕ) → length bs < fuel → form.surface ≡ false →
-    list_any is_odd bs ≡ false → rest form words [] 0 bs ≡ Ends all n → Joins words bs all n
-joins zero form words bs all n l bare odd e = absurd (omega (arith, l))
-joins (suc fuel) form words bs all n l bare odd e =
-    at (drop (plain_size bs) bs) refl (λ ws more m. joins fuel form ws more all m)
+    (all : List (List Symbol)) (n : ℕ) → form.braced ≡ false → length bs < fuel →
+    form.surface ≡ false → list_any is_odd bs ≡ false → rest form words [] 0 bs ≡ Ends all n →
+    Joins words bs all n
+joins zero form words bs all n u l bare odd e = absurd (omega (arith, l))
+joins (suc fuel) form words bs all n u l bare odd e =
+    at (drop (plain_size bs) bs) refl (λ ws more m. joins fuel form ws more all m u)
   where
     here : Run form words [] bs
-    here = run (length bs) form words [] bs (omega arith) (subst IsWhole (sym e) tt)
+    here = run (length bs) form words [] bs u (omega arith) (subst IsWhole (sym e) tt)
 
     spelled : rendering here.after ≡ take (plain_size bs) bs
     spelled = here.spelled (ap (λ v. v && is_none words) bare)
@@ -115,9 +118,9 @@ joins (suc fuel) form words bs all n l bare odd e =
     by_dollar more d =
         let on : rest form words here.after 0 (drop (plain_size bs) bs)
         ≡ cond (may_end form words here.after) (Ends (words ++ here.after ∷ []) 1)
-        (Wrong EmptyWord) = ap (rest form words here.after 0) d
+        (Wrong (early form)) = ap (rest form words here.after 0) d
         ∙ rest_dollar form words here.after more in
-        let k = dollar_ends (may_end form words here.after) (plain_size bs) n
+        let k = dollar_ends (may_end form words here.after) (early form) (plain_size bs) n
         (words ++ here.after ∷ []) all (ap (longer (plain_size bs)) (sym on) ∙ behind) in
         record {
           word = here.after;
@@ -191,7 +194,7 @@ spelled_unit dialect held all u bare odd =
     (either_none (is_odd 94) (list_any is_odd u.tail)
     (ap (list_any is_odd) (sym u.begins) ∙ odd)).1 in
     let j = joins (suc (length u.tail)) (form_of dialect) [] u.tail all (length u.tail)
-    (omega arith) bare free end in
+    (words_brace dialect u.has) (omega arith) bare free end in
     let whole : u.tail ≡ joined all ++ 36 ∷ [] = sym (take_all (length u.tail) u.tail (omega arith))
     ∙ j.bytes ∙ ap (λ q. joined q ++ 36 ∷ []) (sym j.are) in
     u.begins ∙ ap (λ q. 94 ∷ q) whole ∙ ap unit_bytes (sym (words_are dialect held all u))

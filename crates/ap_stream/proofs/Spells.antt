@@ -8,11 +8,11 @@ use Rattle.ap_stream.specs.declared.dialect.Dialect.{Dialect}
 use Rattle.ap_stream.specs.declared.item.Item.{Item}
 use Rattle.ap_stream.specs.declared.item.Item.TheVariants as item
 use Rattle.ap_stream.specs.declared.item.Read.{Read}
-use Rattle.ap_stream.specs.Dialects.{is_refused, has_words}
+use Rattle.ap_stream.specs.Dialects.{is_refused, has_units}
 use Rattle.ap_stream.specs.Chars.{Front, Part, NotChar, Char, char_at}
-use Rattle.ap_stream.specs.Blanks.{Run, Open, Inside, BadChar, Done, blank}
+use Rattle.ap_stream.specs.Blanks.{Run, Open, Inside, BadChar, Done, blank, begins_blank}
 use Rattle.ap_stream.proofs.Encoding.{Encodes, char_encodes}
-use Rattle.ap_stream.specs.Reading.{First, Needs, Whole, Faulty, Kind, Past, first, limited, past, at_limit, begins_blank, of_run, of_escaped, of_char, plain, IsRead}
+use Rattle.ap_stream.specs.Reading.{First, Needs, Whole, Faulty, Kind, Past, first, limited, past, at_limit, of_run, of_escaped, of_char, plain, IsRead}
 use Rattle.ap_stream.specs.declared.fault.LimitKind.TheVariants.{ItemTooLong}
 use Rattle.ap_stream.specs.Spelling.{spelled}
 
@@ -45,7 +45,7 @@ spells_char dialect text NotChar e = tt
 spells_char dialect text (Char c n) e =
     spells_cond text (is_refused dialect c) (Faulty _) (Whole (plain c false) n) (λ _. tt) (λ _. e)
 
-pub first_spells : (dialect : Dialect) (text : List ℕ) → has_words dialect ≡ false →
+pub first_spells : (dialect : Dialect) (text : List ℕ) → has_units dialect ≡ false →
     Spells text (first dialect text)
 unfolding first
 first_spells dialect [] bare = tt
@@ -88,7 +88,7 @@ shown_cond true f g thing n h k e = h e
 shown_cond false f g thing n h k e = k e
 
 pub limited_shows : (most : ℕ) (dialect : Dialect) (text : List ℕ) (thing : Item) (n : ℕ) →
-    has_words dialect ≡ false → limited most dialect text ≡ Whole thing n → Shown thing n
+    has_units dialect ≡ false → limited most dialect text ≡ Whole thing n → Shown thing n
 unfolding limited
 limited_shows most dialect text thing n bare h =
     shown_cond (leb (length text) most) (first dialect text) _ thing n
@@ -98,7 +98,7 @@ limited_shows most dialect text thing n bare h =
     (first_spells dialect (take (suc most) text) bare) e) h
 
 -- the spelling of an item as reading gives it has no more bytes than the item had
-pub spelled_size : (dialect : Dialect) (read : Read) → has_words dialect ≡ false →
+pub spelled_size : (dialect : Dialect) (read : Read) → has_units dialect ≡ false →
     IsRead dialect read → length (spelled read.item) ≤ read.size
 spelled_size dialect read bare h =
     let s = limited_shows item_max dialect h.text read.item read.size bare h.whole in

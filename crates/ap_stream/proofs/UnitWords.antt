@@ -7,7 +7,7 @@ use Rattle.std.proofs.lemmas.Bool.Decides.{nat_tests}
 use Rattle.ap_symbol.specs.declared.symbol.Symbol.{Symbol}
 use Rattle.ap_stream.specs.declared.dialect.Dialect.{Dialect}
 use Rattle.ap_stream.specs.declared.fault.MalformedKind.TheVariants.{Stray, EmptyWord}
-use Rattle.ap_stream.specs.Units.{Form, form_of, Sign, Awaits, Bars, Reads, Slash, Dollar, sign, in_surface, is_none, may_part, may_end, Rest, Lacks, Wrong, Ends, rest, longer, gone}
+use Rattle.ap_stream.specs.Units.{Form, form_of, Sign, Awaits, Bars, Reads, Slash, Dollar, Brace, sign, in_surface, is_none, may_part, may_end, early, Rest, Lacks, Wrong, Ends, rest, longer, gone}
 use Rattle.ap_stream.specs.UnitBytes.{UnitOf, ended_words, unit_words, IsAt}
 use Rattle.ap_stream.specs.UnitHeld.{held_words, IsHeld}
 use Rattle.ap_stream.specs.declared.unit.Held.{Held}
@@ -75,7 +75,9 @@ rest_extends form words word zero (b ∷ bs) =
         (extends_less words word (rest form (words ++ word ∷ []) [] 0 bs)
         (go (words ++ word ∷ []) [] 0))) tt) tt
     by Dollar go = extends_cond words (may_end form words word) (Ends (words ++ word ∷ []) 1)
-        (Wrong EmptyWord) (word ∷ [], refl) tt
+        (Wrong (early form)) (word ∷ [], refl) tt
+    by Brace go = extends_cond words form.braced (Ends (words ++ word ∷ []) 1) (Wrong Stray)
+        (word ∷ [], refl) tt
 
 -- a unit that is read has a word
 pub some_words : (dialect : Dialect) (held : List ℕ) (all : List (List Symbol)) →

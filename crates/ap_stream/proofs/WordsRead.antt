@@ -12,16 +12,20 @@ use Rattle.ap_symbol.specs.Words.{is_white}
 use Rattle.ap_symbol.specs.TagNames.{is_reserved_lem}
 use Rattle.ap_symbol.specs.TextWord.{escaped_symbol, bare_symbol}
 use Rattle.ap_stream.specs.declared.dialect.Dialect.{Dialect}
+use Rattle.ap_stream.specs.declared.dialect.Dialect.TheVariants.{Chunked}
 use Rattle.ap_stream.specs.declared.fault.MalformedKind.TheVariants.{Stray, EmptyWord, BadTag}
 use Rattle.ap_stream.specs.declared.item.Item.TheVariants as item
-use Rattle.ap_stream.specs.Dialects.{has_words, is_refused}
-use Rattle.ap_stream.specs.Blanks.{Run, Open, Inside, BadChar, Done, blank}
+use Rattle.ap_stream.specs.Dialects.{has_words, is_refused, has_chunks, has_units}
+use Rattle.ap_stream.specs.Blanks.{Run, Open, Inside, BadChar, Done, blank, begins_blank}
 use Rattle.ap_stream.specs.Chars.{Front, Part, NotChar, Char, char_at, tail2, tail3, tail4, is_tail, is_second, Fits, char_fits}
-use Rattle.ap_stream.specs.Units.{Form, form_of, Name, Runs, Breaks, Stops, name, name_skip, name_by, behind_name, Sign, Awaits, Bars, Reads, Slash, Dollar, sign, of_bare, of_name, of_escape, bare_of, is_barred, begins_tag, in_surface, is_none, may_part, may_end, Rest, Lacks, Wrong, Ends, rest, longer, gone}
-use Rattle.ap_stream.specs.Reading.{First, Needs, Whole, Faulty, Bad, first, of_unit, of_run, of_escaped, of_char, begins_blank, begins_unit, plain}
+use Rattle.ap_stream.specs.Units.{Form, form_of, Name, Runs, Breaks, Stops, name, name_skip, name_by, behind_name, Sign, Awaits, Bars, Reads, Slash, Dollar, sign, of_bare, of_name, of_escape, bare_of, is_barred, begins_tag, in_surface, is_none, may_part, may_end, Rest, Lacks, Wrong, Ends, rest, longer, gone, Brace, early}
+use Rattle.ap_stream.specs.Reading.{First, Needs, Whole, Faulty, Bad, first, of_unit, of_run, of_escaped, of_char, begins_unit, plain, of_body, of_chunk, of_caret, name_in}
 use Rattle.ap_symbol.specs.Coded.{IsCode, AreNamed}
 use Rattle.ap_stream.specs.Laws.{IsSpelt, AreSpelt, EachSpelt, AreAsMany, AreWords}
 use Rattle.ap_stream.proofs.Encoding.{tail_range, second_parts, char_encodes, Encodes}
+use Rattle.ap_stream.specs.Chunks.{Body, Opens, Fails, Closes, body}
+use Rattle.ap_stream.specs.declared.item.Inner.{Inner}
+use Rattle.ap_stream.specs.InUnits.{words_brace, units_words, braced_chunks}
 
 -- a character that is read has a code
 abbrev Coded : Front → Type 0
@@ -226,6 +230,7 @@ SignSpelt surface (Bars kind) = Unit {0}
 SignSpelt surface (Reads s n) = IsSpelt surface s
 SignSpelt surface Slash = Unit {0}
 SignSpelt surface Dollar = Unit {0}
+SignSpelt surface Brace = Unit {0}
 
 sign_cond : (surface b : Bool) (s t : Sign) → (b ≡ true → SignSpelt surface s) →
     (b ≡ false → SignSpelt surface t) → SignSpelt surface (cond b s t)
@@ -247,8 +252,9 @@ spelt_of_bare surface NotChar h = tt
 spelt_of_bare surface (Char c n) h =
     sign_cond surface (eqb c 47) Slash _ (λ _. tt)
     (λ _. sign_cond surface (eqb c 36) Dollar _ (λ _. tt)
+    (λ _. sign_cond surface (eqb c 123) Brace _ (λ _. tt)
     (λ _. sign_cond surface (is_barred surface c) (Bars Stray) (Reads (bare_of surface c) n)
-    (λ _. tt) (λ _. spelt_of surface c h)))
+    (λ _. tt) (λ _. spelt_of surface c h))))
 
 spelt_name : (surface : Bool) (bs : List ℕ) (r : Name) → surface ≡ false → NameIs bs r →
     SignSpelt surface (of_name bs r)
@@ -345,13 +351,14 @@ far_slash form (first ∷ words) word h several part =
 
 far_end : (form : Form) (words : List (List Symbol)) (word : List Symbol) → SoFar form words word →
     may_end form words word ≡ true → Whole_words form (words ++ word ∷ [])
-far_end form [] word h may = by form.several refl
+far_end form [] word h may =
+    by form.several refl (and_parts (not form.braced) _ may).1
   where
-    by : (v : Bool) → form.several ≡ v → (0 < length word) × AreSpelt form.surface word × Unit {0}
-        × (form.several ≡ false)
-    by true e = absurd (let k : cond true (not true) (not (is_none word)) ≡ true =
+    by : (v : Bool) → form.several ≡ v → cond form.several (not true) (not (is_none word)) ≡ true →
+        (0 < length word) × AreSpelt form.surface word × Unit {0} × (form.several ≡ false)
+    by true e may = absurd (let k : cond true (not true) (not (is_none word)) ≡ true =
         rw e at may in cc)
-    by false e = (some word (rw e at may), h, tt, e)
+    by false e may = (some word (rw e at may), h, tt, e)
       where
         some : (w : List Symbol) → not (is_none w) ≡ true → 0 < length w
         some [] e = absurd (cc)
@@ -362,10 +369,20 @@ far_end form (first ∷ words) word h may = (h.0, h.1, each_more words word h.2 
     many [] = h.3
     many (w ∷ ws) = h.3
 
+-- the first word, which a chunk's name is
+abbrev FirstSpelt : Form → List (List Symbol) → Type 0
+FirstSpelt form [] = ⊥
+FirstSpelt form (word ∷ words) = AreSpelt form.surface word
+
+far_first : (form : Form) (words : List (List Symbol)) (word : List Symbol) →
+    SoFar form words word → FirstSpelt form (words ++ word ∷ [])
+far_first form [] word h = h
+far_first form (first ∷ words) word h = h.1
+
 abbrev Good : Form → Rest → Type 0
 Good form Lacks = Unit {0}
 Good form (Wrong kind) = Unit {0}
-Good form (Ends words n) = Whole_words form words
+Good form (Ends words n) = (form.braced ≡ false → Whole_words form words) × FirstSpelt form words
 
 good_longer : (form : Form) (n : ℕ) (r : Rest) → Good form r → Good form (longer n r)
 good_longer form n Lacks h = tt
@@ -401,7 +418,20 @@ rest_good form words word zero (b ∷ bs) h =
         (go (words ++ word ∷ []) [] 0 (far_slash form words word h several part)))
         (λ _. tt)) (λ _. tt)
     by Dollar k go = good_cond form (may_end form words word) (Ends (words ++ word ∷ []) 1)
-        (Wrong EmptyWord) (λ may. far_end form words word h may) (λ _. tt)
+        (Wrong (early form))
+        (λ may. (λ _. far_end form words word h may, far_first form words word h)) (λ _. tt)
+    by Brace k go = good_cond form form.braced (Ends (words ++ word ∷ []) 1) (Wrong Stray)
+        (λ b. (λ f. absurd (cc), far_first form words word h)) (λ _. tt)
+
+-- the name of a chunk that is read
+pub name_spelt : (bs : List ℕ) (words : List (List Symbol)) (n : ℕ) →
+    rest (form_of Chunked) [] [] 0 bs ≡ Ends words n → AreSpelt false (name_in words)
+name_spelt bs words n e =
+    by words (subst (Good (form_of Chunked)) e (rest_good (form_of Chunked) [] [] 0 bs tt))
+  where
+    by : (ws : List (List Symbol)) → Good (form_of Chunked) (Ends ws n) → AreSpelt false (name_in ws)
+    by [] h = tt
+    by (word ∷ ws) h = h.1
 
 -- an item
 
@@ -445,7 +475,26 @@ fine_unit : (dialect : Dialect) (r : Rest) → has_words dialect ≡ true → Go
     Fine dialect (of_unit r)
 fine_unit dialect Lacks has h = tt
 fine_unit dialect (Wrong kind) has h = tt
-fine_unit dialect (Ends words n) has h = whole_words dialect words has h
+fine_unit dialect (Ends words n) has h =
+    whole_words dialect words has (h.0 (words_brace dialect has))
+
+fine_body : (dialect : Dialect) (name : List Symbol) (parts : List Inner) (n : ℕ) (b : Body) →
+    Fine dialect (of_body name parts n b)
+fine_body dialect name parts n Opens = tt
+fine_body dialect name parts n (Fails kind) = tt
+fine_body dialect name parts n (Closes more m) = tt
+
+fine_chunk : (dialect : Dialect) (bytes : List ℕ) (r : Rest) → Fine dialect (of_chunk bytes r)
+fine_chunk dialect bytes Lacks = tt
+fine_chunk dialect bytes (Wrong kind) = tt
+fine_chunk dialect bytes (Ends words n) = fine_body dialect (name_in words) [] (1 + n) (body n bytes)
+
+fine_caret : (dialect : Dialect) (bytes : List ℕ) (r : Rest) → has_units dialect ≡ true →
+    Good (form_of dialect) r → Fine dialect (of_caret dialect bytes r)
+fine_caret dialect bytes r has h =
+    fine_cond dialect (has_chunks dialect) (of_chunk bytes r) (of_unit r)
+    (λ _. fine_chunk dialect bytes r)
+    (λ c. fine_unit dialect r (units_words dialect has (braced_chunks dialect ∙ c)) h)
 
 first_fine : (dialect : Dialect) (text : List ℕ) → Fine dialect (first dialect text)
 unfolding first
@@ -455,10 +504,10 @@ first_fine dialect (b ∷ bs) =
     (λ _. fine_run dialect (b ∷ bs) (blank 0 (b ∷ bs)))
     (λ _. fine_cond dialect (eqb b 92) (of_escaped (char_at bs)) _
     (λ _. fine_escaped dialect (char_at bs))
-    (λ _. fine_cond dialect (begins_unit dialect b) (of_unit (rest (form_of dialect) [] [] 0 bs))
-    (of_char dialect (char_at (b ∷ bs)))
-    (λ t. fine_unit dialect (rest (form_of dialect) [] [] 0 bs)
-    (and_parts (has_words dialect) (eqb b 94) t).0 (rest_good (form_of dialect) [] [] 0 bs tt))
+    (λ _. fine_cond dialect (begins_unit dialect b)
+    (of_caret dialect bs (rest (form_of dialect) [] [] 0 bs)) (of_char dialect (char_at (b ∷ bs)))
+    (λ t. fine_caret dialect bs (rest (form_of dialect) [] [] 0 bs)
+    (and_parts (has_units dialect) (eqb b 94) t).0 (rest_good (form_of dialect) [] [] 0 bs tt))
     (λ _. fine_char dialect (char_at (b ∷ bs)))))
 
 pub unit_words : (dialect : Dialect) (text : List ℕ) (words : List (List Symbol)) (n : ℕ) →

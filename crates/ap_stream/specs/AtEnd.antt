@@ -15,7 +15,7 @@ use Rattle.ap_stream.specs.Reading.{First, Needs, Whole, Faulty, Bad, Last, Comp
 use Rattle.ap_stream.specs.declared.fault.StreamFault.{StreamFault}
 use Rattle.ap_stream.specs.Stands.{Stands, InBlank, Within, blank_first, escape_first, unit_first, tag_first}
 use Rattle.ap_stream.specs.declared.examine.Spot.{Spot}
-use Rattle.ap_stream.specs.Dialects.{has_words}
+use Rattle.ap_stream.specs.Dialects.{has_units}
 use Rattle.ap_stream.specs.InUnits.{InUnit, InEscape, InTag, unit_needs, surface_is}
 use Rattle.ap_stream.specs.Units.{form_of, rest, Lacks, sign, Awaits, name, name_part, behind_name, Runs, in_surface, rest_awaits, begins_tag}
 
@@ -87,12 +87,12 @@ not_unit : (dialect : Dialect) (p : List ℕ) → char_at p ≡ Part → unit_fi
 unfolding char_at
 not_unit dialect [] h = refl
 not_unit dialect (b ∷ bs) h =
-    elim (eqb b 94) as (λ v. eqb b 94 ≡ v → (has_words dialect && v) ≡ false) [
+    elim (eqb b 94) as (λ v. eqb b 94 ≡ v → (has_units dialect && v) ≡ false) [
       | true ↦
           (λ e. absurd (let is : b ≡ 94 = eqb-true b 94 e in let k : char_at (94 ∷ bs)
           ≡ Part = rw is at h
           in cc))
-      | false ↦ (λ e. and_no (has_words dialect))
+      | false ↦ (λ e. and_no (has_units dialect))
     ] refl
   where
     and_no : (b : Bool) → (b && false) ≡ false

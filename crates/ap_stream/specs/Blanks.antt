@@ -8,6 +8,9 @@ use Rattle.ap_stream.specs.Chars.{Front, Part, NotChar, Char, char_at, Stays, ch
 abbrev pub is_white : ℕ → Bool
 is_white b = eqb b 32 || (eqb b 9 || (eqb b 10 || eqb b 13))
 
+abbrev pub begins_blank : ℕ → Bool
+begins_blank b = is_white b || eqb b 91
+
 -- how much of the bytes is a superblank behind its bracket: they end within it, or in a bad
 -- character, or it has so many bytes
 pub data Close : Type 0 where
@@ -172,3 +175,23 @@ pub inside_part : (e : Bool) (p : List ℕ) → char_at p ≡ Part → inside e 
 unfolding closing
 inside_part e [] h = refl
 inside_part e (a ∷ r) h = rw h refl
+
+-- a blank has a byte
+pub blank_some : (b : ℕ) (bs : List ℕ) (n : ℕ) → begins_blank b ≡ true →
+    blank 0 (b ∷ bs) ≡ Done n → 0 < n
+unfolding blank
+blank_some b bs n begins h = by_white (is_white b) (eqb b 91) begins h
+  where
+    more : (r : Run) → further 1 r ≡ Done n → 0 < n
+    more Open h = absurd (cc)
+    more Inside h = absurd (cc)
+    more BadChar h = absurd (cc)
+    more (Done m) h = let size : 1 + m ≡ n = cc in omega (arith, size)
+
+    by_white : (v w : Bool) → (v || w) ≡ true →
+        cond v (further 1 (blank 0 bs))
+        (cond w (further 1 (behind_close (closing false 0 bs) (λ n. blank n bs))) (Done 0))
+        ≡ Done n → 0 < n
+    by_white true w t h = more (blank 0 bs) h
+    by_white false true t h = more (behind_close (closing false 0 bs) (λ n. blank n bs)) h
+    by_white false false t h = absurd (cc)

@@ -4,7 +4,10 @@ use Rattle.ap_symbol.specs.TagNames.{is_reserved_lem}
 use Rattle.ap_stream.specs.declared.dialect.Dialect.{Dialect}
 use Rattle.ap_stream.specs.declared.examine.Mode.{Mode}
 use Rattle.ap_stream.specs.declared.examine.Mode.TheVariants as mode
+use Rattle.ap_stream.specs.declared.dialect.Dialect.TheVariants.{Lexical}
 use Rattle.ap_stream.specs.declared.examine.Spot.{Spot}
+use Rattle.ap_stream.specs.declared.level.Level.{Level}
+use Rattle.ap_stream.specs.declared.level.Level.TheVariants as level
 use Rattle.ap_stream.specs.InUnits.{grown_spot, surface_at}
 
 -- a byte that is a character by itself and neither ends a superblank nor escapes
@@ -75,3 +78,11 @@ AllCross dialect (mode.Word at) to n bytes =
 AllCross dialect (mode.WordEscape at) to n bytes = n ≡ 0
 AllCross dialect (mode.Tag at some) to n bytes =
     crossing dialect (mode.Tag at some) (take n bytes) ≡ Some to
+
+-- in a content too
+abbrev pub AllCrossIn : Dialect → Level → Level → ℕ → List ℕ → Type 0
+AllCrossIn dialect (level.Item at) to n bytes = (behind : Mode) × (to ≡ level.Item behind)
+    × AllCross dialect at behind n bytes
+AllCrossIn dialect (level.Part from at) to n bytes = (behind : Mode) × (to ≡ level.Part from behind)
+    × AllCross Lexical at behind n bytes
+AllCrossIn dialect level.Closed to n bytes = n ≡ 0

@@ -7,7 +7,9 @@ use Rattle.ap_stream.specs.declared.fault.StreamFault.{StreamFault}
 use Rattle.ap_stream.specs.declared.fault.StreamFault.TheVariants.{Malformed, Memory}
 use Rattle.ap_stream.specs.declared.fault.MalformedKind.{MalformedKind}
 use Rattle.ap_stream.specs.declared.fault.MalformedKind.TheVariants.{Unfinished}
-use Rattle.ap_stream.specs.declared.examine.Mode.{Mode}
+use Rattle.ap_stream.specs.declared.level.Level.{Level}
+use Rattle.ap_stream.specs.declared.level.Level.TheVariants as level
+use Rattle.ap_stream.specs.declared.level.Shown.TheVariants as shown
 use Rattle.ap_stream.specs.declared.examine.Mode.TheVariants as mode
 use Rattle.ap_stream.specs.declared.item.Item.{Item}
 use Rattle.ap_stream.specs.declared.item.Item.TheVariants as item
@@ -15,14 +17,14 @@ use Rattle.ap_stream.specs.declared.item.Read.{Read}
 use Rattle.ap_stream.specs.declared.item.Character.{Character}
 use Rattle.ap_symbol.specs.declared.symbol.Symbol.{Symbol}
 use Rattle.ap_stream.specs.declared.dialect.Dialect.{Dialect}
-use Rattle.ap_stream.specs.declared.examine.Seen.TheVariants as seen
 use Rattle.ap_stream.specs.Chars.{Part, char_at}
 use Rattle.ap_stream.specs.Blanks.{Open, Inside}
 use Rattle.ap_stream.specs.Reading.{first, first_nil, Reads, First, Whole, Faulty, Needs, Kind, Bad, Past, limited, reads, reads_whole, reads_faulty, reads_needs, reads_nil, read_at, followed, size_of, stopped, counted, nothing, at_end, fault_at, plain, IsRead}
 use Rattle.ap_stream.specs.Limited.{Surely, Looks, limited_within, limited_ends}
-use Rattle.ap_stream.specs.AtEnd.{Begins, begun, begun_at, at_blank, in_blank}
-use Rattle.ap_stream.specs.Stands.{Stands, InBlank}
-use Rattle.ap_stream.specs.Step.{Stood, some_stood, nothing_part}
+use Rattle.ap_stream.specs.AtEnd.{Begins}
+use Rattle.ap_stream.specs.Levels.{StandsIn, StoodIn, begun_in, begun_at, at_blank_in, in_blank_at, some_stood}
+use Rattle.ap_stream.specs.Stands.{InBlank}
+use Rattle.ap_stream.specs.Step.{nothing_part}
 use Rattle.std.proofs.Common.{get_or, get_or-drop, add-zero}
 use Rattle.std.proofs.lemmas.List.{length-drop, length-take}
 use Rattle.std.proofs.lemmas.Grind.{common_steps}
@@ -51,11 +53,11 @@ abbrev pub NeededMore : Begun → Type 0
 NeededMore begun = limited item_max begun.dialect (take (length begun.held - 1) begun.held) ≡ Needs
 
 -- where a reader stands that has answered no fault
-abbrev pub StandsAt : Dialect → Bool → Mode → ℕ → List ℕ → Type 0
-StandsAt dialect true at done held = Stands dialect at (take done held) (drop done held)
-StandsAt dialect false at done held = Stood dialect at (take done held) (drop done held)
+abbrev pub StandsAt : Dialect → Bool → Level → ℕ → List ℕ → Type 0
+StandsAt dialect true at done held = StandsIn dialect at (take done held) (drop done held)
+StandsAt dialect false at done held = StoodIn dialect at (take done held) (drop done held)
 
-pub record Standing (dialect : Dialect) (looked : Bool) (at : Mode) (done : ℕ)
+pub record Standing (dialect : Dialect) (looked : Bool) (at : Level) (done : ℕ)
     (held : List ℕ) : Type 0 where
   pub fits : done ≤ length held
   pub short : looked ≡ true → length held ≤ unit_max
@@ -81,14 +83,14 @@ stops_always dialect held place kind h some x =
 
 -- at the start of an item
 pub stands_new : (dialect : Dialect) (held : List ℕ) → held ≡ [] →
-    Standing dialect true mode.Start 0 held
+    Standing dialect true (level.Item mode.Start) 0 held
 stands_new dialect [] h =
     record { fits = omega arith; short = λ _. omega arith; stands = (refl, nothing_part, refl) }
 stands_new dialect (a ∷ held) h = absurd (cc)
 
 -- one byte is held, and hasn't been looked at
 pub stands_byte : (dialect : Dialect) (held : List ℕ) (b : ℕ) (looked : Bool) → held ≡ b ∷ [] →
-    looked ≡ false → Standing dialect looked mode.Start 0 held
+    looked ≡ false → Standing dialect looked (level.Item mode.Start) 0 held
 stands_byte dialect held b true h e = absurd (cc)
 stands_byte dialect held b false h e =
     record {
@@ -98,19 +100,19 @@ stands_byte dialect held b false h e =
           record { old = []; byte = b; part_is = h; stands = (refl, nothing_part, refl) };
     }
 
-pub stands_waits : (dialect : Dialect) (at : Mode) (done : ℕ) (held : List ℕ) → done ≤ length held →
-    Looks dialect at done held seen.Waits → Standing dialect true at done held
+pub stands_waits : (dialect : Dialect) (at : Level) (done : ℕ) (held : List ℕ) → done ≤ length held →
+    Looks dialect at done held shown.Waits → Standing dialect true at done held
 stands_waits dialect at done held fits h = record { fits = fits; short = λ _. h.1; stands = h.0 }
 
-pub stands_goes : (dialect : Dialect) (at to : Mode) (done size : ℕ) (held : List ℕ) →
-    size ≡ length held → Looks dialect at done held (seen.Goes to) →
+pub stands_goes : (dialect : Dialect) (at to : Level) (done size : ℕ) (held : List ℕ) →
+    size ≡ length held → Looks dialect at done held (shown.Goes to) →
     Standing dialect true to size held
 stands_goes dialect at to done size held e h =
     let all : take size held ≡ held = take_all size held (omega arith) in
     let none : drop size held ≡ [] = rw e (drop-length held) in
     record { fits = omega arith; short = λ _. h.1; stands = rw (all, none) h.0 }
 
-pub stands_pushed : (dialect : Dialect) (at : Mode) (done b : ℕ) (held after : List ℕ)
+pub stands_pushed : (dialect : Dialect) (at : Level) (done b : ℕ) (held after : List ℕ)
     (looked : Bool) → after ≡ held ++ b ∷ [] → looked ≡ true → Standing dialect looked at done held
     → Standing dialect false at done after
 stands_pushed dialect at done b held after false a e h = absurd (cc)
@@ -127,23 +129,23 @@ stands_pushed dialect at done b held after true a e h =
           record { old = drop done held; byte = b; part_is = back; stands = rw front h.stands };
     }
 
-pub not_looked : (dialect : Dialect) (looked : Bool) (at : Mode) (done : ℕ) (held : List ℕ) →
+pub not_looked : (dialect : Dialect) (looked : Bool) (at : Level) (done : ℕ) (held : List ℕ) →
     looked ≡ false → StandsAt dialect looked at done held →
-    Stood dialect at (take done held) (drop done held)
+    StoodIn dialect at (take done held) (drop done held)
 not_looked dialect true at done held e h = absurd (cc)
 not_looked dialect false at done held e h = h
 
-pub some_held : (dialect : Dialect) (at : Mode) (held : List ℕ) (done : ℕ) →
-    Stood dialect at (take done held) (drop done held) → 0 < length held
+pub some_held : (dialect : Dialect) (at : Level) (held : List ℕ) (done : ℕ) →
+    StoodIn dialect at (take done held) (drop done held) → 0 < length held
 some_held dialect at held done h = let k = some_stood dialect at (take done held) (drop done held) h
     in let l = length-drop done held in omega (arith, k, l)
 
 module _ (now : Begun) (dialect : Dialect) (held : List ℕ) (place done : ℕ) (looked : Bool)
     (fault : Option StreamFault)
     (view : record { dialect = dialect; held = held; place = place; looked = looked; fault = fault }
-    ≡ now) (fits : done ≤ length held) (at : Mode)
-    (stood : Stood dialect at (take done held) (drop done held)) where
-  pub plain_given : (c : Character) → Looks dialect at done held (seen.Plain c) →
+    ≡ now) (fits : done ≤ length held) (at : Level)
+    (stood : StoodIn dialect at (take done held) (drop done held)) where
+  pub plain_given : (c : Character) → Looks dialect at done held (shown.Plain c) →
       (size newplace : ℕ) (after : List ℕ) (looks : Bool) → size ≡ length held → after ≡ [] →
       newplace ≡ counted (place + size) →
       Gives now (Some (record { item = item.Plain c; place = place; size = size }))
@@ -163,7 +165,7 @@ module _ (now : Begun) (dialect : Dialect) (held : List ℕ) (place done : ℕ) 
         bytes = rw (← view, a, l) (omega arith);
       }
 
-  pub plain_read : (c : Character) → Looks dialect at done held (seen.Plain c) → (size : ℕ) →
+  pub plain_read : (c : Character) → Looks dialect at done held (shown.Plain c) → (size : ℕ) →
       size ≡ length held → IsRead now.dialect
       (record { item = item.Plain c; place = place; size = size })
   plain_read c h size l = record {
@@ -173,11 +175,10 @@ module _ (now : Begun) (dialect : Dialect) (held : List ℕ) (place done : ℕ) 
     short = omega (arith, h.1, l);
   }
 
-  pub unit_given : (words : List (List Symbol)) →
-      Surely dialect held (Whole (item.Unit words) (length held)) →
+  pub whole_given : (thing : Item) → Surely dialect held (Whole thing (length held)) →
       (size newplace : ℕ) (after : List ℕ) (looks : Bool) → size ≡ length held → after ≡ [] →
       newplace ≡ counted (place + size) →
-      Gives now (Some (record { item = item.Unit words; place = place; size = size }))
+      Gives now (Some (record { item = thing; place = place; size = size }))
       (record {
         dialect = dialect;
         held = after;
@@ -186,19 +187,18 @@ module _ (now : Begun) (dialect : Dialect) (held : List ℕ) (place done : ℕ) 
             looks;
         fault = fault;
       })
-  unit_given words h size newplace after looks l a p =
+  whole_given thing h size newplace after looks l a p =
       record {
         reads_on = λ x. rw (← view, a, p, l)
-            (gives_whole dialect held [] place (length held) (item.Unit words) h
+            (gives_whole dialect held [] place (length held) thing h
             (some_held dialect at held done stood) (omega arith) (drop-length held) x);
         bytes = rw (← view, a, l) (omega arith);
       }
 
-  pub unit_read : (words : List (List Symbol)) →
-      Surely dialect held (Whole (item.Unit words) (length held)) → length held ≤ unit_max →
-      (size : ℕ) → size ≡ length held →
-      IsRead now.dialect (record { item = item.Unit words; place = place; size = size })
-  unit_read words h few size l = record {
+  pub whole_read : (thing : Item) → Surely dialect held (Whole thing (length held)) →
+      length held ≤ unit_max → (size : ℕ) → size ≡ length held →
+      IsRead now.dialect (record { item = thing; place = place; size = size })
+  whole_read thing h few size l = record {
     text = held;
     whole = rw (← view, l) (rw append-nil at (h []));
     some = let k = some_held dialect at held done stood in omega (arith, k, l);
@@ -208,7 +208,7 @@ module _ (now : Begun) (dialect : Dialect) (held : List ℕ) (place done : ℕ) 
   front_is : length (take done held) ≡ done
   front_is = rw length-take (omega arith)
 
-  pub blank_given : Looks dialect at done held seen.BlankEnds →
+  pub blank_given : Looks dialect at done held shown.BlankEnds →
       (newplace end : ℕ) (bytes after : List ℕ) (looks : Bool) → bytes ≡ take done held →
       end ≡ get_or held done 0 → after ≡ end ∷ [] → newplace ≡ counted (place + done) →
       Gives now (Some (record { item = item.Blank bytes; place = place; size = done }))
@@ -234,7 +234,7 @@ module _ (now : Begun) (dialect : Dialect) (held : List ℕ) (place done : ℕ) 
         bytes = rw (← view, a, len) (omega arith);
       }
 
-  pub blank_read : Looks dialect at done held seen.BlankEnds → (bytes : List ℕ) →
+  pub blank_read : Looks dialect at done held shown.BlankEnds → (bytes : List ℕ) →
       bytes ≡ take done held →
       IsRead now.dialect (record { item = item.Blank bytes; place = place; size = done })
   blank_read h bytes t =
@@ -300,28 +300,28 @@ pub ends_gives : (old new : Begun) (item : Option Read) → Gives old item new �
 ends_gives old new item g =
     record { reads_end = simp append-nil at (g.reads_on []); bytes = g.bytes }
 
-pub stands_looked : (dialect : Dialect) (looked : Bool) (at : Mode) (done : ℕ) (held : List ℕ) →
+pub stands_looked : (dialect : Dialect) (looked : Bool) (at : Level) (done : ℕ) (held : List ℕ) →
     looked ≡ true → Standing dialect looked at done held →
-    Stands dialect at (take done held) (drop done held) × (length held ≤ unit_max)
+    StandsIn dialect at (take done held) (drop done held) × (length held ≤ unit_max)
 stands_looked dialect true at done held e h = (h.stands, h.short refl)
 stands_looked dialect false at done held e h = absurd (cc)
 
 -- where the text ends
-module _ (dialect : Dialect) (held : List ℕ) (place done : ℕ) (at : Mode)
-    (h : Stands dialect at (take done held) (drop done held)) (short : length held ≤ unit_max)
+module _ (dialect : Dialect) (held : List ℕ) (place done : ℕ) (at : Level)
+    (h : StandsIn dialect at (take done held) (drop done held)) (short : length held ≤ unit_max)
     (some : 0 < length held) where
   at_front : limited item_max dialect held ≡ Needs
   at_front = limited_within item_max dialect held (rw item_max_is short)
       ∙ (begun_at dialect held done at h some).needs
 
-  pub last_broken : at_blank at ≡ false → reads dialect place held
+  pub last_broken : at_blank_in at ≡ false → reads dialect place held
       ≡ stopped (Malformed Unfinished place)
   last_broken e = reads_needs dialect place held at_front some
       ∙ rw ((begun_at dialect held done at h some).broken_is e) refl
 
   pub last_whole : (now : Begun) (looked : Bool) (fault : Option StreamFault) →
       record { dialect = dialect; held = held; place = place; looked = looked; fault = fault } ≡ now
-      → at_blank at ≡ true →
+      → at_blank_in at ≡ true →
       (size newplace : ℕ) (bytes after : List ℕ) (looks : Bool) → bytes ≡ held →
       size ≡ length held → after ≡ [] →
       Ends now (Some (record { item = item.Blank bytes; place = place; size = size }))
@@ -341,11 +341,11 @@ module _ (dialect : Dialect) (held : List ℕ) (place done : ℕ) (at : Mode)
   }
 
   -- a letter would end the blank
-  pub last_read : (at_blank at ≡ true) → (bytes : List ℕ) (size : ℕ) → bytes ≡ held →
+  pub last_read : (at_blank_in at ≡ true) → (bytes : List ℕ) (size : ℕ) → bytes ≡ held →
       size ≡ length held → IsRead dialect
       (record { item = item.Blank bytes; place = place; size = size })
   last_read e bytes size t l =
-      let on : InBlank held = in_blank dialect held done at h e in
+      let on : InBlank held = in_blank_at dialect held done at h e in
       record {
         text = held ++ 97 ∷ [];
         whole = rw (t, l) (rw append-nil
@@ -354,7 +354,7 @@ module _ (dialect : Dialect) (held : List ℕ) (place done : ℕ) (at : Mode)
         short = omega (arith, short, l);
       }
 
-pub can_go_on : (dialect : Dialect) (looked : Bool) (at : Mode) (done : ℕ) (held : List ℕ) →
+pub can_go_on : (dialect : Dialect) (looked : Bool) (at : Level) (done : ℕ) (held : List ℕ) →
     looked ≡ true → Standing dialect looked at done held → limited item_max dialect held ≡ Needs
 can_go_on dialect looked at done [] e h = limited_within item_max dialect [] (omega arith)
     ∙ first_nil dialect
@@ -369,15 +369,15 @@ pub fed_more : (front held after piece : List ℕ) (used n : ℕ) → held ≡ f
 fed_more front held after piece used n h a =
     rw (a, h, take_rest piece used, append_assoc, take-add used n piece) refl
 
-needs_all : (dialect : Dialect) (at : Mode) (front old held : List ℕ) → front ++ old ≡ held →
-    Stands dialect at front old → first dialect held ≡ Needs
+needs_all : (dialect : Dialect) (at : Level) (front old held : List ℕ) → front ++ old ≡ held →
+    StandsIn dialect at front old → first dialect held ≡ Needs
 needs_all dialect at front old [] e h = first_nil dialect
 needs_all dialect at front old (b ∷ bs) e h =
     let len : length (front ++ old) ≡ length (b ∷ bs) = ap length e in
-    ap (first dialect) (sym e) ∙ (begun dialect at front old h (omega (arith, len))).needs
+    ap (first dialect) (sym e) ∙ (begun_in dialect at front old h (omega (arith, len))).needs
 
-pub needed_before : (dialect : Dialect) (at : Mode) (done : ℕ) (held : List ℕ) →
-    Stood dialect at (take done held) (drop done held) → length held ≤ begun_max →
+pub needed_before : (dialect : Dialect) (at : Level) (done : ℕ) (held : List ℕ) →
+    StoodIn dialect at (take done held) (drop done held) → length held ≤ begun_max →
     limited item_max dialect (take (length held - 1) held) ≡ Needs
 needed_before dialect at done held h short =
     let is : held ≡ (take done held ++ h.old) ++ h.byte ∷ [] = sym (take-append-drop done held)

@@ -6,11 +6,16 @@ use Rattle.ap_symbol.specs.declared.symbol.Symbol.TheVariants as symbol
 use Rattle.ap_symbol.specs.Words.{is_white, AreProper}
 use Rattle.ap_symbol.specs.Coded.{IsCode, IsNameText, AreCoded}
 use Rattle.ap_stream.specs.declared.dialect.Dialect.{Dialect}
+use Rattle.ap_stream.specs.declared.dialect.Dialect.TheVariants.{Lexical, Chunked}
+use Rattle.ap_stream.specs.declared.item.Chunk.{Chunk}
+use Rattle.ap_stream.specs.declared.item.Inner.{Inner}
+use Rattle.ap_stream.specs.declared.item.Inner.TheVariants as inner
 use Rattle.ap_stream.specs.declared.item.Item.TheVariants as item
+use Rattle.ap_stream.specs.Blanks.{Open, blank}
 use Rattle.ap_stream.specs.Dialects.{has_words}
 use Rattle.ap_stream.specs.Units.{form_of}
 use Rattle.ap_stream.specs.Reading.{Whole, first}
-use Rattle.ap_stream.specs.Spelling.{unit_bytes}
+use Rattle.ap_stream.specs.Spelling.{unit_bytes, chunk_bytes}
 
 -- a symbol that bytes of a surface, or of another word, spell
 abbrev pub IsSpelt : Bool → Symbol → Type 0
@@ -44,6 +49,21 @@ AreWords dialect (word ∷ words) = (has_words dialect ≡ true) × (0 < length 
     × AreSpelt (form_of dialect).surface word × EachSpelt words
     × AreAsMany (form_of dialect).several words
 
+-- the bytes of a blank: white space and superblanks, and all of them
+abbrev pub IsBlank : List ℕ → Type 0
+IsBlank bytes = (0 < length bytes) × (blank 0 bytes ≡ Open)
+
+abbrev pub NoBlankFirst : List Inner → Type 0
+NoBlankFirst [] = Unit {0}
+NoBlankFirst (inner.Unit words ∷ parts) = Unit {0}
+NoBlankFirst (inner.Blank bytes ∷ parts) = ⊥
+
+-- the parts of a chunk's content: units of one word and blanks, no two blanks side by side
+abbrev pub AreParts : List Inner → Type 0
+AreParts [] = Unit {0}
+AreParts (inner.Unit words ∷ parts) = AreWords Lexical words × AreParts parts
+AreParts (inner.Blank bytes ∷ parts) = IsBlank bytes × NoBlankFirst parts × AreParts parts
+
 -- what is written of the words of a unit is read back as these words, whatever follows
 abbrev pub ReadsBack : Type 0
 ReadsBack = (dialect : Dialect) (words : List (List Symbol)) (x : List ℕ) → AreWords dialect words →
@@ -54,6 +74,18 @@ abbrev pub ReadsWords : Type 0
 ReadsWords = (dialect : Dialect) (text : List ℕ) (words : List (List Symbol)) (n : ℕ) →
     first dialect text ≡ Whole (item.Unit words) n → AreWords dialect words
 
--- every word of the program can be written in a unit
+-- what is written of a chunk is read back as it, whatever follows
+abbrev pub ChunksReadBack : Type 0
+ChunksReadBack = (name : List Symbol) (content : List Inner) (x : List ℕ) → AreSpelt false name →
+    AreParts content → first Chunked (chunk_bytes name content ++ x)
+    ≡ Whole (item.Chunk (record { name = name; content = content })) (length (chunk_bytes name content))
+
+-- a chunk that is read can be written: its name is a word, and its content is of such parts
+abbrev pub ChunksAreWritten : Type 0
+ChunksAreWritten = (text : List ℕ) (chunk : Chunk) (n : ℕ) →
+    first Chunked text ≡ Whole (item.Chunk chunk) n →
+    AreSpelt false chunk.name × AreParts chunk.content
+
+-- every word of the program can be written in a unit, and as a chunk's name
 abbrev pub WordsAreSpelt : Type 0
 WordsAreSpelt = (word : List Symbol) → AreProper word → AreCoded word → AreSpelt false word

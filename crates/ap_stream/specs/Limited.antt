@@ -12,15 +12,17 @@ use Rattle.ap_stream.specs.declared.fault.LimitKind.TheVariants.{ItemTooLong}
 use Rattle.ap_stream.specs.declared.fault.MalformedKind.TheVariants.{Unfinished}
 use Rattle.ap_stream.specs.declared.item.Item.{Item}
 use Rattle.ap_stream.specs.declared.item.Item.TheVariants as item
-use Rattle.ap_stream.specs.declared.examine.Mode.{Mode}
-use Rattle.ap_stream.specs.declared.examine.Seen.{Seen}
-use Rattle.ap_stream.specs.declared.examine.Seen.TheVariants as seen
+use Rattle.ap_stream.specs.declared.item.Chunk.{Chunk}
+use Rattle.ap_stream.specs.declared.level.Level.{Level}
+use Rattle.ap_stream.specs.declared.level.Shown.{Shown}
+use Rattle.ap_stream.specs.declared.level.Shown.TheVariants as shown
+use Rattle.ap_stream.specs.Dialects.{has_chunks}
 use Rattle.ap_stream.specs.Reading.{First, Needs, Whole, Faulty, Kind, Bad, Past, first, limited, past, at_limit, plain}
-use Rattle.ap_stream.specs.Stands.{Stands, Always, InBlank, blank_ends}
-use Rattle.ap_stream.specs.Step.{Stood, Sees}
+use Rattle.ap_stream.specs.Stands.{Always, InBlank, blank_ends}
+use Rattle.ap_stream.specs.Levels.{StandsIn, StoodIn, Tells, begun_in}
 use Rattle.ap_stream.specs.InUnits.{unit_always}
 use Rattle.ap_stream.specs.UnitBytes.{UnitOf}
-use Rattle.ap_stream.specs.AtEnd.{Begins, begun, begun_blank}
+use Rattle.ap_stream.specs.AtEnd.{Begins, begun_blank}
 
 abbrev pub IsDecided : First → Type 0
 IsDecided Needs = ⊥
@@ -75,21 +77,23 @@ abbrev pub Surely : Dialect → List ℕ → First → Type 0
 Surely dialect held f = (x : List ℕ) → limited item_max dialect (held ++ x) ≡ f
 
 -- what is made of one more byte, with the limit
-abbrev pub Looks : Dialect → Mode → ℕ → List ℕ → Seen → Type 0
-Looks dialect at done held seen.Waits = Stands dialect at (take done held) (drop done held)
+abbrev pub Looks : Dialect → Level → ℕ → List ℕ → Shown → Type 0
+Looks dialect at done held shown.Waits = StandsIn dialect at (take done held) (drop done held)
     × (length held ≤ unit_max)
-Looks dialect at done held (seen.Goes to) = Stands dialect to held [] × (length held ≤ unit_max)
-Looks dialect at done held (seen.Plain c) =
+Looks dialect at done held (shown.Goes to) = StandsIn dialect to held [] × (length held ≤ unit_max)
+Looks dialect at done held (shown.Plain c) =
     Surely dialect held (Whole (plain c.letter c.escaped) (length held)) × (length held ≤ unit_max)
-Looks dialect at done held seen.BlankEnds = (0 < length (take done held))
+Looks dialect at done held shown.BlankEnds = (0 < length (take done held))
     × (drop done held ≡ get_or (drop done held) 0 0 ∷ [])
     × Surely dialect held (Whole (item.Blank (take done held)) (length (take done held)))
     × (length (take done held) ≤ unit_max)
-Looks dialect at done held seen.UnitEnds = (words : List (List Symbol)) × UnitOf dialect held words
+Looks dialect at done held shown.UnitEnds = (words : List (List Symbol)) × UnitOf dialect held words
     × (length held ≤ unit_max)
-Looks dialect at done held (seen.Bad kind) = Surely dialect held (Faulty (Bad kind))
+Looks dialect at done held shown.ChunkEnds = (chunk : Chunk) × (has_chunks dialect ≡ true)
+    × Always dialect held (Whole (item.Chunk chunk) (length held)) × (length held ≤ unit_max)
+Looks dialect at done held (shown.Bad kind) = Surely dialect held (Faulty (Bad kind))
     × (kind ≢ Unfinished)
-Looks dialect at done held seen.TooLong = Surely dialect held (Faulty (Past ItemTooLong))
+Looks dialect at done held shown.TooLong = Surely dialect held (Faulty (Past ItemTooLong))
 
 -- a unit within the limit
 pub unit_surely : (dialect : Dialect) (held : List ℕ) (words : List (List Symbol)) →
@@ -99,7 +103,15 @@ unit_surely dialect held words fits h =
     limited_decided item_max dialect held (Whole (item.Unit words) (length held))
     (rw item_max_is fits) (unit_always dialect held words h) tt
 
-module _ (dialect : Dialect) (at : Mode) (done : ℕ) (held : List ℕ) where
+-- and a chunk
+pub chunk_surely : (dialect : Dialect) (held : List ℕ) (chunk : Chunk) → length held ≤ unit_max →
+    Always dialect held (Whole (item.Chunk chunk) (length held)) →
+    Surely dialect held (Whole (item.Chunk chunk) (length held))
+chunk_surely dialect held chunk fits h =
+    limited_decided item_max dialect held (Whole (item.Chunk chunk) (length held))
+    (rw item_max_is fits) h tt
+
+module _ (dialect : Dialect) (at : Level) (done : ℕ) (held : List ℕ) where
   whole : (f : First) → Always dialect (take done held ++ drop done held) f → Always dialect held f
   whole f h = rw (take-append-drop done held) at h
 
@@ -113,32 +125,39 @@ module _ (dialect : Dialect) (at : Mode) (done : ℕ) (held : List ℕ) where
       ∙ length-append (take done held) (drop done held)
       ∙ ap (λ n. length (take done held) + n) (ap length h)
 
-  pub looks_short : (s : Seen) → length held ≤ unit_max →
-      Sees dialect at (take done held) (drop done held) s → Looks dialect at done held s
-  looks_short seen.Waits fits h = (h, fits)
-  looks_short (seen.Goes to) fits h = (
-    let P : List ℕ → Type 0 = λ q. Stands dialect to q [] in
+  pub looks_short : (s : Shown) → length held ≤ unit_max →
+      Tells dialect at (take done held) (drop done held) s → Looks dialect at done held s
+  looks_short shown.Waits fits h = (h, fits)
+  looks_short (shown.Goes to) fits h = (
+    let P : List ℕ → Type 0 = λ q. StandsIn dialect to q [] in
         subst P (take-append-drop done held) h,
     fits,
   )
-  looks_short (seen.Plain c) fits h = (
+  looks_short (shown.Plain c) fits h = (
     let l = surely (Whole (plain c.letter c.escaped) (length (take done held ++ drop done held)))
         fits h tt in rw (take-append-drop done held) at l,
     fits,
   )
-  looks_short seen.BlankEnds fits h = (
+  looks_short shown.BlankEnds fits h = (
     h.0,
     h.1,
     surely (Whole (item.Blank (take done held)) (length (take done held))) fits h.2 tt,
     omega (arith, front_short h.1),
   )
-  looks_short seen.UnitEnds fits h =
+  looks_short shown.UnitEnds fits h =
       (h.0, subst (λ (q : List ℕ). UnitOf dialect q h.0) (take-append-drop done held) h.1, fits)
-  looks_short (seen.Bad kind) fits h = (surely (Faulty (Bad kind)) fits h.0 tt, h.1)
-  looks_short seen.TooLong fits h = absurd h
+  looks_short shown.ChunkEnds fits h = (
+    h.0,
+    h.1,
+    let k = whole (Whole (item.Chunk h.0) (length (take done held ++ drop done held))) h.2 in
+        rw (take-append-drop done held) at k,
+    fits,
+  )
+  looks_short (shown.Bad kind) fits h = (surely (Faulty (Bad kind)) fits h.0 tt, h.1)
+  looks_short shown.TooLong fits h = absurd h
 
   -- before the byte past the limit, more was needed
-  pub needs_before : Stood dialect at (take done held) (drop done held) → length held ≡ begun_max →
+  pub needs_before : StoodIn dialect at (take done held) (drop done held) → length held ≡ begun_max →
       first dialect (take item_max held) ≡ Needs
   needs_before h l =
       let old : List ℕ = take done held ++ h.old in
@@ -151,9 +170,9 @@ module _ (dialect : Dialect) (at : Mode) (done : ℕ) (held : List ℕ) where
       ap (take item_max) is ∙ ap (λ n. take n (old ++ h.byte ∷ [])) (item_max_is ∙ sym len)
       ∙ take-append_seam old (h.byte ∷ []) in
       ap (first dialect) cut ∙
-      (begun dialect at (take done held) h.old h.stands (omega (arith, len))).needs
+      (begun_in dialect at (take done held) h.old h.stands (omega (arith, len))).needs
 
-  past_all : Stood dialect at (take done held) (drop done held) → length held ≡ begun_max →
+  past_all : StoodIn dialect at (take done held) (drop done held) → length held ≡ begun_max →
       (f : First) → first dialect held ≡ f → Surely dialect held (at_limit item_max f)
   past_all h l f e x = limited_past item_max dialect held (l ∙ ap suc (sym item_max_is))
       (needs_before h l) x ∙ ap (at_limit item_max) e
@@ -162,9 +181,9 @@ module _ (dialect : Dialect) (at : Mode) (done : ℕ) (held : List ℕ) where
       first dialect held ≡ f
   all_now f h = rw append-nil at (whole f h [])
 
-  pub looks_blank : Stood dialect at (take done held) (drop done held) → length held ≡ begun_max →
-      Sees dialect at (take done held) (drop done held) seen.BlankEnds →
-      Looks dialect at done held seen.BlankEnds
+  pub looks_blank : StoodIn dialect at (take done held) (drop done held) → length held ≡ begun_max →
+      Tells dialect at (take done held) (drop done held) shown.BlankEnds →
+      Looks dialect at done held shown.BlankEnds
   looks_blank h l s =
       let n : length (take done held) ≡ unit_max = omega (arith, front_short s.1, l) in
       let fine : leb (length (take done held)) item_max ≡ true = rw (item_max_is, n) refl in (
@@ -176,24 +195,24 @@ module _ (dialect : Dialect) (at : Mode) (done : ℕ) (held : List ℕ) where
         omega (arith, n),
       )
 
-  needs_all : (to : Mode) (front part : List ℕ) → front ++ part ≡ held →
-      Stands dialect to front part → length held ≡ begun_max → first dialect held ≡ Needs
+  needs_all : (to : Level) (front part : List ℕ) → front ++ part ≡ held →
+      StandsIn dialect to front part → length held ≡ begun_max → first dialect held ≡ Needs
   needs_all to front part e h l =
       let len : length (front ++ part) ≡ begun_max = ap length e ∙ l in
       let k : first dialect (front ++ part) ≡ Needs =
-      (begun dialect to front part h (omega (arith, len))).needs in
+      (begun_in dialect to front part h (omega (arith, len))).needs in
       ap (first dialect) (sym e) ∙ k
 
-  pub looks_long : (s : Seen) → s ≢ seen.BlankEnds →
-      Stood dialect at (take done held) (drop done held) → length held ≡ begun_max →
-      Sees dialect at (take done held) (drop done held) s → Looks dialect at done held seen.TooLong
-  looks_long seen.Waits differs h l s =
+  pub looks_long : (s : Shown) → s ≢ shown.BlankEnds →
+      StoodIn dialect at (take done held) (drop done held) → length held ≡ begun_max →
+      Tells dialect at (take done held) (drop done held) s → Looks dialect at done held shown.TooLong
+  looks_long shown.Waits differs h l s =
       past_all h l Needs (needs_all at (take done held) (drop done held)
       (take-append-drop done held) s l)
-  looks_long (seen.Goes to) differs h l s =
+  looks_long (shown.Goes to) differs h l s =
       past_all h l Needs (needs_all to (take done held ++ drop done held) []
       (append-nil _ ∙ take-append-drop done held) s l)
-  looks_long (seen.Plain c) differs h l s =
+  looks_long (shown.Plain c) differs h l s =
       let n : length (take done held ++ drop done held) ≡ begun_max =
       ap length (take-append-drop done held) ∙ l in
       let f : First = Whole (plain c.letter c.escaped)
@@ -204,7 +223,7 @@ module _ (dialect : Dialect) (at : Mode) (done : ℕ) (held : List ℕ) where
       (length (take done held ++ drop done held)))
       (all_now (Whole (plain c.letter c.escaped) (length (take done held ++ drop done held))) s)
       x ∙ rw long refl
-  looks_long seen.UnitEnds differs h l s =
+  looks_long shown.UnitEnds differs h l s =
       let n : length (take done held ++ drop done held) ≡ begun_max =
       ap length (take-append-drop done held) ∙ l in
       let long : leb (length (take done held ++ drop done held)) item_max ≡ false =
@@ -212,10 +231,16 @@ module _ (dialect : Dialect) (at : Mode) (done : ℕ) (held : List ℕ) where
       λ x. past_all h l (Whole (item.Unit s.0) (length (take done held ++ drop done held)))
       (all_now (Whole (item.Unit s.0) (length (take done held ++ drop done held)))
       (unit_always dialect (take done held ++ drop done held) s.0 s.1)) x ∙ rw long refl
-  looks_long seen.BlankEnds differs h l s = absurd (differs refl)
-  looks_long (seen.Bad kind) differs h l s =
+  looks_long shown.ChunkEnds differs h l s =
+      let all : List ℕ = take done held ++ drop done held in
+      let n : length all ≡ begun_max = ap length (take-append-drop done held) ∙ l in
+      let long : leb (length all) item_max ≡ false = rw (item_max_is, n) refl in
+      λ x. past_all h l (Whole (item.Chunk s.0) (length all))
+          (all_now (Whole (item.Chunk s.0) (length all)) s.2) x ∙ rw long refl
+  looks_long shown.BlankEnds differs h l s = absurd (differs refl)
+  looks_long (shown.Bad kind) differs h l s =
       past_all h l (Faulty (Bad kind)) (all_now (Faulty (Bad kind)) s.0)
-  looks_long seen.TooLong differs h l s = absurd s
+  looks_long shown.TooLong differs h l s = absurd s
 
 ends_past : (most : ℕ) (dialect : Dialect) (held : List ℕ) → length held ≡ most → InBlank held →
     Always dialect (held ++ 97 ∷ []) (Whole (item.Blank held) (length held)) →

@@ -1,18 +1,20 @@
 -- The superblanks of a text, by its pieces: a text is a row of plain characters, white space, whole
--- superblanks and whole units, each of any size.
+-- superblanks, whole units and whole chunks, each of any size.
 use Rattle.std.specs.Prelude.{◌≡◌, ◌≢◌, ℕ, Bool, true, false, not, ◌||◌, eqb, List, [], ◌∷◌, ◌++◌, length, None, encode_utf8}
 use Rattle.std.specs.List.{flat_map}
 use Rattle.ap_symbol.specs.Coded.{IsCode}
 use Rattle.ap_symbol.specs.declared.symbol.Symbol.{Symbol}
-use Rattle.ap_stream.specs.Blanks.{is_white}
-use Rattle.ap_stream.specs.Dialects.{is_refused}
+use Rattle.ap_stream.specs.Blanks.{is_white, begins_blank}
+use Rattle.ap_stream.specs.Dialects.{is_refused, has_chunks}
 use Rattle.ap_stream.specs.Each.{each}
 use Rattle.ap_stream.specs.Laws.{AreWords}
-use Rattle.ap_stream.specs.Reading.{Whole, first, reads, begins_blank, begins_unit}
+use Rattle.ap_stream.specs.Reading.{Whole, first, reads, begins_unit}
 use Rattle.ap_stream.specs.Spelling.{character_bytes}
-use Rattle.ap_stream.specs.Supers.{item_supers, supers}
+use Rattle.ap_stream.specs.Supers.{inner_supers, item_supers, supers}
 use Rattle.ap_stream.specs.declared.dialect.Dialect.{Dialect}
+use Rattle.ap_stream.specs.declared.dialect.Dialect.TheVariants.{Raw, Analysed, Lexical, Bilingual, Chunked, Generated}
 use Rattle.ap_stream.specs.declared.item.Character.{Character}
+use Rattle.ap_stream.specs.declared.item.Chunk.{Chunk}
 use Rattle.ap_stream.specs.declared.item.Item.TheVariants as item
 use Rattle.ap_stream.specs.declared.item.Read.{Read}
 
@@ -49,7 +51,14 @@ pub record IsUnit (dialect : Dialect) (bytes : List ℕ) : Type 0 where
   pub words : List (List Symbol)
   pub read : first dialect bytes ≡ Whole (item.Unit words) (length bytes)
 
--- a piece of a text, and its superblanks: itself, where it is one
+-- a whole chunk, in the dialect that has them: these bytes alone are read as one
+pub record IsChunk (dialect : Dialect) (bytes : List ℕ) : Type 0 where
+  pub chunks : has_chunks dialect ≡ true
+  pub chunk : Chunk
+  pub read : first dialect bytes ≡ Whole (item.Chunk chunk) (length bytes)
+
+-- a piece of a text, and its superblanks: itself, where it is one, and of a chunk those of the
+-- blanks in its content
 pub data IsPiece (dialect : Dialect) (bytes : List ℕ) : List (List ℕ) → Type 0 where
   plain : {superblanks : List (List ℕ)} → IsPlain dialect bytes → superblanks ≡ []
       → IsPiece dialect bytes superblanks
@@ -60,6 +69,9 @@ pub data IsPiece (dialect : Dialect) (bytes : List ℕ) : List (List ℕ) → Ty
       → IsPiece dialect bytes superblanks
   unit : {superblanks : List (List ℕ)} → IsUnit dialect bytes → superblanks ≡ []
       → IsPiece dialect bytes superblanks
+
+  chunk : {superblanks : List (List ℕ)} (c : IsChunk dialect bytes) →
+      superblanks ≡ flat_map inner_supers c.chunk.content → IsPiece dialect bytes superblanks
 
 -- The text is a row of pieces, and these are its superblanks in order.
 pub data HasSuperblanks (dialect : Dialect) : List ℕ → List (List ℕ) → Type 0 where
@@ -105,8 +117,17 @@ ReadTextsHave = (dialect : Dialect) (place : ℕ) (text : List ℕ) →
     → HasSuperblanks dialect text (supers_of (reads dialect place text).items)
 
 -- characters that stand bare in one dialect do so in the other
+abbrev pub BareStay : Dialect → Dialect → Type 0
+BareStay from to = (c : ℕ) → is_bare from c ≡ true → is_bare to c ≡ true
+
+-- and chunks of the one are chunks of the other
 abbrev pub StayBare : Dialect → Dialect → Type 0
-StayBare from to = (c : ℕ) → is_bare from c ≡ true → is_bare to c ≡ true
+StayBare Raw to = BareStay Raw to
+StayBare Analysed to = BareStay Analysed to
+StayBare Lexical to = BareStay Lexical to
+StayBare Bilingual to = BareStay Bilingual to
+StayBare Chunked to = BareStay Chunked to × (has_chunks to ≡ true)
+StayBare Generated to = BareStay Generated to
 
 -- of each unit of one dialect it makes a text of the other without superblanks
 abbrev pub MakesNone : Dialect → Dialect → (List (List Symbol) → List ℕ) → Type 0

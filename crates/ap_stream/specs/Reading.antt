@@ -1,6 +1,5 @@
 -- The items of a text, and what stops it, by the Apertium stream format. A text is cut item by
--- item. Places and sizes are in bytes. Chunks aren't among the items yet: this is the whole of
--- reading in a dialect that has none.
+-- item. Places and sizes are in bytes.
 use Rattle.std.specs.Prelude.{◌≡◌, ◌≢◌, ℕ, zero, suc, ◌+◌, ◌-◌, ◌^◌, ◌<◌, ◌≤◌, pred, min, List, [], ◌∷◌, ◌++◌, drop, take, length, Option, Some, None, Bool, true, false, cond, eqb, leb, ◌||◌, ◌&&◌, refl}
 use Rattle.std.proofs.Common.{arith, ap, sym, ◌∙◌}
 use Rattle.ap_stream.specs.Limits.{item_max, unit_max}
@@ -11,13 +10,16 @@ use Rattle.ap_stream.specs.declared.fault.MalformedKind.{MalformedKind}
 use Rattle.ap_stream.specs.declared.fault.MalformedKind.TheVariants.{NotUtf8, Stray, Unfinished}
 use Rattle.ap_stream.specs.declared.fault.LimitKind.{LimitKind}
 use Rattle.ap_stream.specs.declared.fault.LimitKind.TheVariants.{ItemTooLong}
+use Rattle.ap_symbol.specs.declared.symbol.Symbol.{Symbol}
+use Rattle.ap_stream.specs.declared.item.Inner.{Inner}
 use Rattle.ap_stream.specs.declared.item.Item.{Item}
 use Rattle.ap_stream.specs.declared.item.Item.TheVariants as item
 use Rattle.ap_stream.specs.declared.item.Read.{Read}
-use Rattle.ap_stream.specs.Dialects.{is_refused, has_words}
+use Rattle.ap_stream.specs.Dialects.{is_refused, has_units, has_chunks}
 use Rattle.ap_stream.specs.Chars.{Front, Part, NotChar, Char, char_at}
-use Rattle.ap_stream.specs.Blanks.{Run, Open, Inside, BadChar, Done, blank, is_white}
+use Rattle.ap_stream.specs.Blanks.{Run, Open, Inside, BadChar, Done, blank, is_white, begins_blank}
 use Rattle.ap_stream.specs.Units.{Rest, Lacks, Wrong, Ends, rest, form_of}
+use Rattle.ap_stream.specs.Chunks.{Body, Opens, Fails, Closes, body}
 
 -- the items of a text, and what stops it
 pub record Reads : Type 0 where
@@ -48,9 +50,6 @@ pub data Last : Type 0 where
 abbrev pub plain : ℕ → Bool → Item
 plain letter escaped = item.Plain (record { letter = letter; escaped = escaped })
 
-abbrev pub begins_blank : ℕ → Bool
-begins_blank b = is_white b || eqb b 91
-
 abbrev pub of_run : List ℕ → Run → First
 of_run bytes Open = Needs
 of_run bytes Inside = Needs
@@ -70,23 +69,44 @@ of_char dialect NotChar = Faulty (Bad NotUtf8)
 of_char dialect (Char c n) =
     cond (is_refused dialect c) (Faulty (Bad Stray)) (Whole (plain c false) n)
 
+-- the one word that is a chunk's name
+abbrev pub name_in : List (List Symbol) → List Symbol
+name_in [] = []
+name_in (word ∷ words) = word
+
+-- behind a chunk's name and these parts, which have so many bytes
+abbrev pub of_body : List Symbol → List Inner → ℕ → Body → First
+of_body name parts n Opens = Needs
+of_body name parts n (Fails kind) = Faulty (Bad kind)
+of_body name parts n (Closes more m) =
+    Whole (item.Chunk (record { name = name; content = parts ++ more })) (n + m)
+
 -- behind ^ a unit goes on to its $
 abbrev pub of_unit : Rest → First
 of_unit Lacks = Needs
 of_unit (Wrong kind) = Faulty (Bad kind)
 of_unit (Ends words n) = Whole (item.Unit words) (1 + n)
 
-abbrev pub begins_unit : Dialect → ℕ → Bool
-begins_unit dialect b = has_words dialect && eqb b 94
+-- behind ^ the name of a chunk goes on to its {, behind which the content stands
+abbrev pub of_chunk : List ℕ → Rest → First
+of_chunk bytes Lacks = Needs
+of_chunk bytes (Wrong kind) = Faulty (Bad kind)
+of_chunk bytes (Ends words n) = of_body (name_in words) [] (1 + n) (body n bytes)
 
--- the item at the front: a blank where a blank begins, a unit where a unit begins, and else an
--- escaped or a bare character
+abbrev pub of_caret : Dialect → List ℕ → Rest → First
+of_caret dialect bytes behind = cond (has_chunks dialect) (of_chunk bytes behind) (of_unit behind)
+
+abbrev pub begins_unit : Dialect → ℕ → Bool
+begins_unit dialect b = has_units dialect && eqb b 94
+
+-- the item at the front: a blank where a blank begins, a unit or a chunk where one begins, and else
+-- an escaped or a bare character
 unfoldable pub first : Dialect → List ℕ → First
 first dialect [] = Needs
 first dialect (b ∷ bs) =
     cond (begins_blank b) (of_run (b ∷ bs) (blank 0 (b ∷ bs)))
     (cond (eqb b 92) (of_escaped (char_at bs))
-    (cond (begins_unit dialect b) (of_unit (rest (form_of dialect) [] [] 0 bs))
+    (cond (begins_unit dialect b) (of_caret dialect bs (rest (form_of dialect) [] [] 0 bs))
     (of_char dialect (char_at (b ∷ bs)))))
 
 abbrev pub last_run : List ℕ → Run → Last

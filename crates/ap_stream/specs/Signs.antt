@@ -6,7 +6,7 @@ use Rattle.ap_symbol.specs.declared.symbol.Symbol.{Symbol}
 use Rattle.ap_symbol.specs.Words.{is_word_symbol}
 use Rattle.ap_symbol.specs.Coded.{IsNameText}
 use Rattle.ap_symbol.specs.TagNames.{is_reserved_lem}
-use Rattle.ap_stream.specs.Units.{Name, Runs, Breaks, Stops, name, Sign, Awaits, Bars, Reads, Slash, Dollar, bare_of}
+use Rattle.ap_stream.specs.Units.{Name, Runs, Breaks, Stops, name, Sign, Awaits, Bars, Reads, Slash, Dollar, Brace, bare_of}
 use Rattle.ap_stream.specs.declared.words.Named.{Named}
 use Rattle.ap_stream.specs.declared.words.Named.TheVariants as named
 use Rattle.ap_stream.specs.declared.words.Signed.{Signed}
@@ -33,6 +33,7 @@ Barren (Bars kind) = Unit {0}
 Barren (Reads symbol n) = ⊥
 Barren Slash = ⊥
 Barren Dollar = ⊥
+Barren Brace = ⊥
 
 -- the symbol takes some of so many bytes
 abbrev pub Signs : Sign → ℕ → Signed → Type 0
@@ -40,4 +41,5 @@ Signs s most (signed.Reads symbol n) = (s ≡ Reads symbol n) × IsTrue (is_word
     × (0 < n) × (n ≤ most)
 Signs s most signed.Slash = s ≡ Slash
 Signs s most signed.Dollar = s ≡ Dollar
+Signs s most signed.Brace = s ≡ Brace
 Signs s most signed.Nothing = Barren s

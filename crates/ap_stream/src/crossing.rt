@@ -1,8 +1,9 @@
 ghost use Rattle.std.specs.Prelude.{◌≡◌, ◌==◌, ◌||◌, true, ℕ, ◌<◌, ◌≤◌, length, slice_index, take, Some};
-ghost use Rattle.ap_stream.specs.Crossing.{AllGoOn, AllCross, is_lone as lone_test, is_named as named_test, crossed_by, crossing};
+ghost use Rattle.ap_stream.specs.Crossing.{AllGoOn, AllCross, AllCrossIn, is_lone as lone_test, is_named as named_test, crossed_by, crossing};
 
 use crate::dialect::Dialect;
 use crate::examine::{Mode, grown, is_surface};
+use crate::level::Level;
 use memchr::memchr2;
 
 /// How many bytes stand before the first `]` or backslash.
@@ -134,7 +135,7 @@ fn unit_run(dialect: Dialect, mode: Mode, bytes: &[u8]) -> Crossed
 }
 
 /// How many of the bytes only go on with what the mode stands in.
-pub(crate) fn run_of(dialect: Dialect, mode: Mode, bytes: &[u8]) -> Crossed
+fn run_of(dialect: Dialect, mode: Mode, bytes: &[u8]) -> Crossed
     ensures most { result.count ≤ length bytes.now }
     ensures goes_on { AllCross dialect mode result.mode result.count bytes.now }
 {
@@ -146,5 +147,35 @@ pub(crate) fn run_of(dialect: Dialect, mode: Mode, bytes: &[u8]) -> Crossed
         Mode::Word(_) | Mode::Tag(_, _) => unit_run(dialect, mode, bytes),
         Mode::Start | Mode::Escape | Mode::Blank | Mode::InsideEscape | Mode::WordEscape(_) =>
             Crossed { count: 0, mode },
+    }
+}
+
+/// So many bytes that were crossed, and where the bytes end with them.
+pub(crate) struct Run {
+    pub(crate) count: usize,
+    pub(crate) level: Level,
+}
+
+/// How many of the bytes only go on with what stands at their front, in a content too.
+pub(crate) fn run_in(dialect: Dialect, level: Level, bytes: &[u8]) -> Run
+    ensures most { result.count ≤ length bytes.now }
+    ensures goes_on { AllCrossIn dialect level result.level result.count bytes.now }
+{
+    match level {
+        Level::Item(mode) => {
+            let Crossed { count, mode } = run_of(dialect, mode, bytes);
+            Run {
+                count,
+                level: Level::Item(mode),
+            }
+        }
+        Level::Part(from, mode) => {
+            let Crossed { count, mode } = run_of(Dialect::Lexical, mode, bytes);
+            Run {
+                count,
+                level: Level::Part(from, mode),
+            }
+        }
+        Level::Closed => Run { count: 0, level },
     }
 }

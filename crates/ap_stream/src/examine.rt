@@ -1,13 +1,11 @@
-ghost use Rattle.std.specs.Prelude.{◌≡◌, eqb, length, take, drop, ◌≤◌, ◌+◌};
+ghost use Rattle.std.specs.Prelude.{◌≡◌, eqb};
 ghost use Rattle.ap_stream.specs.Stands.{Stands, blank_first, escape_first, unit_first, tag_first};
 ghost use Rattle.ap_stream.specs.Units.{is_barred as barred_test};
-ghost use Rattle.ap_stream.specs.InUnits.{surface_at, several_in, grown_spot};
-ghost use Rattle.ap_stream.specs.Step.{Stood, Sees, slash_seen, dollar_seen, bare_seen, name_seen};
-ghost use Rattle.ap_stream.specs.Limited.{Looks};
+ghost use Rattle.ap_stream.specs.InUnits.{surface_at, several_in, braced_in, grown_spot};
+ghost use Rattle.ap_stream.specs.Step.{Stood, Sees, slash_seen, dollar_seen, brace_seen, bare_seen, name_seen};
 ghost use Rattle.ap_stream.specs.Blanks.{is_white as white_test};
-ghost use Rattle.ap_stream.specs.Dialects.{is_refused as refused_test, is_reserved as reserved_test, has_words as words_test};
+ghost use Rattle.ap_stream.specs.Dialects.{is_refused as refused_test, is_reserved as reserved_test, has_units as units_test};
 
-use crate::UNIT_MAX;
 use crate::decode::{Decoded, decode};
 use crate::dialect::Dialect;
 use crate::fault::MalformedKind;
@@ -55,13 +53,13 @@ pub(crate) enum Seen {
     BlankEnds,
     /// A unit is whole.
     UnitEnds,
+    /// The name of a chunk is whole, and its brace.
+    NameEnds,
     /// No whole item can follow.
     Bad(MalformedKind),
-    /// The item has too many bytes.
-    TooLong,
 }
 
-fn is_white(b: u8) -> bool
+pub(crate) fn is_white(b: u8) -> bool
     ensures { result ≡ white_test b }
 {
     b == 32 || b == 9 || b == 10 || b == 13
@@ -93,7 +91,7 @@ fn is_char(c: char, d: char) -> bool
     c == d
 }
 
-fn is_byte(c: u8, d: u8) -> bool
+pub(crate) fn is_byte(c: u8, d: u8) -> bool
     ensures { result ≡ eqb c d }
 {
     c == d
@@ -161,14 +159,11 @@ fn starts_escape(bytes: &[u8]) -> bool
     }
 }
 
-/// Whether the dialect has units.
-fn has_words(dialect: Dialect) -> bool
-    ensures { result ≡ words_test dialect }
+/// Whether the dialect has units or chunks.
+fn has_units(dialect: Dialect) -> bool
+    ensures { result ≡ units_test dialect }
 {
-    matches!(
-        dialect,
-        Dialect::Analysed | Dialect::Lexical | Dialect::Bilingual
-    )
+    !matches!(dialect, Dialect::Raw | Dialect::Generated)
 }
 
 fn starts_unit(dialect: Dialect, bytes: &[u8]) -> bool
@@ -176,7 +171,7 @@ fn starts_unit(dialect: Dialect, bytes: &[u8]) -> bool
 {
     match bytes {
         [] => false,
-        [b, ..] => has_words(dialect) && *b == 94,
+        [b, ..] => has_units(dialect) && *b == 94,
     }
 }
 
@@ -207,7 +202,7 @@ fn is_several(dialect: Dialect) -> bool
 pub(crate) fn is_barred(surface: bool, letter: char) -> bool
     ensures { result ≡ barred_test surface letter }
 {
-    matches!(letter, '^' | '>' | '{' | '}' | '[' | ']') || surface && matches!(letter, '<' | '@')
+    matches!(letter, '^' | '>' | '}' | '[' | ']') || surface && matches!(letter, '<' | '@')
 }
 
 /// What a `/` shows.
@@ -226,10 +221,20 @@ fn see_slash(dialect: Dialect, at: Spot) -> Seen
     }))
 }
 
+/// Whether the word behind `^` is a chunk's name.
+fn is_braced(dialect: Dialect) -> bool
+    ensures { result ≡ braced_in dialect }
+{
+    matches!(dialect, Dialect::Chunked)
+}
+
 /// What a `$` shows.
 fn see_dollar(dialect: Dialect, at: Spot) -> Seen
     ensures { result ≡ dollar_seen dialect at }
 {
+    if is_braced(dialect) {
+        return Seen::Bad(MalformedKind::Stray);
+    }
     let missing = if is_several(dialect) {
         at.first
     } else {
@@ -239,6 +244,17 @@ fn see_dollar(dialect: Dialect, at: Spot) -> Seen
         Seen::Bad(MalformedKind::EmptyWord)
     } else {
         Seen::UnitEnds
+    }
+}
+
+/// What a `{` shows.
+fn see_brace(dialect: Dialect) -> Seen
+    ensures { result ≡ brace_seen dialect }
+{
+    if is_braced(dialect) {
+        Seen::NameEnds
+    } else {
+        Seen::Bad(MalformedKind::Stray)
     }
 }
 
@@ -261,6 +277,9 @@ fn see_bare(dialect: Dialect, at: Spot, letter: char) -> Seen
     }
     if letter == '$' {
         return see_dollar(dialect, at);
+    }
+    if letter == '{' {
+        return see_brace(dialect);
     }
     if is_barred(is_surface(dialect, at), letter) {
         return Seen::Bad(MalformedKind::Stray);
@@ -370,7 +389,8 @@ fn examine_blank(dialect: Dialect, done: &[u8], part: &[u8]) -> Seen
     }
 }
 
-fn examine(dialect: Dialect, mode: Mode, done: &[u8], part: &[u8]) -> Seen
+/// What the last byte shows of an item whose content has no parts.
+pub(crate) fn examine(dialect: Dialect, mode: Mode, done: &[u8], part: &[u8]) -> Seen
     requires { Stood dialect mode done.now part.now }
     ensures { Sees dialect mode done.now part.now result }
 {
@@ -383,23 +403,5 @@ fn examine(dialect: Dialect, mode: Mode, done: &[u8], part: &[u8]) -> Seen
         Mode::Word(at) => examine_word(dialect, at, done, part),
         Mode::WordEscape(at) => examine_word_escape(dialect, at, done, part),
         Mode::Tag(at, some) => examine_tag(dialect, at, some, done, part),
-    }
-}
-
-/// What the last byte shows, where so many bytes are behind.
-pub(crate) fn look(dialect: Dialect, mode: Mode, done: usize, held: &[u8]) -> Seen
-    requires fits { done ≤ length held.now }
-    requires stood { Stood dialect mode (take done held.now) (drop done held.now) }
-    requires short { length held.now ≤ UNIT_MAX + 1 }
-    ensures { Looks dialect mode done held.now result }
-{
-    let (front, part) = held.split_at(done);
-    let seen = examine(dialect, mode, front, part);
-    if held.len() <= UNIT_MAX {
-        return seen;
-    }
-    match seen {
-        Seen::BlankEnds => Seen::BlankEnds,
-        _ => Seen::TooLong,
     }
 }

@@ -1,5 +1,5 @@
 ghost use Rattle.ap_stream.specs.Limits.{LimitsAre};
-ghost use Rattle.ap_stream.specs.Laws.{ReadsBack, ReadsWords, WordsAreSpelt};
+ghost use Rattle.ap_stream.specs.Laws.{ReadsBack, ReadsWords, ChunksReadBack, ChunksAreWritten, WordsAreSpelt};
 ghost use Rattle.ap_stream.specs.Pieces.{TextsJoin, OneList, ReadTextsHave, EachKeeps, KeptTwice, ScanFinds};
 
 /// The numbers of the limits. It is a statement alone and does nothing.
@@ -18,8 +18,20 @@ pub fn units_are_words()
     ensures { ReadsWords }
 {}
 
-/// The law that every word of the program can be written in a unit, and be read again. It is a
-/// statement alone and does nothing.
+/// The law that what is written of a chunk is read back. It is a statement alone and does nothing.
+pub fn chunks_read_back()
+    ensures { ChunksReadBack }
+{}
+
+/// The law that the name of a chunk that is read is a word, and that its content is of units of one
+/// word and of blanks, no two blanks side by side, so that it can be written and read again. It is
+/// a statement alone and does nothing.
+pub fn chunks_can_be_written()
+    ensures { ChunksAreWritten }
+{}
+
+/// The law that every word of the program can be written in a unit or as a chunk's name, and be
+/// read again. It is a statement alone and does nothing.
 pub fn words_are_spelt()
     ensures { WordsAreSpelt }
 {}

@@ -3,6 +3,7 @@
 #![tactic(auto)]
 
 mod blank;
+mod chunks;
 mod crossing;
 mod decode;
 mod dialect;
@@ -12,6 +13,7 @@ mod fault;
 mod handler;
 mod item;
 mod laws;
+mod level;
 mod names;
 mod pipe;
 mod plain;
@@ -31,7 +33,7 @@ pub use fault::{LimitKind, MalformedKind, StageFault, StreamFault};
 pub use handler::{Handler, Turn};
 pub use item::{Character, Chunk, Content, Inner, Item, Read};
 pub use laws::{
-    each_item_keeps_superblanks, limits, one_list_of_superblanks, read_texts_have_superblanks,
+    chunks_can_be_written, chunks_read_back, each_item_keeps_superblanks, limits, one_list_of_superblanks, read_texts_have_superblanks,
     superblanks_are_kept_twice, superblanks_are_scanned, superblanks_of_texts_joined,
     units_are_words, units_read_back, words_are_spelt,
 };

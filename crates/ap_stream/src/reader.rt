@@ -1,17 +1,18 @@
 ghost use Rattle.std.specs.Prelude.{◌≡◌, ◌≢◌, ℕ, ◌+◌, ◌-◌, ◌<◌, ◌≤◌, List, [], ◌∷◌, ◌++◌, take, drop, length, Some, None, true, false, IfOk, IfErr, OnOk, OnErr, OnSome, IfSome, slice_index};
 ghost use Rattle.ap_stream.specs.Given.{Gives, Stopped, Feeds, Shows, Ends, CanGoOn, NeededMore};
-ghost use Rattle.ap_stream.specs.AtEnd.{at_blank};
+ghost use Rattle.ap_stream.specs.Levels.{at_blank_in};
 ghost use Rattle.ap_stream.specs.declared.fault.StreamFault.{StreamFault};
-ghost use Rattle.ap_stream.specs.Dialects.{has_chunks as chunks_test};
 ghost use Rattle.ap_stream.specs.Reading.{counted, reads, stopped, nothing, IsRead};
 
 use crate::UNIT_MAX;
 use crate::blank::Blank;
-use crate::crossing::{Crossed, run_of};
+use crate::chunks::chunk_of;
+use crate::crossing::{Run, run_in};
 use crate::dialect::Dialect;
-use crate::examine::{Mode, Seen, look};
+use crate::examine::Mode;
 use crate::fault::{LimitKind, MalformedKind, StreamFault};
 use crate::item::{Item, Read};
+use crate::level::{Level, Shown, look};
 use crate::unit::Unit;
 use ap_symbol::Memory;
 use std::alloc::Global;
@@ -34,7 +35,7 @@ pub struct Reader {
     held: Vec<u8>,
     /// The bytes before it are behind, and those from it on are the start of a character.
     done: usize,
-    mode: Mode,
+    level: Level,
     /// Whether the last byte was looked at. Behind a blank the byte that ended it wasn't.
     looked: bool,
     place: u64,
@@ -59,7 +60,7 @@ impl Model for Reader {
     } };
 
     ghost invariant = { λ r. (length r.held.items ≤ begun_max)
-        × (r.fault ≡ None → Standing r.dialect r.looked r.mode r.done r.held.items) };
+        × (r.fault ≡ None → Standing r.dialect r.looked r.level r.done r.held.items) };
 }
 
 /// How far ahead the next byte of a superblank or a word that needs a look is sought at once.
@@ -74,19 +75,10 @@ fn place_after(place: u64, size: u64) -> u64
     place.saturating_add(size)
 }
 
-fn is_blank(mode: Mode) -> bool
-    ensures { result ≡ at_blank mode }
+fn is_blank(level: Level) -> bool
+    ensures { result ≡ at_blank_in level }
 {
-    match mode {
-        Mode::Blank => true,
-        Mode::Start
-        | Mode::Escape
-        | Mode::Inside
-        | Mode::InsideEscape
-        | Mode::Word(_)
-        | Mode::WordEscape(_)
-        | Mode::Tag(_, _) => false,
-    }
+    matches!(level, Level::Item(Mode::Blank))
 }
 
 /// Takes the bytes before `at` out, and leaves the one there.
@@ -118,7 +110,6 @@ impl Reader {
     /// A reader at the start of a text. Chunks aren't read yet, so the dialect is one that has
     /// none.
     pub fn new(alloc: Global, dialect: Dialect) -> Reader
-        requires { chunks_test dialect ≡ false }
         ensures dialect { result.dialect ≡ dialect }
         ensures held { result.held ≡ [] }
         ensures place { result.place ≡ 0 }
@@ -130,7 +121,7 @@ impl Reader {
             dialect,
             held: Vec::new(alloc),
             done: 0,
-            mode: Mode::Start,
+            level: Level::Item(Mode::Start),
             looked: true,
             place: 0,
             fault: None,
@@ -188,13 +179,13 @@ impl Reader {
             .len()
             .min(CROSSED_AT_ONCE)
             .min(UNIT_MAX - self.held.len());
-        let Crossed { count, mode } = run_of(self.dialect, self.mode, &piece[..most]);
+        let Run { count, level } = run_in(self.dialect, self.level, &piece[..most]);
         if count == 0 {
             return Ok(0);
         }
         match self.held.extend_from_slice(&piece[..count]) {
             Ok(()) => {
-                self.mode = mode;
+                self.level = level;
                 self.done = self.held.len();
                 Ok(count)
             }
@@ -254,19 +245,24 @@ impl Reader {
         if self.looked {
             return Ok(None);
         }
-        let seen = look(self.dialect, self.mode, self.done, self.held.as_slice());
-        match seen {
-            Seen::Waits => {
+        let shown = look(
+            self.dialect,
+            self.level,
+            self.done,
+            self.held.as_slice(),
+        );
+        match shown {
+            Shown::Waits => {
                 self.looked = true;
                 Ok(None)
             }
-            Seen::Goes(mode) => {
-                self.mode = mode;
+            Shown::Goes(level) => {
+                self.level = level;
                 self.done = self.held.len();
                 self.looked = true;
                 Ok(None)
             }
-            Seen::Bad(kind) => {
+            Shown::Bad(kind) => {
                 let fault = StreamFault::Malformed {
                     kind,
                     place: self.place,
@@ -274,7 +270,7 @@ impl Reader {
                 self.fault = Some(fault);
                 Err(fault)
             }
-            Seen::TooLong => {
+            Shown::TooLong => {
                 let fault = StreamFault::Limit {
                     kind: LimitKind::ItemTooLong,
                     place: self.place,
@@ -282,7 +278,7 @@ impl Reader {
                 self.fault = Some(fault);
                 Err(fault)
             }
-            Seen::Plain(character) => {
+            Shown::Plain(character) => {
                 let read = Read {
                     item: Item::Plain(character),
                     place: self.place,
@@ -290,12 +286,12 @@ impl Reader {
                 };
                 self.place = place_after(self.place, read.size);
                 self.held.clear();
-                self.mode = Mode::Start;
+                self.level = Level::Item(Mode::Start);
                 self.done = 0;
                 self.looked = true;
                 Ok(Some(read))
             }
-            Seen::UnitEnds => {
+            Shown::UnitEnds => {
                 let bytes = match all_out(self.alloc, &mut self.held) {
                     Ok(bytes) => bytes,
                     Err(_) => {
@@ -309,12 +305,32 @@ impl Reader {
                     place: self.place,
                 };
                 self.place = place_after(self.place, read.size);
-                self.mode = Mode::Start;
+                self.level = Level::Item(Mode::Start);
                 self.done = 0;
                 self.looked = true;
                 Ok(Some(read))
             }
-            Seen::BlankEnds => {
+            Shown::ChunkEnds => {
+                let chunk = match chunk_of(self.alloc, self.held.as_slice()) {
+                    Ok(chunk) => chunk,
+                    Err(_) => {
+                        self.fault = Some(StreamFault::Memory);
+                        return Err(StreamFault::Memory);
+                    }
+                };
+                let read = Read {
+                    item: Item::Chunk(chunk),
+                    place: self.place,
+                    size: self.held.len() as u64,
+                };
+                self.place = place_after(self.place, read.size);
+                self.held.clear();
+                self.level = Level::Item(Mode::Start);
+                self.done = 0;
+                self.looked = true;
+                Ok(Some(read))
+            }
+            Shown::BlankEnds => {
                 let bytes = match cut(self.alloc, &mut self.held, self.done) {
                     Ok(bytes) => bytes,
                     Err(_) => {
@@ -328,7 +344,7 @@ impl Reader {
                     size: self.done as u64,
                 };
                 self.place = place_after(self.place, read.size);
-                self.mode = Mode::Start;
+                self.level = Level::Item(Mode::Start);
                 self.done = 0;
                 Ok(Some(read))
             }
@@ -409,7 +425,7 @@ impl Reader {
         if self.held.is_empty() {
             return Ok(None);
         }
-        if is_blank(self.mode) {
+        if is_blank(self.level) {
             let bytes = mem::replace(&mut self.held, Vec::new(self.alloc));
             let read = Read {
                 size: bytes.len() as u64,
@@ -417,7 +433,7 @@ impl Reader {
                 place: self.place,
             };
             self.place = place_after(self.place, read.size);
-            self.mode = Mode::Start;
+            self.level = Level::Item(Mode::Start);
             self.done = 0;
             Ok(Some(read))
         } else {

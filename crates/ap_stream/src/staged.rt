@@ -1,7 +1,6 @@
 ghost use Rattle.std.specs.Prelude.{◌≡◌, ◌≢◌, ℕ, ◌+◌, ◌-◌, ◌*◌, ◌<◌, ◌≤◌, List, [], ◌∷◌, ◌++◌, take, drop, length, Bool, true, false, Option, Some, None, IfOk, OnOk, IfErr, OnErr};
 ghost use Rattle.ap_stream.specs.declared.fault.StreamFault.{StreamFault};
 ghost use Rattle.ap_stream.specs.declared.fault.MalformedKind.{MalformedKind};
-ghost use Rattle.ap_stream.specs.Dialects.{has_chunks as chunks_test};
 ghost use Rattle.ap_stream.specs.declared.TheConstants.{SPAN_MAX, UNIT_MAX};
 ghost use Rattle.ap_stream.specs.Told.{Told, Ending, Clean, Cut, silent, behind, ends_in, Begins};
 ghost use Rattle.ap_stream.specs.Rest.{rest_of, held_of, rest_at_fault, rest_at_cut, rest_pending_first};
@@ -62,7 +61,6 @@ impl<H: Handler + Drop> Staged<H> {
     /// A new stage over a handler that holds nothing and isn't finished, and whose dialect is this
     /// one. It takes no memory.
     pub fn new(alloc: Global, dialect: Dialect, handler: H) -> Staged<H>
-        requires known { chunks_test dialect ≡ false }
         requires dialect { H.dialect handler ≡ dialect }
         requires open { H.finished handler ≡ false }
         requires empty { H.held handler ≡ 0 }

@@ -21,7 +21,7 @@ fn is_escaping(escaped: bool, letter: char) -> bool
 
 /// How many of the bytes behind its bracket a superblank has, the closing bracket included, if it
 /// is closed.
-fn closed_size(bytes: &[u8]) -> Option<usize>
+pub(crate) fn closed_size(bytes: &[u8]) -> Option<usize>
     ensures closed { IfSome result (λ n. closing false 0 bytes.now ≡ Closed n) }
     ensures within { IfSome result (λ n. n ≤ length bytes.now) }
     ensures unclosed { result ≡ None → (n : ℕ) → closing false 0 bytes.now ≢ Closed n }

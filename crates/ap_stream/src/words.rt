@@ -31,6 +31,7 @@ pub(crate) enum Signed {
     Reads(Symbol, usize),
     Slash,
     Dollar,
+    Brace,
     Nothing,
 }
 
@@ -126,6 +127,9 @@ fn bare_at(surface: bool, bytes: &[u8]) -> Signed
             if letter == '$' {
                 return Signed::Dollar;
             }
+            if letter == '{' {
+                return Signed::Brace;
+            }
             if is_barred(surface, letter) {
                 return Signed::Nothing;
             }
@@ -135,7 +139,7 @@ fn bare_at(surface: bool, bytes: &[u8]) -> Signed
 }
 
 #[tactic(auto, unfolding(crate::specs::Units::sign))]
-fn sign_at(alloc: Global, names: &mut Names, surface: bool, bytes: &[u8]) -> Result<Signed, Memory>
+pub(crate) fn sign_at(alloc: Global, names: &mut Names, surface: bool, bytes: &[u8]) -> Result<Signed, Memory>
     ensures { IfOk result (Signs (sign surface bytes.now) (length bytes.now)) }
 {
     match bytes {
@@ -214,6 +218,7 @@ pub(crate) fn words_of(
                 words.push(word)?;
                 return Ok(words);
             }
+            Signed::Brace => unreachable!(),
             Signed::Nothing => unreachable!(),
         }
     }
@@ -257,6 +262,7 @@ pub(crate) fn read_word(
                 at += 1;
             }
             Signed::Dollar => return Ok(behind == wanted),
+            Signed::Brace => unreachable!(),
             Signed::Nothing => unreachable!(),
         }
     }

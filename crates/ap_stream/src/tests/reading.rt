@@ -1,5 +1,4 @@
 ghost use Rattle.std.specs.Prelude.{◌<◌, ◌≡◌, IfOk, false};
-ghost use Rattle.ap_stream.specs.Dialects.{has_chunks as chunks_test};
 
 use crate::UNIT_MAX;
 use crate::dialect::Dialect;
@@ -80,7 +79,6 @@ fn read_end(alloc: Global, reader: &mut Reader, log: &mut String) -> Result<(), 
 
 /// The items of the text, read in two pieces.
 fn read_two(alloc: Global, dialect: Dialect, front: &[u8], back: &[u8]) -> Result<String, Memory>
-    requires { chunks_test dialect ≡ false }
 {
     let mut log = String::new(alloc);
     let mut reader = Reader::new(alloc, dialect);
@@ -101,8 +99,7 @@ pub fn read_pieces(
     text: &[u8],
     size: usize,
 ) -> Result<String, Memory>
-    requires known { chunks_test dialect ≡ false }
-    requires some { 0 < size }
+    requires { 0 < size }
 {
     let mut log = String::new(alloc);
     let mut reader = Reader::new(alloc, dialect);

@@ -1,5 +1,4 @@
 ghost use Rattle.std.specs.Prelude.{◌≡◌, false};
-ghost use Rattle.ap_stream.specs.Dialects.{has_chunks as chunks_test};
 
 use crate::UNIT_MAX;
 use crate::dialect::Dialect;
@@ -80,7 +79,6 @@ fn reads_bilingual_units(rt: HostRuntime) -> Result<(), Memory> {
 /// What the first unit of a text tells of the word at a place: its bytes where they are as they are
 /// written, and its number of symbols.
 fn told_at(alloc: Global, dialect: Dialect, text: &[u8], at: usize) -> Result<String, Memory>
-    requires { chunks_test dialect ≡ false }
 {
     let mut told = String::new(alloc);
     let mut word = Word::new(alloc);
@@ -129,7 +127,6 @@ fn tells_the_words_of_a_unit(rt: HostRuntime) -> Result<(), Memory> {
 
 /// What is written of the first unit of a text.
 fn written(alloc: Global, dialect: Dialect, text: &[u8]) -> Result<Bytes, Memory>
-    requires { chunks_test dialect ≡ false }
 {
     let mut out = Bytes::new(alloc);
     let mut reader = Reader::new(alloc, dialect);

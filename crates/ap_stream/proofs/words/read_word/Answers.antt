@@ -95,7 +95,13 @@ returns-in-Dollar c =
 
 pub unreachable-requires : goal.unreachable-requires
 unreachable-requires c =
-    let h = signed (goal.at.unreachable-requires c).In_ok-symbol _ c.in-Nothing.is in
+    let h = signed (goal.at.unreachable-requires c).In_ok-symbol _ c.in-Brace.is in
+    laws.at_brace _ _ c.requires.0 _ _ _ c.requires.1 c.loop-at.invariant.begun
+    c.loop-at.invariant.on.2 h (omega (arith, c.loop-at-test.true))
+
+pub unreachable-requires-in-Nothing : goal.unreachable-requires-in-Nothing
+unreachable-requires-in-Nothing c =
+    let h = signed (goal.at.unreachable-requires-in-Nothing c).In_ok-symbol _ c.in-Nothing.is in
     laws.at_nothing _ _ c.requires.0 _ _ _ c.requires.1 c.loop-at.invariant.begun
     c.loop-at.invariant.on.2 h
 

@@ -2,7 +2,7 @@ use Rattle.std.proofs.Common.{arith, ap, sym, ◌∙◌, refl, ◌≡◌, ℕ, �
 use Rattle.std.proofs.lemmas.Grind.{common_steps}
 use Rattle.ap_stream.specs.Limits.{unit_max}
 use Rattle.ap_stream.specs.Begun.{Begun}
-use Rattle.ap_stream.specs.Stands.{Stands}
+use Rattle.ap_stream.specs.Levels.{StandsIn}
 use Rattle.ap_stream.specs.Given as given
 use Rattle.ap_stream.specs.declared.dialect.Dialect.{Dialect}
 use Rattle.ap_stream.specs.Reading.{IsRead}
@@ -10,7 +10,7 @@ use Rattle.ap_stream.proofs.reader.Reader.last.Goals as goal
 use Rattle.ap_stream.proofs.reader.Reader.last.Goals.{Else-is_empty}
 
 stands : (c : Else-is_empty) →
-    Stands c.self.inside.dialect c.self.inside.mode
+    StandsIn c.self.inside.dialect c.self.inside.level
     (take c.self.inside.done c.self.inside.held.items)
     (drop c.self.inside.done c.self.inside.held.items)
     × (length c.self.inside.held.items ≤ unit_max)
@@ -42,7 +42,7 @@ returns-then-is_blank-clause-given c =
     let size : c.len.result ≡ length c.self.inside.held.items =
     c.len.ensures ∙ c.replace-bytes.result.ok.0 ∙ ap length same in
     let at = (goal.at.returns-then-is_blank-clause-given c).Else-is_empty in
-    given.last_whole _ _ _ _ c.self.inside.mode (stands at).0 (stands at).1 (some at) _ _ _
+    given.last_whole _ _ _ _ c.self.inside.level (stands at).0 (stands at).1 (some at) _ _ _
     c.self.view_is
     (sym c.is_blank.ensures ∙ c.if-is_blank.true) _ _ _ _ _ (c.from_vec.ensures ∙ same) size nil
 
@@ -54,7 +54,7 @@ returns-then-is_blank-clause-item c =
     c.len.ensures ∙ c.replace-bytes.result.ok.0 ∙ ap length same in
     let at = (goal.at.returns-then-is_blank-clause-item c).Else-is_empty in
     rw (← ap (λ (s : Begun). s.dialect) c.self.view_is)
-    (given.last_read c.self.inside.dialect _ _ _ c.self.inside.mode (stands at).0 (stands at).1
+    (given.last_read c.self.inside.dialect _ _ _ c.self.inside.level (stands at).0 (stands at).1
     (some at) (sym c.is_blank.ensures ∙ c.if-is_blank.true) _ _
     (c.from_vec.ensures ∙ same) size)
 
@@ -63,6 +63,6 @@ returns-else-is_blank-clause-shown c = λ _.
     let at = (goal.at.returns-else-is_blank-clause-shown c).Else-is_empty in (
       ap (λ (s : Begun). s.held) c.self.view_is,
       ap (λ (s : Begun). s.place) c.self.view_is,
-      given.last_broken _ _ _ _ c.self.inside.mode (stands at).0 (stands at).1 (some at)
+      given.last_broken _ _ _ _ c.self.inside.level (stands at).0 (stands at).1 (some at)
           (sym c.is_blank.ensures ∙ c.if-is_blank.false),
     )

@@ -1,0 +1,5 @@
+use Rattle.ap_chunk.proofs.TransferKept.{transfer_keeps}
+use Rattle.ap_chunk.proofs.laws.transfer_keeps_superblanks.Goals as goal
+
+pub returns : goal.returns
+returns c = transfer_keeps
