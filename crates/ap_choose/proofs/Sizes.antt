@@ -12,15 +12,15 @@ use Rattle.ap_symbol.specs.TextWord.{bare_symbol}
 use Rattle.ap_symbol.specs.Words.{is_white}
 use Rattle.ap_symbol.specs.declared.symbol.Symbol.{Symbol}
 use Rattle.ap_symbol.specs.declared.symbol.Symbol.TheVariants as symbol
-use Rattle.ap_stream.specs.Blanks.{Run, Open, Inside, BadChar, Done, blank}
+use Rattle.ap_stream.specs.Blanks.{Run, Open, Inside, BadChar, Done, blank, begins_blank}
 use Rattle.ap_stream.specs.Chars.{Front, Part, NotChar, Char, char_at}
 use Rattle.ap_stream.specs.Dialects.{is_refused}
 use Rattle.ap_stream.specs.Each.{is_worded}
 use Rattle.ap_stream.specs.Limits.{item_max}
-use Rattle.ap_stream.specs.Reading.{First, Needs, Whole, Faulty, Past, first, limited, past, at_limit, begins_blank, begins_unit, of_run, of_escaped, of_unit, of_char, IsRead}
+use Rattle.ap_stream.specs.Reading.{First, Needs, Whole, Faulty, Past, first, limited, past, at_limit, begins_unit, of_run, of_escaped, of_unit, of_char, IsRead}
 use Rattle.ap_stream.specs.Spelling.{spelled}
 use Rattle.ap_stream.specs.Steps.{bytes_of}
-use Rattle.ap_stream.specs.Units.{Name, Runs, Breaks, Stops, name, Sign, Awaits, Bars, Reads, Slash, Dollar, of_name, of_escape, of_bare, is_barred, sign, form_of, in_surface, is_none, may_part, may_end, gone, Rest, Lacks, Wrong, Ends, rest, longer}
+use Rattle.ap_stream.specs.Units.{Name, Runs, Breaks, Stops, name, Sign, Awaits, Bars, Reads, Slash, Dollar, Brace, of_name, of_escape, of_bare, is_barred, sign, form_of, in_surface, is_none, may_part, may_end, gone, Rest, Lacks, Wrong, Ends, rest, longer}
 use Rattle.ap_stream.specs.declared.dialect.Dialect.TheVariants.{Analysed}
 use Rattle.ap_stream.specs.declared.fault.LimitKind.TheVariants.{ItemTooLong}
 use Rattle.ap_stream.specs.declared.fault.MalformedKind.TheVariants.{Stray, EmptyWord}
@@ -40,6 +40,7 @@ SignFits (Bars kind) = Unit {0}
 SignFits (Reads s n) = length (symbol_bytes s) ≤ n
 SignFits Slash = Unit {0}
 SignFits Dollar = Unit {0}
+SignFits Brace = Unit {0}
 
 fits_cond : (b : Bool) (f g : Sign) → (b ≡ true → SignFits f) → (b ≡ false → SignFits g) →
     SignFits (cond b f g)
@@ -99,21 +100,18 @@ bare_letter c n le e = let a : letter_bytes c ≡ encode_utf8 c =
     omega (arith, b, le)
 
 module _ (c n : ℕ) (some : 0 < n) (le : length (encode_utf8 c) ≤ n) (slash : eqb c 47 ≡ false)
-    (dollar : eqb c 36 ≡ false) (barred : is_barred false c ≡ false) (less : eqb c 60 ≡ false)
+    (dollar : eqb c 36 ≡ false) (brace : eqb c 123 ≡ false) (barred : is_barred false c ≡ false) (less : eqb c 60 ≡ false)
     (back : eqb c 92 ≡ false) where
   not_escaped : eqb c 43 ≡ false → eqb c 35 ≡ false → eqb c 126 ≡ false → eqb c 42 ≡ false →
       eqb c 64 ≡ false → is_escaped_lem c ≡ false
   not_escaped join queue alarm star at =
       let a = or_parts (eqb c 94)
-      (eqb c 62 || (eqb c 123 ||
-      (eqb c 125 || (eqb c 91 || (eqb c 93 || (false && (eqb c 60 || eqb c 64))))))) barred in
+      (eqb c 62 || (eqb c 125 || (eqb c 91 || (eqb c 93 || (false && (eqb c 60 || eqb c 64))))))
+      barred in
       let d = or_parts (eqb c 62)
-      (eqb c 123 || (eqb c 125
-      || (eqb c 91 || (eqb c 93 || (false && (eqb c 60 || eqb c 64)))))) a.1 in
-      let e = or_parts (eqb c 123)
-      (eqb c 125 || (eqb c 91 || (eqb c 93 || (false && (eqb c 60 || eqb c 64))))) d.1 in
+      (eqb c 125 || (eqb c 91 || (eqb c 93 || (false && (eqb c 60 || eqb c 64))))) a.1 in
       let f = or_parts (eqb c 125) (eqb c 91 || (eqb c 93 || (false && (eqb c 60 || eqb c 64))))
-      e.1 in
+      d.1 in
       let g = or_parts (eqb c 91) (eqb c 93 || (false && (eqb c 60 || eqb c 64))) f.1 in
       let h = or_parts (eqb c 93) (false && (eqb c 60 || eqb c 64)) g.1 in
       rw (
@@ -122,7 +120,7 @@ module _ (c n : ℕ) (some : 0 < n) (le : length (encode_utf8 c) ≤ n) (slash :
         slash,
         less,
         d.0,
-        e.0,
+        brace,
         f.0,
         back,
         g.0,
@@ -185,11 +183,12 @@ bare_fits b bs NotChar e k back less = tt
 bare_fits b bs (Char c n) e k back less =
     let some = (whole_fits (b ∷ bs) c n (sym e)).0 in
     fits_cond (eqb c 47) Slash _ (λ _. tt) (λ slash. fits_cond (eqb c 36) Dollar _ (λ _. tt)
-    (λ dollar. fits_cond (is_barred false c) (Bars Stray) (Reads (bare_symbol c) n) (λ _. tt)
+    (λ dollar. fits_cond (eqb c 123) Brace _ (λ _. tt)
+    (λ brace. fits_cond (is_barred false c) (Bars Stray) (Reads (bare_symbol c) n) (λ _. tt)
     (λ barred.
-    symbol_fits c n some (encode_fits c n (b ∷ bs) k) slash dollar barred
+    symbol_fits c n some (encode_fits c n (b ∷ bs) k) slash dollar brace barred
     (not_first 60 c n b bs (omega arith) some k less)
-    (not_first 92 c n b bs (omega arith) some k back))))
+    (not_first 92 c n b bs (omega arith) some k back)))))
 
 sign_fits : (bytes : List ℕ) → SignFits (sign false bytes)
 unfolding sign
@@ -276,6 +275,7 @@ gone_weighs words word Slash more h go =
 gone_weighs words word Dollar more h go =
     weighs_cond words word (may_end (form_of Analysed) words word) (Ends (words ++ word ∷ []) 1)
     (Wrong EmptyWord) (omega arith) tt
+gone_weighs words word Brace more h go = tt
 
 signs : (words : List (List Symbol)) (bytes : List ℕ) → is_none words ≡ false →
     SignFits (sign (in_surface (form_of Analysed) words) bytes)
