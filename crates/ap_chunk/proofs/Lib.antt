@@ -20,3 +20,4 @@ mod FilledKept
 mod TransferKept
 mod OpenBlanks
 mod ChunksFilled
+mod SoundKept
