@@ -1,6 +1,6 @@
 -- Steps that carry variables, from left to right: the first step and then the rest; and what a turn
 -- over held items does.
-use Rattle.std.specs.Prelude.{◌≡◌, ℕ, suc, zero, pred, ◌+◌, ◌<◌, ◌≤◌, List, [], ◌∷◌, ◌++◌, length, drop, refl}
+use Rattle.std.specs.Prelude.{◌≡◌, ℕ, suc, zero, pred, ◌<◌, ◌≤◌, List, [], ◌∷◌, ◌++◌, length, drop, refl}
 use Rattle.std.proofs.Common.{arith, ap, sym, ◌∙◌, get_or}
 use Rattle.std.proofs.lemmas.List.{drop-append-le}
 use Rattle.ap_stream.specs.Told.{silent, behind, ends_in}

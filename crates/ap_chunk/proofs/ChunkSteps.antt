@@ -1,5 +1,5 @@
 -- The first step: by its cases, what it uses, and where its span is over the limit.
-use Rattle.std.specs.Prelude.{◌≡◌, ℕ, suc, zero, ◌+◌, ◌<◌, ◌≤◌, nat_lt, Bool, true, false, List, [], ◌∷◌, ◌++◌, length, take, drop, Option, Some, None, Result, Ok, Err, refl, if◌then◌else◌}
+use Rattle.std.specs.Prelude.{◌≡◌, ℕ, suc, zero, ◌<◌, ◌≤◌, nat_lt, Bool, true, false, List, [], ◌∷◌, ◌++◌, length, take, Option, Some, None, Ok, Err, refl, if◌then◌else◌}
 use Rattle.std.proofs.Common.{arith, ap, sym, ◌∙◌, inl, inr}
 use Rattle.std.proofs.lemmas.Bool.{cases_lt, cases_Bool}
 use Rattle.std.proofs.lemmas.Bool.Decides.{nat_tests}
@@ -12,13 +12,13 @@ use Rattle.ap_stream.proofs.StepLaws.{bytes_taken}
 use Rattle.ap_rules.specs.Views.{plain_rules}
 use Rattle.ap_rules.specs.declared.rules.Rules.{Rules}
 use Rattle.ap_exec.specs.Acting.{act_of, Outcome}
-use Rattle.ap_exec.specs.Filling.{marks, filled, fill_of, is_over, within_span}
+use Rattle.ap_exec.specs.Filling.{marks, filled, is_over, within_span}
 use Rattle.ap_exec.specs.Results.{Ran}
 use Rattle.ap_exec.specs.declared.refusal.ExecRefusal.TheVariants.{OutputTooLong}
 use Rattle.ap_chunk.specs.Carrying.{Held, Step, Gives, Stops}
 use Rattle.ap_chunk.specs.Matches.{matched_of, blanks_of}
 use Rattle.ap_chunk.specs.Parts.{Part, unit, gap, wall, parts_of, taken_by}
-use Rattle.ap_chunk.specs.Stages.{span, choice, limit_of, filled_step, acted_step, rule_step, lone_step, unmatched_step, chosen_step, is_overfull, tested_step, chunk_step}
+use Rattle.ap_chunk.specs.Stages.{span, choice, filled_step, acted_step, rule_step, lone_step, unmatched_step, chosen_step, is_overfull, tested_step, chunk_step}
 use Rattle.ap_chunk.specs.Unmatched.{unmatched_text}
 use Rattle.ap_chunk.specs.declared.choice.Choice.{Choice}
 

@@ -1,16 +1,15 @@
 -- A template with its slots filled has the superblanks of the blanks: in a text of chunks too,
 -- where blanks side by side in a
 -- chunk are read as one.
-use Rattle.std.proofs.Common.{◌≡◌, ℕ, zero, suc, ◌<◌, ◌+◌, Bool, true, false, List, [], ◌∷◌, ◌++◌, length, refl, ap, sym, subst, ◌∙◌, arith, inl, inr, cond}
-use Rattle.std.specs.Prelude.{◌||◌, eqb}
+use Rattle.std.proofs.Common.{◌≡◌, ℕ, Bool, true, false, List, [], ◌∷◌, ◌++◌, length, refl, ap, sym, subst, ◌∙◌, arith, cond}
+use Rattle.std.specs.Prelude.{eqb}
 use Rattle.std.specs.List.{flat_map, AllByRecursion}
-use Rattle.std.proofs.lemmas.Grind.{flat_map-append}
 use Rattle.std.proofs.lemmas.List.{append-nil, append_assoc}
 use Rattle.std.proofs.lemmas.List.Concat.{flat_map-cons}
 use Rattle.ap_symbol.specs.Rendering.{rendering}
 use Rattle.ap_symbol.specs.declared.symbol.Symbol.{Symbol}
-use Rattle.ap_stream.specs.Blanks.{Run, Open, Done, further, blank, closing, behind_close, is_white, begins_blank}
-use Rattle.ap_stream.specs.Laws.{AreSpelt, AreWords, AreParts, IsBlank, NoBlankFirst}
+use Rattle.ap_stream.specs.Blanks.{Run, Open, Done, further, blank, is_white, begins_blank}
+use Rattle.ap_stream.specs.Laws.{AreSpelt, AreWords, AreParts}
 use Rattle.ap_stream.specs.Pieces.{HasSuperblanks, nothing, piece, white, chunk}
 use Rattle.ap_stream.specs.Reading.{first, Whole, Needs, last, Complete}
 use Rattle.ap_stream.specs.Spelling.{inner_bytes, chunk_bytes, spelled}
@@ -22,7 +21,6 @@ use Rattle.ap_stream.specs.declared.item.Inner.TheVariants as inner
 use Rattle.ap_stream.specs.declared.item.Item.{Item}
 use Rattle.ap_stream.specs.declared.item.Item.TheVariants as item
 use Rattle.ap_stream.proofs.ChunkCut.{open_on, chunk_back}
-use Rattle.ap_stream.proofs.EachKept.{unit_has_none}
 use Rattle.ap_stream.proofs.Joined.{joined, one_piece}
 use Rattle.ap_stream.proofs.Scan.{scan_finds}
 use Rattle.ap_stream.proofs.Spelt.{words_are_spelt}
@@ -32,7 +30,7 @@ use Rattle.ap_exec.specs.declared.template.Atom.TheVariants.{Unit as The_unit, S
 use Rattle.ap_exec.specs.declared.template.Piece.{Piece}
 use Rattle.ap_exec.specs.declared.template.Piece.TheVariants.{Atom as The_atom, Chunk}
 use Rattle.ap_exec.specs.Filling.{marks, filled, left_over}
-use Rattle.ap_exec.specs.FillingLaws.{supers_in, left_by, left_by_atom, left_by_atoms, left_by_piece, atom_parts, atoms_parts, piece_items, space}
+use Rattle.ap_exec.specs.FillingLaws.{supers_in, left_by, left_by_atom, left_by_atoms, atoms_parts, space}
 use Rattle.ap_exec.specs.FillingLaws.{items_of as template_items}
 use Rattle.ap_exec.proofs.FillSpells.{fill_spells}
 use Rattle.ap_chunk.specs.Laws.{HoldAtoms, HoldChunks}

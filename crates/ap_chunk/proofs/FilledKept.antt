@@ -1,5 +1,5 @@
 -- A template of units with its slots filled has the superblanks of blanks that were read.
-use Rattle.std.proofs.Common.{◌≡◌, ℕ, true, false, List, [], ◌∷◌, ◌++◌, refl, ap, sym, subst, ◌∙◌, arith}
+use Rattle.std.proofs.Common.{◌≡◌, ℕ, false, List, [], ◌∷◌, ◌++◌, refl, ap, sym, subst, arith}
 use Rattle.std.specs.List.{flat_map, AllByRecursion}
 use Rattle.std.proofs.lemmas.List.{append-nil, append_assoc}
 use Rattle.std.proofs.lemmas.List.Concat.{flat_map-cons}
@@ -7,7 +7,6 @@ use Rattle.ap_symbol.specs.Rendering.{rendering}
 use Rattle.ap_symbol.specs.declared.symbol.Symbol.{Symbol}
 use Rattle.ap_stream.specs.Laws.{AreSpelt}
 use Rattle.ap_stream.specs.Pieces.{HasSuperblanks, nothing, piece, white as white_piece}
-use Rattle.ap_stream.specs.Spelling.{unit_bytes}
 use Rattle.ap_stream.specs.Supers.{blank_supers}
 use Rattle.ap_stream.specs.declared.dialect.Dialect.TheVariants.{Lexical}
 use Rattle.ap_stream.proofs.EachKept.{unit_has_none}

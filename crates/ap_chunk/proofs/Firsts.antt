@@ -1,6 +1,6 @@
 -- The first step, by what the search found at the front; and that it is the same however the items
 -- go on.
-use Rattle.std.specs.Prelude.{◌≡◌, ℕ, zero, suc, ◌+◌, ◌<◌, ◌≤◌, nat_lt, Bool, true, false, List, [], ◌∷◌, ◌++◌, length, take, Option, Some, None, Result, Ok, Err, refl, if◌then◌else◌}
+use Rattle.std.specs.Prelude.{◌≡◌, ℕ, zero, suc, ◌<◌, ◌≤◌, nat_lt, Bool, true, false, List, [], ◌∷◌, ◌++◌, length, take, Option, Some, None, Result, Ok, Err, refl, if◌then◌else◌}
 use Rattle.std.proofs.Common.{arith, ap, sym, ◌∙◌, subst}
 use Rattle.std.proofs.lemmas.List.{append-nil, take-append-le}
 use Rattle.ap_stream.specs.Limits.{span_max, unit_max}
@@ -17,8 +17,8 @@ use Rattle.ap_exec.specs.Results.{Ran, Fails}
 use Rattle.ap_exec.specs.Results.{Gives as Does}
 use Rattle.ap_exec.specs.declared.refusal.ExecRefusal.{ExecRefusal}
 use Rattle.ap_exec.specs.declared.refusal.ExecRefusal.TheVariants.{ValueTooLong, OutputTooLong, Memory}
-use Rattle.ap_chunk.specs.Carrying.{Held, Step, Gives, Stops}
-use Rattle.ap_chunk.specs.Parts.{Part, parts_of, taken_by}
+use Rattle.ap_chunk.specs.Carrying.{Held, Step, Stops}
+use Rattle.ap_chunk.specs.Parts.{parts_of, taken_by}
 use Rattle.ap_chunk.specs.Searching.{IsTaken, IsFront}
 use Rattle.ap_chunk.specs.Stages.{span, choice, acted_step, filled_step, rule_step, unmatched_step, chosen_step, is_overfull, tested_step, chunk_step}
 use Rattle.ap_chunk.specs.Working.{Gave}

@@ -1,7 +1,7 @@
 -- What a search finds at the front of items, as the definitions over items say it.
-use Rattle.std.specs.Prelude.{◌≡◌, ℕ, suc, zero, ◌+◌, ◌<◌, ◌≤◌, Bool, true, false, List, [], ◌∷◌, ◌++◌, length, drop, map, refl, Option, Some, None, IfSome, ◌⊎◌}
+use Rattle.std.specs.Prelude.{◌≡◌, ℕ, suc, zero, ◌+◌, ◌<◌, ◌≤◌, Bool, true, false, List, [], ◌∷◌, ◌++◌, length, drop, refl, Option, Some, None, IfSome, ◌⊎◌}
 use Rattle.std.proofs.Common.{arith, ap, sym, ◌∙◌, subst, get_or, inl, inr}
-use Rattle.std.proofs.lemmas.List.{append-nil, map-append}
+use Rattle.std.proofs.lemmas.List.{map-append}
 use Rattle.ap_stream.specs.declared.item.Read.{Read}
 use Rattle.ap_rules.specs.declared.rules.Rules.{Rules}
 use Rattle.ap_chunk.specs.Going.{chosen_of}

@@ -21,3 +21,4 @@ mod TransferKept
 mod OpenBlanks
 mod ChunksFilled
 mod SamePlain
+mod SoundKept

@@ -1,5 +1,5 @@
 -- The blanks of a text that is read are whole, and may go on.
-use Rattle.std.specs.Prelude.{◌≡◌, ℕ, zero, suc, pred, Bool, true, false, cond, leb, List, [], ◌∷◌, ◌++◌, length, take, ◌+◌, eqb, refl}
+use Rattle.std.specs.Prelude.{◌≡◌, ℕ, zero, suc, pred, Bool, true, false, cond, leb, List, [], ◌∷◌, length, take, ◌+◌, eqb, refl}
 use Rattle.std.specs.List.{AllByRecursion}
 use Rattle.std.proofs.Common.{ap, sym, ◌∙◌}
 use Rattle.std.proofs.lemmas.List.{append-nil}
@@ -9,7 +9,7 @@ use Rattle.ap_stream.specs.Chars.{Front, Part, NotChar, Char, char_at}
 use Rattle.ap_stream.specs.Chunks.{Body, Opens, Fails, Closes, body}
 use Rattle.ap_stream.specs.Dialects.{has_chunks, is_refused}
 use Rattle.ap_stream.specs.Limits.{item_max}
-use Rattle.ap_stream.specs.Reading.{First, Needs, Whole, Faulty, Last, Complete, Broken, plain, of_run, of_escaped, of_char, of_body, of_unit, of_chunk, of_caret, first, last, last_run, at_limit, past, limited, walked, at_end, counted, walk, reads, begins_unit, name_in}
+use Rattle.ap_stream.specs.Reading.{First, Needs, Whole, Faulty, Last, Complete, Broken, of_run, of_escaped, of_char, of_body, of_caret, first, last, last_run, at_limit, past, limited, walked, at_end, counted, walk, reads, begins_unit, name_in}
 use Rattle.ap_stream.specs.Units.{Rest, Lacks, Wrong, Ends, rest, form_of}
 use Rattle.ap_stream.specs.declared.dialect.Dialect.{Dialect}
 use Rattle.ap_stream.specs.declared.item.Item.{Item}

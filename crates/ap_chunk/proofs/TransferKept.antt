@@ -1,5 +1,5 @@
 -- Transfer keeps superblanks.
-use Rattle.std.specs.Prelude.{◌≡◌, ℕ, zero, suc, pred, ◌<◌, ◌≤◌, nat_lt, Bool, true, false, List, [], ◌∷◌, ◌++◌, length, take, drop, Option, Some, None, Result, Ok, Err, refl, codes, if◌then◌else◌}
+use Rattle.std.specs.Prelude.{◌≡◌, ℕ, zero, suc, pred, ◌<◌, nat_lt, Bool, true, false, List, [], ◌∷◌, ◌++◌, length, take, drop, Option, Some, None, Ok, Err, refl, codes, if◌then◌else◌}
 use Rattle.std.specs.List.{flat_map, AllByRecursion}
 use Rattle.std.proofs.Common.{arith, ap, sym, subst, ◌∙◌, inl, inr}
 use Rattle.std.proofs.lemmas.Bool.{cases_lt, cases_Bool}
@@ -8,15 +8,13 @@ use Rattle.std.proofs.lemmas.List.{append-nil, take-append-drop, length-take}
 use Rattle.std.proofs.lemmas.List.Concat.{flat_map-cons}
 use Rattle.ap_symbol.specs.declared.symbol.Symbol.{Symbol}
 use Rattle.ap_stream.specs.Each.{item_text}
-use Rattle.ap_stream.specs.Laws.{AreSpelt, EachSpelt, AreWords}
+use Rattle.ap_stream.specs.Laws.{AreSpelt, EachSpelt}
 use Rattle.ap_stream.specs.Limits.{span_max, unit_max}
-use Rattle.ap_stream.specs.Pieces.{HasSuperblanks, nothing, HaveSameSuperblanks, StayBare, MakesNone, supers_of}
+use Rattle.ap_stream.specs.Pieces.{HasSuperblanks, nothing, StayBare, MakesNone, supers_of}
 use Rattle.ap_stream.specs.Reading.{reads}
 use Rattle.ap_stream.specs.Steps.{bytes_of}
 use Rattle.ap_stream.specs.Supers.{blank_supers, item_supers, inner_supers}
-use Rattle.ap_stream.specs.Told.{Clean}
 use Rattle.ap_stream.specs.declared.dialect.Dialect.TheVariants.{Bilingual, Lexical, Chunked}
-use Rattle.ap_stream.specs.declared.dialect.Dialect.{Dialect}
 use Rattle.ap_stream.specs.declared.item.Inner.{Inner}
 use Rattle.ap_stream.specs.declared.item.Inner.TheVariants as inner
 use Rattle.ap_stream.specs.Spelling.{inner_bytes, chunk_bytes}
@@ -41,7 +39,6 @@ use Rattle.ap_exec.specs.Filling.{marks, filled, is_over, within_span}
 use Rattle.ap_exec.specs.FillingLaws.{supers_in}
 use Rattle.ap_exec.specs.Results.{Ran}
 use Rattle.ap_exec.specs.Starting.{start_of}
-use Rattle.ap_exec.specs.declared.matched.MatchedUnit.{MatchedUnit}
 use Rattle.ap_exec.specs.declared.template.Piece.{Piece}
 use Rattle.ap_exec.specs.declared.refusal.ExecRefusal.TheVariants.{OutputTooLong}
 use Rattle.ap_chunk.specs.Carrying.{Held, Step, Gives, Stops, goes_on, carried}
@@ -49,7 +46,7 @@ use Rattle.ap_chunk.specs.Chunks.{lone_unit}
 use Rattle.ap_chunk.specs.Laws.{IsSpeltUnit, MayGive, given_dialect, GivesWritten, TransferKeeps}
 use Rattle.ap_chunk.specs.Matches.{matched_item, matched_items, matched_of, item_blanks, blanks_of}
 use Rattle.ap_chunk.specs.Parts.{word_of, parts_of, taken_by}
-use Rattle.ap_chunk.specs.Stages.{span, choice, filled_step, acted_step, rule_step, lone_step, unmatched_step, chosen_step, is_overfull, tested_step, chunk_step, chunked, transferred_text}
+use Rattle.ap_chunk.specs.Stages.{span, choice, filled_step, acted_step, rule_step, unmatched_step, chosen_step, is_overfull, tested_step, chunk_step, chunked}
 use Rattle.ap_chunk.specs.Unmatched.{is_unknown, chunk_front, default_text, unit_text, unmatched_text}
 use Rattle.ap_chunk.specs.declared.choice.Choice.{Choice}
 use Rattle.ap_chunk.proofs.ChunkSteps.{step_over, step_within, tested_by, chosen_some, chosen_empty, taken_some, parts_length}

@@ -1,5 +1,5 @@
 -- A turn of the work, as its state is seen.
-use Rattle.std.specs.Prelude.{◌≡◌, ℕ, ◌+◌, ◌<◌, ◌≤◌, Bool, true, List, [], ◌∷◌, ◌++◌, drop, length, Option, Some, None, IfSome, Result, Ok, Err, OnOk, OnErr}
+use Rattle.std.specs.Prelude.{◌≡◌, ℕ, ◌+◌, ◌<◌, ◌≤◌, true, List, [], ◌∷◌, ◌++◌, drop, length, Option, Some, None, IfSome, Result, Ok, Err, OnOk, OnErr}
 use Rattle.std.specs.List.{AllByRecursion}
 use Rattle.std.proofs.Common.{arith, refl, ap, sym, ◌∙◌, subst}
 use Rattle.std.proofs.lemmas.List.{append-nil}
@@ -16,7 +16,7 @@ use Rattle.ap_rules.specs.declared.rules.Rules.{Rules}
 use Rattle.ap_chunk.specs.Carrying.{Held}
 use Rattle.ap_chunk.specs.Searching.{IsKnown}
 use Rattle.ap_chunk.specs.Stages.{span, chunk_step, chunked, dialect_of}
-use Rattle.ap_chunk.specs.Working.{Working, chunk_work, meant, IsFirstStep, IsFirstPlace}
+use Rattle.ap_chunk.specs.Working.{Working, chunk_work, IsFirstStep, IsFirstPlace}
 use Rattle.ap_chunk.specs.declared.search.Search.{Search}
 use Rattle.ap_chunk.specs.declared.writing.Written.{Written}
 use Rattle.ap_chunk.specs.declared.writing.Written.TheVariants as code

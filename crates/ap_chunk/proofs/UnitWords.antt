@@ -1,6 +1,5 @@
 -- The word at a place of a unit.
 use Rattle.std.specs.Prelude.{◌≡◌, ℕ, suc, zero, Bool, true, false, List, [], ◌∷◌, Some, None, slice_get, refl}
-use Rattle.std.proofs.Common.{ap, sym, ◌∙◌, subst}
 use Rattle.ap_symbol.specs.declared.symbol.Symbol.{Symbol}
 use Rattle.ap_stream.specs.UnitBytes.{IsAt}
 use Rattle.ap_chunk.specs.Parts.{word_of}

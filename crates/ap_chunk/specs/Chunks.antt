@@ -10,10 +10,10 @@ use Rattle.ap_symbol.specs.declared.symbol.Symbol.TheVariants.{Tag}
 use Rattle.ap_stream.specs.declared.item.Inner.{Inner}
 use Rattle.ap_stream.specs.declared.item.Inner.TheVariants as inner
 use Rattle.ap_stream.specs.declared.item.Item.{Item}
-use Rattle.ap_stream.specs.declared.item.Item.TheVariants.{Plain, Blank, Unit, Chunk}
+use Rattle.ap_stream.specs.declared.item.Item.TheVariants.{Chunk}
 use Rattle.ap_stream.specs.declared.item.Read.{Read}
 use Rattle.ap_rules.specs.declared.rules.Form.{Form}
-use Rattle.ap_rules.specs.declared.rules.Form.TheVariants.{Transfer, Interchunk, Postchunk}
+use Rattle.ap_rules.specs.declared.rules.Form.TheVariants.{Postchunk}
 use Rattle.ap_chunk.specs.Categories.{is_tag}
 use Rattle.ap_chunk.specs.Tests.{first_tag}
 use Rattle.ap_chunk.specs.Parts.{word_of}

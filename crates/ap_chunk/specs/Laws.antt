@@ -1,15 +1,16 @@
 -- What the laws of chunk stages say.
-use Rattle.std.specs.Prelude.{◌≡◌, ℕ, Bool, true, false, List, [], ◌∷◌, ◌++◌, length, take, Option, None, Ok}
+use Rattle.std.specs.Prelude.{◌≡◌, ℕ, false, List, [], ◌∷◌, None, Ok}
 use Rattle.std.specs.List.{AllByRecursion}
 use Rattle.ap_symbol.specs.Coded.{AreCoded}
 use Rattle.ap_symbol.specs.Words.{AreProper}
-use Rattle.ap_symbol.specs.declared.symbol.Symbol.{Symbol}
 use Rattle.ap_stream.specs.Laws.{AreSpelt, EachSpelt}
 use Rattle.ap_stream.specs.Pieces.{HaveSameSuperblanks}
 use Rattle.ap_stream.specs.Told.{Ending, Clean}
 use Rattle.ap_stream.specs.declared.dialect.Dialect.{Dialect}
 use Rattle.ap_stream.specs.declared.dialect.Dialect.TheVariants.{Bilingual, Lexical, Chunked}
+use Rattle.ap_rules.specs.Soundness.{IsSound}
 use Rattle.ap_rules.specs.Views.{plain_rules}
+use Rattle.ap_rules.specs.Worded.{AreWorded}
 use Rattle.ap_rules.specs.declared.rules.DefaultPiece.{DefaultPiece}
 use Rattle.ap_rules.specs.declared.rules.DefaultPiece.TheVariants as default
 use Rattle.ap_rules.specs.declared.rules.Form.TheVariants.{Transfer}
@@ -71,6 +72,21 @@ pub record GivesWritten (rules : Rules) : Type 0 where
 -- one
 abbrev pub TransferKeeps : Type 0
 TransferKeeps = (rules : Rules) (text : List ℕ) → rules.form ≡ Transfer → GivesWritten rules
+    → (transferred_text rules text Clean).fault ≡ None →
+    HaveSameSuperblanks Bilingual (given_dialect rules.default) text
+    (transferred_text rules text Clean).text
+
+-- Where the words of rules of transfer are words of the program and the rules are sound, their
+-- words can be written, and they give what their default says.
+abbrev pub SoundGivesWritten : Type 0
+SoundGivesWritten = (rules : Rules) → rules.form ≡ Transfer → AreWorded (plain_rules rules)
+    → IsSound (plain_rules rules) → GivesWritten rules
+
+-- so where transfer by them gives a text without a fault, it has the superblanks of the bilingual
+-- one
+abbrev pub SoundTransferKeeps : Type 0
+SoundTransferKeeps = (rules : Rules) (text : List ℕ) → rules.form ≡ Transfer
+    → AreWorded (plain_rules rules) → IsSound (plain_rules rules)
     → (transferred_text rules text Clean).fault ≡ None →
     HaveSameSuperblanks Bilingual (given_dialect rules.default) text
     (transferred_text rules text Clean).text

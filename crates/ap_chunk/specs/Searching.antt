@@ -1,5 +1,5 @@
 -- What a walk over the items at the front knows, and what it has found where it ends.
-use Rattle.std.specs.Prelude.{◌≡◌, ℕ, suc, ◌+◌, ◌<◌, ◌≤◌, Bool, true, false, List, [], ◌∷◌, ◌++◌, length, drop, Option, Some, None}
+use Rattle.std.specs.Prelude.{◌≡◌, ℕ, suc, ◌+◌, ◌≤◌, Bool, true, false, List, [], ◌∷◌, ◌++◌, length, drop, Option, Some, None}
 use Rattle.ap_stream.specs.declared.item.Read.{Read}
 use Rattle.ap_rules.specs.declared.rules.Rules.{Rules}
 use Rattle.ap_chunk.specs.Choice.{unit_of, IsChosen}

@@ -1,5 +1,5 @@
 -- Transfer, interchunk and postchunk of the items of a text, and of a whole text.
-use Rattle.std.specs.Prelude.{ℕ, nat_lt, Bool, false, List, [], ◌∷◌, ◌++◌, length, take, Option, Some, None, Ok, Err, if◌then◌else◌}
+use Rattle.std.specs.Prelude.{ℕ, nat_lt, Bool, false, List, [], ◌∷◌, length, take, Option, Some, None, Ok, Err, if◌then◌else◌}
 use Rattle.ap_stream.specs.Limits.{span_max, unit_max}
 use Rattle.ap_stream.specs.Reading.{Reads, reads}
 use Rattle.ap_stream.specs.Steps.{bytes_of}
@@ -23,7 +23,7 @@ use Rattle.ap_chunk.specs.Carrying.{Held, Step, Gives, Stops, carried}
 use Rattle.ap_chunk.specs.Going.{chosen_of}
 use Rattle.ap_chunk.specs.Chunks.{first_words, first_text}
 use Rattle.ap_chunk.specs.Matches.{matched_of, blanks_of}
-use Rattle.ap_chunk.specs.Parts.{Part, parts_of, units_in, taken_by, together}
+use Rattle.ap_chunk.specs.Parts.{parts_of, units_in, taken_by, together}
 use Rattle.ap_chunk.specs.Patterns.{patterns_of}
 use Rattle.ap_chunk.specs.Unmatched.{unmatched_text}
 use Rattle.ap_chunk.specs.declared.choice.Choice.{Choice}

@@ -1,5 +1,5 @@
 ghost use Rattle.ap_chunk.specs.Going.{GoesOnAlike, OneIsChosen, TriesAll};
-ghost use Rattle.ap_chunk.specs.Laws.{PlainRulesDecide, TransferKeeps};
+ghost use Rattle.ap_chunk.specs.Laws.{PlainRulesDecide, TransferKeeps, SoundGivesWritten, SoundTransferKeeps};
 ghost use Rattle.ap_chunk.specs.Rows.{RowsTell};
 
 /// The law that going on unit by unit, from the places in patterns that fit so far, chooses what
@@ -32,6 +32,16 @@ pub fn rows_tell()
 /// order, whole. It is a statement alone and does nothing.
 pub fn transfer_keeps_superblanks()
     ensures { TransferKeeps }
+{}
+
+/// The law that transfer keeps superblanks by all rules that are sound and whose words are words of
+/// the program: their words can be written, they give chunks alone where they are the default, and
+/// else units alone; so where it gives a text without a fault, the superblanks of that text, read
+/// as chunks or as units, are those of the input, in order, whole. It is a statement alone and does
+/// nothing.
+pub fn sound_transfer_keeps_superblanks()
+    ensures gives { SoundGivesWritten }
+    ensures keeps { SoundTransferKeeps }
 {}
 
 /// The law that what the stages give depends on the plain rules alone, which is all that a rule

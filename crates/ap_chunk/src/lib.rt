@@ -28,8 +28,8 @@ pub use choosing::Choosing;
 pub use chunk_work::ChunkWork;
 pub use interchunk::Interchunk;
 pub use laws::{
-    going_on_chooses, one_is_chosen, plain_rules_decide, rows_tell, transfer_keeps_superblanks,
-    trying_all_chooses,
+    going_on_chooses, one_is_chosen, plain_rules_decide, rows_tell,
+    sound_transfer_keeps_superblanks, transfer_keeps_superblanks, trying_all_chooses,
 };
 pub use postchunk::Postchunk;
 pub use transfer::Transfer;

@@ -3,12 +3,10 @@ use Rattle.std.proofs.Common.{◌≡◌, ℕ, true, List, [], ◌∷◌, ◌++�
 use Rattle.std.specs.List.{flat_map}
 use Rattle.std.proofs.Math.Seq.{drop-append_seam, take-append_seam}
 use Rattle.std.proofs.lemmas.List.Concat.{flat_map-cons}
-use Rattle.ap_symbol.specs.declared.symbol.Symbol.{Symbol}
 use Rattle.ap_stream.specs.Blanks.{is_white}
 use Rattle.ap_stream.specs.Pieces.{HasSuperblanks, nothing, piece, white as white_piece, superblank as superblank_piece, IsSuperblank, IsToBracket}
 use Rattle.ap_stream.specs.Spelling.{unit_bytes}
 use Rattle.ap_stream.specs.Supers.{blank_supers}
-use Rattle.ap_stream.specs.declared.dialect.Dialect.{Dialect}
 use Rattle.ap_stream.specs.declared.dialect.Dialect.TheVariants.{Lexical}
 use Rattle.ap_stream.proofs.EachKept.{unit_has_none}
 use Rattle.ap_stream.proofs.Fronts.{white_other, to_bracket}
@@ -17,10 +15,9 @@ use Rattle.ap_stream.proofs.Spelt.{words_are_spelt}
 use Rattle.ap_stream.proofs.Superblanks.{supers_other, supers_closed}
 use Rattle.ap_stream.proofs.SupersAlone.{supers_are, supers_alone}
 use Rattle.ap_exec.specs.declared.template.Atom.TheVariants.{Unit as The_unit, Slot, Space}
-use Rattle.ap_exec.specs.declared.template.Piece.{Piece}
 use Rattle.ap_exec.specs.declared.template.Piece.TheVariants.{Atom as The_atom, Chunk}
 use Rattle.ap_exec.specs.Filling.{marks, filled, left_over}
-use Rattle.ap_exec.specs.FillingLaws.{IsBlank, ends, white, superblank, AreBlanks, supers_in, HoldUnits, FillKeeps}
+use Rattle.ap_exec.specs.FillingLaws.{IsBlank, ends, white, superblank, AreBlanks, supers_in, FillKeeps}
 use Rattle.ap_exec.proofs.FillSpells.{unit_front}
 
 -- the superblanks of a blank are those that a scan of it finds

@@ -9,7 +9,6 @@ use Rattle.ap_stream.specs.Spelling.{inner_bytes, spelled, unit_bytes, chunk_byt
 use Rattle.ap_stream.specs.Supers.{blank_supers, inner_supers, item_supers}
 use Rattle.ap_stream.specs.declared.item.Inner.{Inner}
 use Rattle.ap_stream.specs.declared.item.Inner.TheVariants as inner
-use Rattle.ap_stream.specs.declared.item.Item.{Item}
 use Rattle.ap_stream.specs.declared.item.Item.TheVariants as item
 use Rattle.ap_exec.specs.declared.template.Atom.{Atom}
 use Rattle.ap_exec.specs.declared.template.Atom.TheVariants.{Unit as The_unit, Slot, Space}

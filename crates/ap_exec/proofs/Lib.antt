@@ -15,3 +15,6 @@ pub mod Begins
 pub mod TextSizes
 pub mod FillSpells
 pub mod FillKeeps
+pub mod Worded
+pub mod RunningKeeps
+pub mod RunningGives

@@ -3,7 +3,6 @@ use Rattle.std.specs.Prelude.{◌≡◌, ℕ, true, List, [], ◌∷◌, ◌++�
 use Rattle.std.specs.List.{flat_map}
 use Rattle.ap_symbol.specs.Coded.{AreCoded}
 use Rattle.ap_symbol.specs.Words.{AreProper}
-use Rattle.ap_symbol.specs.declared.symbol.Symbol.{Symbol}
 use Rattle.ap_stream.specs.Blanks.{is_white}
 use Rattle.ap_stream.specs.Pieces.{HasSuperblanks, IsSuperblank}
 use Rattle.ap_stream.specs.Spelling.{spelled}

@@ -21,3 +21,4 @@ pub mod Costs
 pub mod Stacks
 pub mod Beginning
 pub mod FillingLaws
+pub mod RunningLaws

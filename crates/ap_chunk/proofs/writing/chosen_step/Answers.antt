@@ -1,4 +1,4 @@
-use Rattle.std.proofs.Common.{arith, ◌≡◌, ◌<◌, ◌∙◌}
+use Rattle.std.proofs.Common.{arith, ◌≡◌, ◌∙◌}
 use Rattle.ap_chunk.specs.Stages.{rule_step, chosen_step}
 use Rattle.ap_chunk.specs.Working.{meant}
 use Rattle.ap_chunk.specs.declared.writing.Written.{Written}

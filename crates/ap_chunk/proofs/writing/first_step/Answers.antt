@@ -1,4 +1,4 @@
-use Rattle.std.proofs.Common.{◌≡◌, ◌∙◌, sym}
+use Rattle.std.proofs.Common.{◌≡◌, ◌∙◌}
 use Rattle.ap_chunk.specs.Stages.{chosen_step, chunk_step}
 use Rattle.ap_chunk.specs.Working.{meant}
 use Rattle.ap_chunk.specs.declared.writing.Written.{Written}

@@ -2,7 +2,6 @@ use Rattle.std.proofs.Common.{refl, arith, ap, sym, ◌∙◌, ◌≡◌, ◌<�
 use Rattle.ap_stream.specs.Limits.{span_max}
 use Rattle.ap_stream.specs.Steps.{bytes_of}
 use Rattle.ap_stream.proofs.StepLaws.{bytes_none}
-use Rattle.ap_chunk.specs.Working.{Working}
 use Rattle.ap_chunk.proofs.Turns.{over_silent, step_is, turned_limit, turned_overlong, turned_within, turned_wrote}
 use Rattle.ap_chunk.proofs.chunk_work.ChunkWorkHandler.turn.Goals as goal
 

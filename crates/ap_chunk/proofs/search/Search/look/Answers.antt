@@ -1,4 +1,4 @@
-use Rattle.std.proofs.Common.{◌∙◌, ap, sym, refl, Ok, inl, inr}
+use Rattle.std.proofs.Common.{◌∙◌, ap, Ok, inl, inr}
 use Rattle.ap_chunk.proofs.Fronts.{waits_all, waits_grows, look_found}
 use Rattle.ap_chunk.proofs.search.Search.look.Goals as goal
 use Rattle.ap_chunk.proofs.search.Search.look.Goals.{else-not-ends-via-then-not-ends+else-not-finished, else-not-ends-via-else-not-ends}

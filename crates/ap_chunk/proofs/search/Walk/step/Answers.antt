@@ -1,4 +1,3 @@
-use Rattle.std.proofs.Common.{◌≡◌, ◌∙◌, Ok, Bool, true, false, Result}
 use Rattle.ap_chunk.specs.Parts.{parts_of}
 use Rattle.ap_chunk.proofs.Fronts.{next_wall, next_gap, next_unit}
 use Rattle.ap_chunk.proofs.Walks.{wall_end}
