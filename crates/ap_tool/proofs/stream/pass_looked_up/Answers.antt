@@ -16,12 +16,18 @@ returns-in-Err-clause-flows g c = λ said kept.
     let m = given_by B lexicon false in
     let n = transferred_text c.args.rules in
     flows-by (ByFile B said false ∷ Transfers (plain_rules c.args.rules) ∷ []) (m ∷ n ∷ [])
-    _ _ _ _ _ _
-    (is-by-file c.dictionary_has_its_lexicon.ensures B said c.args.compiled false m kept
-    (c.compiled_has_a_lexicon.ensures false) refl, (c.args.rules, refl, refl), tt)
-    (c.modes_keep_superblanks.ensures B lexicon false (c.words_are_readable.ensures false),
-    transfer-keeps c.sound_transfer_keeps_superblanks.ensures.keeps c.args.rules c.requires.form
-    c.requires.worded c.requires.sound, tt)
+    _ _ _ _ _ _ (
+      is-by-file c.dictionary_has_its_lexicon.ensures B said c.args.compiled false m kept
+          (c.compiled_has_a_lexicon.ensures false) refl,
+      ((c.args.rules, refl, refl), tt),
+    ) (
+      c.modes_keep_superblanks.ensures B lexicon false (c.words_are_readable.ensures false),
+      (
+        transfer-keeps c.sound_transfer_keeps_superblanks.ensures.keeps c.args.rules c.requires.form
+            c.requires.worded c.requires.sound,
+        tt,
+      ),
+    )
     (none_flows (meaning 1 (m ∷ n ∷ []))
     (standing (g.S.Source.left c.args.source.now) (g.S.Source.faults c.args.source.now))
     (standing (g.K.Sink.written c.args.sink.now) (g.K.Sink.faults c.args.sink.now))) refl
@@ -32,10 +38,16 @@ returns-in-Ok-clause-flows g c = λ said kept.
     let lexicon = lexicon_of c.args.compiled false in
     let m = given_by B lexicon false in
     c.pass.ensures.flows stages
-    (subst (AreMeanings stages) (sym c.in-Ok.ensures.rest)
-    (is-by-file c.dictionary_has_its_lexicon.ensures B said c.args.compiled false m kept
-    (c.compiled_has_a_lexicon.ensures false) refl, (c.args.rules, refl, refl), tt))
-    (subst (EachKeepsSuperblanks stages) (sym c.in-Ok.ensures.rest)
-    (c.modes_keep_superblanks.ensures B lexicon false (c.words_are_readable.ensures false),
-    transfer-keeps c.sound_transfer_keeps_superblanks.ensures.keeps c.args.rules c.requires.form
-    c.requires.worded c.requires.sound, tt))
+    (subst (AreMeanings stages) (sym c.in-Ok.ensures.rest) (
+      is-by-file c.dictionary_has_its_lexicon.ensures B said c.args.compiled false m kept
+          (c.compiled_has_a_lexicon.ensures false) refl,
+      ((c.args.rules, refl, refl), tt),
+    ))
+    (subst (EachKeepsSuperblanks stages) (sym c.in-Ok.ensures.rest) (
+      c.modes_keep_superblanks.ensures B lexicon false (c.words_are_readable.ensures false),
+      (
+        transfer-keeps c.sound_transfer_keeps_superblanks.ensures.keeps c.args.rules c.requires.form
+            c.requires.worded c.requires.sound,
+        tt,
+      ),
+    ))

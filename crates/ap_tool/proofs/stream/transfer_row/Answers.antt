@@ -10,5 +10,5 @@ pub returns-clause-rest : goal.returns-clause-rest
 returns-clause-rest c =
     two-rest c.in_ok-row.row c.push.new.self c.in_ok-lookup.lookup _
     (given_by B (lexicon_of c.args.compiled false) false) (transferred_text c.args.rules)
-    c.in_ok-row.ensures c.in_ok-push.ensures c.in_ok-lookup.ensures.rest
+    c.in_ok-row.ensures c.in_ok-push.ensures.added c.in_ok-lookup.ensures.rest
     c.in_ok-transfer.ensures.rest
