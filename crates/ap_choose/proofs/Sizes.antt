@@ -100,8 +100,8 @@ bare_letter c n le e = let a : letter_bytes c ≡ encode_utf8 c =
     omega (arith, b, le)
 
 module _ (c n : ℕ) (some : 0 < n) (le : length (encode_utf8 c) ≤ n) (slash : eqb c 47 ≡ false)
-    (dollar : eqb c 36 ≡ false) (brace : eqb c 123 ≡ false) (barred : is_barred false c ≡ false) (less : eqb c 60 ≡ false)
-    (back : eqb c 92 ≡ false) where
+    (dollar : eqb c 36 ≡ false) (brace : eqb c 123 ≡ false) (barred : is_barred false c ≡ false)
+    (less : eqb c 60 ≡ false) (back : eqb c 92 ≡ false) where
   not_escaped : eqb c 43 ≡ false → eqb c 35 ≡ false → eqb c 126 ≡ false → eqb c 42 ≡ false →
       eqb c 64 ≡ false → is_escaped_lem c ≡ false
   not_escaped join queue alarm star at =

@@ -88,6 +88,15 @@ const K2: &str = "prn n\nprn vblex\n";
 const K3: &str = "a c";
 
 const K4: &str = "# x\na  b\n";
+/// Rules of transfer: an adjective before a noun, a variable that doubles, and a macro.
+const T1: &str =
+    "<transfer default=\"chunk\">\n<section-def-cats><def-cat n=\"adj\"><cat-item tags=\"adj\"/></def-cat>\n<def-cat n=\"nom\"><cat-item tags=\"n.*\"/></def-cat></section-def-cats>\n<section-def-attrs>\n<def-attr n=\"gen\"><attr-item tags=\"m\"/><attr-item tags=\"f\"/></def-attr>\n<def-attr n=\"num\"><attr-item tags=\"sg\"/><attr-item tags=\"pl\"/></def-attr>\n</section-def-attrs>\n<section-rules><rule>\n<pattern><pattern-item n=\"adj\"/><pattern-item n=\"nom\"/></pattern>\n<action><out><chunk name=\"nom_adj\">\n<tags><tag><lit-tag v=\"SN\"/></tag>\n<tag><clip pos=\"2\" side=\"tl\" part=\"gen\"/></tag>\n<tag><clip pos=\"2\" side=\"tl\" part=\"num\"/></tag></tags>\n<lu><clip pos=\"2\" side=\"tl\" part=\"lem\"/><lit-tag v=\"n\"/>\n<clip pos=\"2\" side=\"tl\" part=\"gen\" link-to=\"2\"/>\n<clip pos=\"2\" side=\"tl\" part=\"num\" link-to=\"3\"/></lu>\n<b pos=\"1\"/>\n<lu><clip pos=\"1\" side=\"tl\" part=\"lem\"/><lit-tag v=\"adj\"/>\n<clip pos=\"2\" side=\"tl\" part=\"gen\" link-to=\"2\"/>\n<clip pos=\"2\" side=\"tl\" part=\"num\" link-to=\"3\"/></lu>\n</chunk></out></action>\n</rule></section-rules>\n</transfer>\n";
+
+const TD: &str =
+    "<transfer default=\"lu\">\n<section-def-cats><def-cat n=\"adj\"><cat-item tags=\"adj\"/></def-cat></section-def-cats>\n<section-def-vars><def-var n=\"v\" v=\"a\"/></section-def-vars>\n<section-rules><rule>\n<pattern><pattern-item n=\"adj\"/></pattern>\n<action><let><var n=\"v\"/><concat><var n=\"v\"/><var n=\"v\"/></concat></let>\n<out><lu><clip pos=\"1\" side=\"tl\" part=\"whole\"/></lu></out></action>\n</rule></section-rules>\n</transfer>\n";
+
+const TL: &str =
+    "<transfer default=\"lu\">\n<section-def-cats><def-cat n=\"nom\"><cat-item tags=\"n.*\"/></def-cat></section-def-cats>\n<section-def-attrs><def-attr n=\"num\"><attr-item tags=\"sg\"/><attr-item tags=\"pl\"/></def-attr></section-def-attrs>\n<section-def-macros><def-macro n=\"many\" npar=\"1\">\n<let><clip pos=\"1\" side=\"tl\" part=\"num\"/><lit-tag v=\"pl\"/></let>\n</def-macro></section-def-macros>\n<section-rules><rule>\n<pattern><pattern-item n=\"nom\"/></pattern>\n<action><call-macro n=\"many\"><with-param pos=\"1\"/></call-macro>\n<out><lu><get-case-from pos=\"1\"><clip pos=\"1\" side=\"tl\" part=\"lem\"/></get-case-from>\n<clip pos=\"1\" side=\"tl\" part=\"tags\"/></lu></out></action>\n</rule></section-rules>\n</transfer>\n";
 
 /// A compiled file: one word, with its tag.
 const C: &str =
@@ -162,6 +171,9 @@ pub(super) fn files_of(alloc: Global, number: u64) -> Result<MemFiles, Fail> {
         ("K2", K2),
         ("K3", K3),
         ("K4", K4),
+        ("T1", T1),
+        ("TD", TD),
+        ("TL", TL),
         ("B", B),
         ("C", C),
         ("C1", C1),
