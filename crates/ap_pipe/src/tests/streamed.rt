@@ -9,9 +9,9 @@ use std::test::Fail;
 fn a_row_is_run_by_its_stages(rt: HostRuntime) -> Result<(), Fail> {
     let alloc = rt.alloc();
     let mut row = Row::new(alloc);
-    for _ in 0..9 {
-        row.push(Copied::new(alloc, 2)?)?;
-    }
+    row.push(Copied::new(alloc, 2)?)?;
+    row.push(Copied::new(alloc, 2)?)?;
+    row.push(Copied::new(alloc, 2)?)?;
     let mut source = MemSource::new(Vec::from_slice(alloc, b"abcdefg")?, 3, Vec::new(alloc));
     let mut sink = MemSink::new(alloc, 1000, Vec::new(alloc), 0)?;
     assert_eq!(rt;
