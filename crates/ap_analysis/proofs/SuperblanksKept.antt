@@ -1,9 +1,8 @@
--- Analysis keeps superblanks.
-use Rattle.std.specs.Prelude.{◌≡◌, ◌⊎◌, ℕ, zero, suc, pred, ◌+◌, ◌<◌, ◌≤◌, Bool, true, false, cond, List, [], ◌∷◌, ◌++◌, map, length, take, drop, Some, None, refl, if◌then◌else◌}
+-- Analysis keeps superblanks, and what it writes is read on.
+use Rattle.std.specs.Prelude.{◌≡◌, ◌⊎◌, ℕ, suc, ◌+◌, ◌<◌, ◌≤◌, Bool, true, false, cond, List, [], ◌∷◌, ◌++◌, map, length, take, Some, None, refl, if◌then◌else◌}
 use Rattle.std.specs.List.{flat_map, prefix_len}
 use Rattle.std.proofs.Common.{arith, ap, sym, subst, ◌∙◌, inl, inr}
-use Rattle.std.proofs.lemmas.Grind.{flat_map-append}
-use Rattle.std.proofs.lemmas.List.{length-take-le, take-append-drop}
+use Rattle.std.proofs.lemmas.List.{length-take-le}
 use Rattle.std.proofs.lemmas.List.Concat.{flat_map-cons}
 use Rattle.ap_symbol.specs.Lists.{IsIn}
 use Rattle.ap_symbol.specs.Words.{is_white}
@@ -15,9 +14,10 @@ use Rattle.ap_fst.proofs.Listing.{in_map}
 use Rattle.ap_stream.specs.Each.{item_text}
 use Rattle.ap_stream.specs.Laws.{AreSpelt, EachSpelt, AreAsMany, AreWords}
 use Rattle.ap_stream.specs.Pieces.{HasSuperblanks, nothing, HaveSameSuperblanks, MakesNone, supers_of}
+use Rattle.ap_stream.specs.ReadOn.{Links}
 use Rattle.ap_stream.specs.Reading.{reads}
 use Rattle.ap_stream.specs.Spelling.{spelled, unit_bytes}
-use Rattle.ap_stream.specs.Steps.{Step, Gives, Stops, goes_on, steps, before}
+use Rattle.ap_stream.specs.Steps.{Step, Gives, Stops, before}
 use Rattle.ap_stream.specs.Supers.{item_supers}
 use Rattle.ap_stream.specs.Told.{Clean}
 use Rattle.ap_stream.specs.declared.dialect.Dialect.TheVariants.{Raw, Analysed}
@@ -25,8 +25,11 @@ use Rattle.ap_stream.specs.declared.item.Item.{Item}
 use Rattle.ap_stream.specs.declared.item.Item.TheVariants as item
 use Rattle.ap_stream.specs.declared.item.Read.{Read}
 use Rattle.ap_stream.proofs.EachKept.{neither, spelled_has, unit_has_none, space_has_none}
+use Rattle.ap_stream.proofs.Faults.{fault_fine, steps_fine}
+use Rattle.ap_stream.proofs.Gives.{GivesPieces, gives_all, gives_read}
 use Rattle.ap_stream.proofs.Joined.{joined}
-use Rattle.ap_stream.proofs.Rows.{IsRow, Rows, reads_rows, rows_have, row_has}
+use Rattle.ap_stream.proofs.Rows.{IsRow, AreRead, reads_read, read_take, reads_have, row_has, supers_more}
+use Rattle.ap_stream.proofs.StepsKept.{StepKeeps, steps_keep}
 use Rattle.ap_stream.proofs.SupersAlone.{AreSuperblanks, supers_append, supers_are, supers_alone}
 use Rattle.ap_stream.proofs.Written.{spelt_take, each_spelt, raw_stays}
 use Rattle.ap_live.specs.Found.{has_words}
@@ -45,29 +48,8 @@ use Rattle.ap_analysis.proofs.Lengths.{licence_passes}
 use Rattle.ap_analysis.proofs.LicensedWords.{licensed_each}
 use Rattle.ap_analysis.proofs.Steps.{first_each}
 
--- items that were read
-abbrev AreRead : List Read → Type 0
-AreRead [] = Unit {0}
-AreRead (read ∷ reads) = ((bytes : List ℕ) × IsRow Raw read.item bytes) × AreRead reads
-
-rows_read : (text : List ℕ) (reads : List Read) → Rows Raw text reads → AreRead reads
-rows_read text [] h = tt
-rows_read text (read ∷ reads) h = ((h.0, h.2), rows_read h.1 reads h.3)
-
-read_take : (n : ℕ) (reads : List Read) → AreRead reads → AreRead (take n reads)
-read_take zero reads h = tt
-read_take (suc n) [] h = tt
-read_take (suc n) (read ∷ reads) h = (h.0, read_take n reads h.1)
-
-supers_more : (read : Read) (reads : List Read) → supers_of (read ∷ reads) ≡ item_supers read.item
-    ++ supers_of reads
-supers_more read reads = flat_map-cons (λ (r : Read). item_supers r.item) read reads
-
-supers_both : (a b : List Read) → supers_of (a ++ b) ≡ supers_of a ++ supers_of b
-supers_both a b = flat_map-append (λ (r : Read). item_supers r.item) a b
-
--- their superblanks
-read_supers : (reads : List Read) → AreRead reads → AreSuperblanks (supers_of reads)
+-- the superblanks of items that were read
+read_supers : (reads : List Read) → AreRead Raw reads → AreSuperblanks (supers_of reads)
 read_supers [] h = tt
 read_supers (read ∷ reads) h =
     subst AreSuperblanks (sym (supers_more read reads))
@@ -88,12 +70,12 @@ one_spelt v (item.Blank all) bytes symbols h k = (tt, k)
 one_spelt v (item.Unit words) bytes symbols h k = tt
 one_spelt v (item.Chunk c) bytes symbols h k = tt
 
-front_spelt : (v : Bool) (reads : List Read) → AreRead reads → AreSpelt v (symbols reads)
+front_spelt : (v : Bool) (reads : List Read) → AreRead Raw reads → AreSpelt v (symbols reads)
 front_spelt v [] h = tt
 front_spelt v (read ∷ reads) h =
     one_spelt v read.item h.0.0 (symbols reads) h.0.1 (front_spelt v reads h.1)
 
-surface_spelt : (v : Bool) (reads : List Read) (n : ℕ) → AreRead reads →
+surface_spelt : (v : Bool) (reads : List Read) (n : ℕ) → AreRead Raw reads →
     AreSpelt v (surface reads n)
 surface_spelt v reads n h = spelt_take v n (symbols reads) (front_spelt v reads h)
 
@@ -129,11 +111,6 @@ module _ (lexicon : Lexicon) (sensitive : Bool) (gives : GivesReadable lexicon) 
       (carried sensitive (surface reads n) s.0)
       (in_map (carried sensitive (surface reads n)) s.0 (licensed_words lexicon reads n) s.1))
 
-  -- a step keeps the superblanks of the items that it uses
-  abbrev StepKeeps : List Read → Step → Type 0
-  StepKeeps reads (Gives n text) = HasSuperblanks Analysed text (supers_of (take n reads))
-  StepKeeps reads (Stops kind) = Unit {0}
-
   space_none : (kind : Kind2) (reads : List Read) (n : ℕ) →
       HasSuperblanks Analysed (space_at lexicon kind reads n) []
   space_none kind reads n = by (has_words (lexicon.readings kind (surface reads n)))
@@ -142,7 +119,8 @@ module _ (lexicon : Lexicon) (sensitive : Bool) (gives : GivesReadable lexicon) 
       by true = space_has_none Analysed [] (nothing refl refl)
       by false = nothing refl refl
 
-  known_keeps : (reads : List Read) (n : ℕ) → AreRead reads → 0 < n → n ≤ length (symbols reads) →
+  known_keeps : (reads : List Read) (n : ℕ) → AreRead Raw reads → 0 < n →
+      n ≤ length (symbols reads) →
       is_licensed lexicon reads n ≡ true →
       HasSuperblanks Analysed (known_text lexicon sensitive reads n) (supers_of (take n reads))
   known_keeps reads n h some fits licensed =
@@ -157,7 +135,7 @@ module _ (lexicon : Lexicon) (sensitive : Bool) (gives : GivesReadable lexicon) 
       unit_has_none Analysed (surface reads n ∷ readings_at lexicon sensitive reads n) words in
       let rest : HasSuperblanks Analysed (swallowed reads n) (supers_of (take n reads)) =
       supers_alone Analysed (supers_of (take n reads))
-      (read_supers (take n reads) (read_take n reads h)) in
+      (read_supers (take n reads) (read_take Raw n reads h)) in
       let behind_unit = joined Analysed (space_at lexicon Postblank reads n) (swallowed reads n) []
       (supers_of (take n reads)) (space_none Postblank reads n) rest in
       let from_unit = joined Analysed (known_unit lexicon sensitive reads n)
@@ -195,7 +173,7 @@ module _ (lexicon : Lexicon) (sensitive : Bool) (gives : GivesReadable lexicon) 
           (letter_none read.item e) ∙ more
       by false e more = refl
 
-  unknown_keeps : (reads : List Read) → AreRead reads → 0 < run_length lexicon reads →
+  unknown_keeps : (reads : List Read) → AreRead Raw reads → 0 < run_length lexicon reads →
       HasSuperblanks Analysed (unknown_unit reads (run_length lexicon reads))
       (supers_of (take (run_length lexicon reads) reads))
   unfolding run_length
@@ -222,8 +200,13 @@ module _ (lexicon : Lexicon) (sensitive : Bool) (gives : GivesReadable lexicon) 
   as_spelled (item.Unit words) = refl
   as_spelled (item.Chunk c) = refl
 
-  copied_keeps : (read : Read) (reads : List Read) → AreRead (read ∷ reads) →
-      StepKeeps (read ∷ reads) (copied (read ∷ reads))
+  -- a step has the superblanks of the items that it uses
+  abbrev Kept : List Read → Step → Type 0
+  Kept reads (Gives n text) = HasSuperblanks Analysed text (supers_of (take n reads))
+  Kept reads (Stops kind) = Unit {0}
+
+  copied_keeps : (read : Read) (reads : List Read) → AreRead Raw (read ∷ reads) →
+      Kept (read ∷ reads) (copied (read ∷ reads))
   copied_keeps read reads h =
       let one : HasSuperblanks Analysed (spelled read.item) (item_supers read.item) =
       subst (λ (q : List ℕ). HasSuperblanks Analysed q (item_supers read.item))
@@ -237,12 +220,12 @@ module _ (lexicon : Lexicon) (sensitive : Bool) (gives : GivesReadable lexicon) 
       (joined Analysed (spelled read.item) [] (item_supers read.item) [] one
       (nothing refl refl)))
 
-  first_keeps : (read : Read) (reads : List Read) → AreRead (read ∷ reads) →
-      StepKeeps (read ∷ reads) (first_step lexicon sensitive (read ∷ reads))
-  first_keeps read reads h =
+  first_kept : (read : Read) (reads : List Read) → AreRead Raw (read ∷ reads) →
+      Kept (read ∷ reads) (first_step lexicon sensitive (read ∷ reads))
+  first_kept read reads h =
       let whole : List Read = read ∷ reads in
       let k : ℕ = licence lexicon whole in
-      first_each lexicon sensitive whole (StepKeeps whole) (λ kind. tt)
+      first_each lexicon sensitive whole (Kept whole) (λ kind. tt)
       (λ short some fits. known_keeps whole k h some (licence_greatest lexicon whole).within
       (passes k some (licence_passes lexicon whole)))
       (λ some fits. unknown_keeps whole h some)
@@ -253,58 +236,43 @@ module _ (lexicon : Lexicon) (sensitive : Bool) (gives : GivesReadable lexicon) 
       passes k some (inl e) = absurd (omega (arith, some, e))
       passes k some (inr t) = t
 
-  drop_pred : (n : ℕ) (read : Read) (reads : List Read) → 0 < n →
-      drop n (read ∷ reads) ≡ drop (pred n) reads
-  drop_pred zero read reads some = absurd (omega (arith, some))
-  drop_pred (suc n) read reads some = refl
+  both : (reads : List Read) (step : Step) → Uses reads step → Kept reads step →
+      StepKeeps Analysed reads step
+  both reads (Gives n text) u k = (u.0, k)
+  both reads (Stops kind) u k = tt
 
-  -- the steps from left to right
-  abbrev GoesKept : ℕ → List Read → Type 0
-  GoesKept skip reads = (steps (first_step lexicon sensitive) skip reads).fault ≡ None →
-      HasSuperblanks Analysed (steps (first_step lexicon sensitive) skip reads).text
-      (supers_of (drop skip reads))
+  first_keeps : (read : Read) (reads : List Read) → AreRead Raw (read ∷ reads) →
+      StepKeeps Analysed (read ∷ reads) (first_step lexicon sensitive (read ∷ reads))
+  first_keeps read reads h =
+      both (read ∷ reads) (first_step lexicon sensitive (read ∷ reads))
+      (first_uses lexicon sensitive read reads) (first_kept read reads h)
 
-  step_keeps : (read : Read) (reads : List Read) (step : Step) → Uses (read ∷ reads) step →
-      StepKeeps (read ∷ reads) step → ((n : ℕ) → GoesKept n reads)
-      → (goes_on read.place step (λ n. steps (first_step lexicon sensitive) n reads)).fault ≡ None →
-      HasSuperblanks Analysed (goes_on read.place step
-      (λ n. steps (first_step lexicon sensitive) n reads)).text (supers_of (read ∷ reads))
-  step_keeps read reads (Gives n text) u k go e =
-      let on : HasSuperblanks Analysed (steps (first_step lexicon sensitive) (pred n) reads).text
-      (supers_of (drop (pred n) reads)) = go (pred n) e in
-      let cut : take n (read ∷ reads) ++ drop (pred n) reads ≡ read ∷ reads =
-      ap (λ (q : List Read). take n (read ∷ reads) ++ q) (sym (drop_pred n read reads u.0))
-      ∙ take-append-drop n (read ∷ reads) in
-      let all : supers_of (take n (read ∷ reads)) ++ supers_of (drop (pred n) reads)
-      ≡ supers_of (read ∷ reads) =
-      sym (supers_both (take n (read ∷ reads)) (drop (pred n) reads)) ∙ ap supers_of cut in
-      subst (λ (q : List (List ℕ)). HasSuperblanks Analysed
-      (text ++ (steps (first_step lexicon sensitive) (pred n) reads).text) q) all
-      (joined Analysed text (steps (first_step lexicon sensitive) (pred n) reads).text
-      (supers_of (take n (read ∷ reads))) (supers_of (drop (pred n) reads)) k on)
-  step_keeps read reads (Stops kind) u k go e = absurd (cc)
-
-  steps_keep : (skip : ℕ) (reads : List Read) → AreRead reads → GoesKept skip reads
-  unfolding steps
-  steps_keep zero [] h e = nothing refl refl
-  steps_keep (suc skip) [] h e = nothing refl refl
-  steps_keep (suc skip) (read ∷ reads) h e = steps_keep skip reads h.1 e
-  steps_keep zero (read ∷ reads) h e =
-      step_keeps read reads (first_step lexicon sensitive (read ∷ reads))
-      (first_uses lexicon sensitive read reads) (first_keeps read reads h)
-      (λ n f. steps_keep n reads h.1 f) e
+  pub analysed_gives : (text : List ℕ) →
+      GivesPieces Analysed (analysed lexicon sensitive (reads Raw 0 text).items)
+      (supers_of (reads Raw 0 text).items)
+  analysed_gives text = steps_keep Raw Analysed (first_step lexicon sensitive) first_keeps 0
+      (reads Raw 0 text).items (reads_read Raw 0 text)
 
 pub analysis_keeps : (lexicon : Lexicon) (sensitive : Bool) (text : List ℕ) →
     GivesReadable lexicon → (analysis lexicon sensitive text Clean).fault ≡ None →
     HaveSameSuperblanks Raw Analysed text (analysis lexicon sensitive text Clean).text
 analysis_keeps lexicon sensitive text gives e =
-    let items : List Read = (reads Raw 0 text).items in
     let n = neither (analysed lexicon sensitive (reads Raw 0 text).items).fault
     (reads Raw 0 text).stop e in
-    let rows = reads_rows Raw 0 text n.1 in
     record {
       superblanks = supers_of (reads Raw 0 text).items;
-      before = rows_have Raw text (reads Raw 0 text).items rows;
-      after = steps_keep lexicon sensitive gives 0 (reads Raw 0 text).items
-          (rows_read text (reads Raw 0 text).items rows) n.0;
+      before = reads_have Raw 0 text n.1;
+      after = gives_all Analysed (analysed lexicon sensitive (reads Raw 0 text).items)
+          (supers_of (reads Raw 0 text).items) (analysed_gives lexicon sensitive gives text) n.0;
     }
+
+pub analysis_read : (lexicon : Lexicon) (sensitive : Bool) → GivesReadable lexicon →
+    Links Raw Analysed (analysis lexicon sensitive)
+analysis_read lexicon sensitive gives = record {
+  taken = λ text h. fault_fine (analysed lexicon sensitive (reads Raw 0 text).items).fault
+      (reads Raw 0 text).stop
+      (steps_fine (first_step lexicon sensitive) 0 (reads Raw 0 text).items) h;
+  written = λ text ending. gives_read Analysed
+      (analysed lexicon sensitive (reads Raw 0 text).items)
+      (supers_of (reads Raw 0 text).items) (analysed_gives lexicon sensitive gives text);
+}

@@ -17,12 +17,13 @@ use Rattle.ap_stream.specs.declared.item.Item.{Item}
 use Rattle.ap_stream.specs.declared.item.Item.TheVariants as item
 use Rattle.ap_stream.specs.declared.item.Read.{Read}
 use Rattle.ap_stream.proofs.EachKept.{neither}
-use Rattle.ap_stream.proofs.Rows.{IsRow, reads_rows}
+use Rattle.ap_stream.proofs.Rows.{IsRow, AreRead, reads_read, read_take}
+use Rattle.ap_stream.proofs.StepLaws.{drop_after}
 use Rattle.ap_passes.specs.Passes.{first_reading, first_pass}
 use Rattle.ap_choose.specs.Choice.{Reading, bars, bars_tags, choices, firsts, is_allowed, first_row, chosen_places}
 use Rattle.ap_choose.specs.Sentences.{is_unit, unit_of, units, begins_unit, part, left, written, sentence_length, sentence_text, sentence_step, copied, choose_step, chosen, chosen_text}
 use Rattle.ap_choose.proofs.ChooseSteps.{step_sentence, step_bare}
-use Rattle.ap_choose.proofs.Kept.{AreRead, rows_read, read_take, some_length, drop_after}
+use Rattle.ap_choose.proofs.Kept.{some_length}
 
 none_barred : (a b : Option (List ℕ)) → bars_tags [] a b ≡ false
 none_barred None b = refl
@@ -72,7 +73,7 @@ abbrev texts : List Read → List ℕ
 texts [] = []
 texts (read ∷ items) = item_text first_reading read.item ++ texts items
 
-firsts_written : (items : List Read) → AreRead items →
+firsts_written : (items : List Read) → AreRead Analysed items →
     written items (map (λ reading. reading.place) (firsts (units items))) ≡ texts items
 firsts_written [] h = refl
 firsts_written (read ∷ items) h = by read.item h.0 (firsts_written items h.1)
@@ -91,21 +92,22 @@ firsts_written (read ∷ items) h = by read.item h.0 (firsts_written items h.1)
         ap (λ (q : List ℕ). first_reading (surface ∷ reading ∷ words) ++ q) e
     by (item.Chunk c) r e = absurd r.1
 
-sentence_firsts : (items : List Read) → AreRead items → sentence_text [] items ≡ texts items
+sentence_firsts : (items : List Read) → AreRead Analysed items →
+    sentence_text [] items ≡ texts items
 sentence_firsts items h = ap (written items) (places_are (units items)) ∙ firsts_written items h
 
 abbrev StepGives : List Read → Step → Type 0
 StepGives items (Gives n text) = (0 < n) × (text ≡ texts (take n items))
 StepGives items (Stops kind) = Unit {0}
 
-sentence_gives : (items : List Read) (n : ℕ) → AreRead items → 0 < n →
+sentence_gives : (items : List Read) (n : ℕ) → AreRead Analysed items → 0 < n →
     StepGives items (sentence_step [] items n)
 sentence_gives items n h some = by (nat_lt span_max (bytes_of (take n items)))
   where
     by : (b : Bool) → StepGives items
         (cond b (Stops SpanTooLong) (Gives n (sentence_text [] (take n items))))
     by true = tt
-    by false = (some, sentence_firsts (take n items) (read_take n items h))
+    by false = (some, sentence_firsts (take n items) (read_take Analysed n items h))
 
 copied_gives : (read : Read) (items : List Read) → is_unit read.item ≡ false →
     StepGives (read ∷ items) (copied (read ∷ items))
@@ -117,7 +119,7 @@ copied_gives read items e = (omega arith, ap (λ (q : List ℕ). q ++ []) (same 
     same (item.Unit words) e = absurd (cc)
     same (item.Chunk c) e = refl
 
-step_gives : (read : Read) (items : List Read) → AreRead (read ∷ items) →
+step_gives : (read : Read) (items : List Read) → AreRead Analysed (read ∷ items) →
     StepGives (read ∷ items) (choose_step [] (read ∷ items))
 step_gives read items h = elim (cases_Bool (begins_unit (read ∷ items))) [
   | inl t ↦ subst (StepGives (read ∷ items)) (sym (step_sentence [] (read ∷ items) t))
@@ -142,14 +144,14 @@ goes_first : (read : Read) (items : List Read) (step : Step) → StepGives (read
 goes_first read items (Gives n text) k go e =
     let on = go (pred n) e in
     let cut : take n (read ∷ items) ++ drop (pred n) items ≡ read ∷ items =
-    ap (λ (q : List Read). take n (read ∷ items) ++ q) (sym (drop_after n read items k.0))
+    ap (λ (q : List Read). take n (read ∷ items) ++ q) (drop_after read items n k.0)
     ∙ take-append-drop n (read ∷ items) in
     ap (λ (q : List ℕ). q ++ (steps (choose_step []) (pred n) items).text) k.1
     ∙ ap (λ (q : List ℕ). texts (take n (read ∷ items)) ++ q) on
     ∙ sym (texts_append (take n (read ∷ items)) (drop (pred n) items)) ∙ ap texts cut
 goes_first read items (Stops kind) k go e = absurd (cc)
 
-steps_first : (skip : ℕ) (items : List Read) → AreRead items → GoesFirst skip items
+steps_first : (skip : ℕ) (items : List Read) → AreRead Analysed items → GoesFirst skip items
 unfolding steps
 steps_first zero [] h e = refl
 steps_first (suc skip) [] h e = refl
@@ -180,5 +182,5 @@ no_pairs_first text e f =
     e in
     let m = neither (each first_reading (reads Analysed 0 text).items).fault
     (reads Analysed 0 text).stop f in
-    steps_first 0 (reads Analysed 0 text).items (rows_read text (reads Analysed 0 text).items
-    (reads_rows Analysed 0 text n.1)) n.0 ∙ sym (each_first (reads Analysed 0 text).items m.0)
+    steps_first 0 (reads Analysed 0 text).items (reads_read Analysed 0 text) n.0
+    ∙ sym (each_first (reads Analysed 0 text).items m.0)

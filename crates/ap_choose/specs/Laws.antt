@@ -3,6 +3,7 @@ use Rattle.std.specs.Prelude.{◌≡◌, ◌⊎◌, ◌<◌, ℕ, true, List, []
 use Rattle.ap_symbol.specs.declared.symbol.Symbol.{Symbol}
 use Rattle.ap_stream.specs.Laws.{AreWords}
 use Rattle.ap_stream.specs.Pieces.{HaveSameSuperblanks}
+use Rattle.ap_stream.specs.ReadOn.{Links}
 use Rattle.ap_stream.specs.Told.{Clean}
 use Rattle.ap_stream.specs.declared.dialect.Dialect.TheVariants.{Analysed, Lexical}
 use Rattle.ap_passes.specs.Passes.{first_pass}
@@ -14,6 +15,11 @@ use Rattle.ap_choose.specs.Sentences.{reading_at, chosen_text}
 abbrev pub ChooseKeeps : Type 0
 ChooseKeeps = (pairs : List Pair) (text : List ℕ) → (chosen_text pairs text Clean).fault ≡ None
     → HaveSameSuperblanks Analysed Lexical text (chosen_text pairs text Clean).text
+
+-- they are read on as lexical text, and an analysed text that is read on is never malformed for
+-- them
+abbrev pub ChooseIsRead : Type 0
+ChooseIsRead = (pairs : List Pair) → Links Analysed Lexical (chosen_text pairs)
 
 -- without pairs they are the first readings
 abbrev pub NoPairsFirst : Type 0

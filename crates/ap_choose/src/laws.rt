@@ -1,10 +1,17 @@
-ghost use Rattle.ap_choose.specs.Laws.{ChooseKeeps, LeastIsChosen, NoPairsFirst, ReadingReads};
+ghost use Rattle.ap_choose.specs.Laws.{ChooseIsRead, ChooseKeeps, LeastIsChosen, NoPairsFirst, ReadingReads};
 
 /// The law that `choose` keeps superblanks: where it gives a text without a fault, the
 /// superblanks of that text are those of the input, in order, whole. It is a statement alone and
 /// does nothing.
 pub fn choose_keeps_superblanks()
     ensures { ChooseKeeps }
+{}
+
+/// The law that what `choose` writes of any text is read as lexical text to its end, or to an item
+/// over the limit, whatever fault stops `choose`; and that an analysed text that is read so is
+/// never malformed for it. It is a statement alone and does nothing.
+pub fn choose_is_read()
+    ensures { ChooseIsRead }
 {}
 
 /// The law that without forbidden pairs `choose` writes what `first` writes, where neither has a

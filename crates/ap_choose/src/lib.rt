@@ -18,7 +18,7 @@ pub use choose::Choose;
 pub use choose_work::ChooseWork;
 pub use forbidden::{Forbidden, Pair, PairRefusal};
 pub use laws::{
-    choose_keeps_superblanks, readings_are_words, the_least_choice_is_taken,
+    choose_is_read, choose_keeps_superblanks, readings_are_words, the_least_choice_is_taken,
     without_pairs_the_first_readings,
 };
 pub use reading::read_pairs;

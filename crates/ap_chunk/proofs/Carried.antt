@@ -3,6 +3,7 @@
 use Rattle.std.specs.Prelude.{◌≡◌, ℕ, suc, zero, pred, ◌<◌, ◌≤◌, List, [], ◌∷◌, ◌++◌, length, drop, refl}
 use Rattle.std.proofs.Common.{arith, ap, sym, ◌∙◌, get_or}
 use Rattle.std.proofs.lemmas.List.{drop-append-le}
+use Rattle.ap_stream.specs.ReadOn.{IsNotMalformed}
 use Rattle.ap_stream.specs.Told.{silent, behind, ends_in}
 use Rattle.ap_stream.specs.declared.fault.LimitKind.{LimitKind}
 use Rattle.ap_stream.specs.declared.fault.StreamFault.TheVariants.{Limit}
@@ -68,3 +69,19 @@ module _ (first : Held → List Read → Step) where
   turn_stops vars (read ∷ reads) xs kind here d some is e =
       carried_stops vars read (reads ++ xs) kind e
       ∙ ap (λ (r : Read). ends_in [] (Limit kind r.place)) (sym is)
+
+  -- its faults are limits
+  on_fine : (read : Read) (reads : List Read) (step : Step) →
+      ((n : ℕ) (vars : Held) → IsNotMalformed (carried first vars n reads).fault) →
+      IsNotMalformed (goes_on read.place step (λ n vars. carried first vars n reads)).fault
+  on_fine read reads (Gives n text vars) go = go (pred n) vars
+  on_fine read reads (Stops kind) go = λ other place h. absurd (cc)
+
+  pub carried_fine : (vars : Held) (skip : ℕ) (reads : List Read) →
+      IsNotMalformed (carried first vars skip reads).fault
+  unfolding carried
+  carried_fine vars zero [] = λ other place h. absurd (cc)
+  carried_fine vars (suc skip) [] = λ other place h. absurd (cc)
+  carried_fine vars (suc skip) (read ∷ reads) = carried_fine vars skip reads
+  carried_fine vars zero (read ∷ reads) =
+      on_fine read reads (first vars (read ∷ reads)) (λ n held. carried_fine held n reads)

@@ -116,7 +116,7 @@ merged [] = []
 merged (inner.Unit words ∷ parts) = inner.Unit words ∷ merged parts
 merged (inner.Blank bytes ∷ parts) = put bytes (merged parts)
 
-abbrev GoodParts : List Inner → Type 0
+abbrev pub GoodParts : List Inner → Type 0
 GoodParts [] = Unit {0}
 GoodParts (inner.Unit words ∷ parts) = AreWords Lexical words × GoodParts parts
 GoodParts (inner.Blank bytes ∷ parts) = IsGood bytes × GoodParts parts

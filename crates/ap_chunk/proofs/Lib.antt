@@ -17,8 +17,11 @@ mod UnitWords
 mod Firsts
 mod ChunkWords
 mod FilledKept
-mod TransferKept
+mod WordsWritten
+mod ItemsRead
+mod UnmatchedKept
+mod StepsKept
+mod StagesKept
 mod OpenBlanks
 mod ChunksFilled
 mod SamePlain
-mod SoundKept

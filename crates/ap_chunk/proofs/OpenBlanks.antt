@@ -1,7 +1,7 @@
 -- The blanks of a text that is read are whole, and may go on.
 use Rattle.std.specs.Prelude.{◌≡◌, ℕ, zero, suc, pred, Bool, true, false, cond, leb, List, [], ◌∷◌, length, take, ◌+◌, eqb, refl}
 use Rattle.std.specs.List.{AllByRecursion}
-use Rattle.std.proofs.Common.{ap, sym, ◌∙◌}
+use Rattle.std.proofs.Common.{ap, sym, subst, ◌∙◌}
 use Rattle.std.proofs.lemmas.List.{append-nil}
 use Rattle.ap_symbol.specs.declared.symbol.Symbol.{Symbol}
 use Rattle.ap_stream.specs.Blanks.{Run, Open, Inside, BadChar, Done, further, blank, begins_blank}
@@ -17,10 +17,15 @@ use Rattle.ap_stream.specs.declared.item.Item.TheVariants as item
 use Rattle.ap_stream.specs.declared.item.Inner.{Inner}
 use Rattle.ap_stream.specs.declared.item.Read.{Read}
 use Rattle.ap_stream.proofs.ChunkCut.{done_on}
+use Rattle.ap_stream.proofs.Rows.{BlankRow, RunRow, run_row}
 
 -- all of the bytes are a blank
 abbrev pub IsOpen : List ℕ → Type 0
 IsOpen bytes = blank 0 bytes ≡ Open
+
+-- it is a row of white space and superblanks
+pub open_row : (bytes : List ℕ) → IsOpen bytes → BlankRow bytes
+open_row bytes e = subst (RunRow bytes) e (run_row 0 bytes)
 
 abbrev pub ItemOpen : Item → Type 0
 ItemOpen (item.Plain c) = Unit {0}

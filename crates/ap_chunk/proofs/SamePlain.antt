@@ -1,12 +1,11 @@
 -- What the stages give depends on the plain rules alone.
-use Rattle.std.specs.Prelude.{◌≡◌, ℕ, zero, suc, pred, Bool, List, [], ◌∷◌, map, length, take, Option, Some, None, nat_lt, if◌then◌else◌, refl}
+use Rattle.std.specs.Prelude.{◌≡◌, ℕ, zero, suc, pred, List, [], ◌∷◌, map, length, take, Option, Some, None, nat_lt, if◌then◌else◌, refl}
 use Rattle.std.proofs.Common.{ap, sym, ◌∙◌}
 use Rattle.ap_symbol.specs.declared.symbol.Symbol.{Symbol}
 use Rattle.ap_stream.specs.Limits.{span_max}
 use Rattle.ap_stream.specs.Reading.{Reads, reads}
 use Rattle.ap_stream.specs.Steps.{bytes_of}
 use Rattle.ap_stream.specs.Told.{Told, Ending, behind, or_else, stop_at}
-use Rattle.ap_stream.specs.declared.dialect.Dialect.{Dialect}
 use Rattle.ap_stream.specs.declared.dialect.Dialect.TheVariants.{Bilingual, Chunked}
 use Rattle.ap_stream.specs.declared.fault.LimitKind.TheVariants as limit
 use Rattle.ap_stream.specs.declared.item.Item.{Item}
@@ -14,9 +13,6 @@ use Rattle.ap_stream.specs.declared.item.Item.TheVariants.{Plain, Blank, Unit, C
 use Rattle.ap_stream.specs.declared.item.Read.{Read}
 use Rattle.ap_rules.specs.Plain.{PlainRule, PlainRules}
 use Rattle.ap_rules.specs.Views.{plain_rule, plain_rules}
-use Rattle.ap_rules.specs.declared.rules.DefCat.{DefCat}
-use Rattle.ap_rules.specs.declared.rules.DefVar.{DefVar}
-use Rattle.ap_rules.specs.declared.rules.DefaultPiece.{DefaultPiece}
 use Rattle.ap_rules.specs.declared.rules.Form.{Form}
 use Rattle.ap_rules.specs.declared.rules.Form.TheVariants.{Transfer, Interchunk, Postchunk}
 use Rattle.ap_rules.specs.declared.rules.Rule.{Rule}
@@ -26,7 +22,7 @@ use Rattle.ap_exec.specs.Starting.{start_of}
 use Rattle.ap_chunk.specs.Carrying.{Held, Step, Gives, Stops, carried, goes_on}
 use Rattle.ap_chunk.specs.Choice.{unit_of}
 use Rattle.ap_chunk.specs.Matches.{matched_of, blanks_of}
-use Rattle.ap_chunk.specs.Parts.{Part, unit, unit_part, chunk_part, part_of, parts_of, word_of}
+use Rattle.ap_chunk.specs.Parts.{unit, unit_part, chunk_part, part_of, parts_of, word_of}
 use Rattle.ap_chunk.specs.Patterns.{pattern_of, patterns_of}
 use Rattle.ap_chunk.specs.Stages.{span, choice, acted_step, rule_step, unmatched_step, chosen_step, is_overfull, tested_step, chunk_step, chunked, chunked_by, transferred_text, interchunked_text, postchunked_text, lone_step}
 use Rattle.ap_chunk.specs.Tests.{row_of}

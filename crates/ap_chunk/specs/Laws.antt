@@ -5,6 +5,7 @@ use Rattle.ap_symbol.specs.Coded.{AreCoded}
 use Rattle.ap_symbol.specs.Words.{AreProper}
 use Rattle.ap_stream.specs.Laws.{AreSpelt, EachSpelt}
 use Rattle.ap_stream.specs.Pieces.{HaveSameSuperblanks}
+use Rattle.ap_stream.specs.ReadOn.{Links}
 use Rattle.ap_stream.specs.Told.{Ending, Clean}
 use Rattle.ap_stream.specs.declared.dialect.Dialect.{Dialect}
 use Rattle.ap_stream.specs.declared.dialect.Dialect.TheVariants.{Bilingual, Lexical, Chunked}
@@ -13,7 +14,7 @@ use Rattle.ap_rules.specs.Views.{plain_rules}
 use Rattle.ap_rules.specs.Worded.{AreWorded}
 use Rattle.ap_rules.specs.declared.rules.DefaultPiece.{DefaultPiece}
 use Rattle.ap_rules.specs.declared.rules.DefaultPiece.TheVariants as default
-use Rattle.ap_rules.specs.declared.rules.Form.TheVariants.{Transfer}
+use Rattle.ap_rules.specs.declared.rules.Form.TheVariants.{Transfer, Interchunk, Postchunk}
 use Rattle.ap_rules.specs.declared.rules.Rules.{Rules}
 use Rattle.ap_exec.specs.Acting.{act_of, Outcome}
 use Rattle.ap_exec.specs.FillingLaws.{HoldUnits, IsWordedAtom}
@@ -90,6 +91,38 @@ SoundTransferKeeps = (rules : Rules) (text : List ℕ) → rules.form ≡ Transf
     → (transferred_text rules text Clean).fault ≡ None →
     HaveSameSuperblanks Bilingual (given_dialect rules.default) text
     (transferred_text rules text Clean).text
+
+-- Interchunk by sound rules whose words are words of the program: where it gives a text without a
+-- fault, that has the superblanks of the one that it reads, those in chunks too.
+abbrev pub SoundInterchunkKeeps : Type 0
+SoundInterchunkKeeps = (rules : Rules) (text : List ℕ) → rules.form ≡ Interchunk
+    → AreWorded (plain_rules rules) → IsSound (plain_rules rules)
+    → (interchunked_text rules text Clean).fault ≡ None →
+    HaveSameSuperblanks Chunked Chunked text (interchunked_text rules text Clean).text
+
+-- Postchunk by such rules: the text of units has the superblanks of the text of chunks.
+abbrev pub SoundPostchunkKeeps : Type 0
+SoundPostchunkKeeps = (rules : Rules) (text : List ℕ) → rules.form ≡ Postchunk
+    → AreWorded (plain_rules rules) → IsSound (plain_rules rules)
+    → (postchunked_text rules text Clean).fault ≡ None →
+    HaveSameSuperblanks Chunked Lexical text (postchunked_text rules text Clean).text
+
+-- What transfer by such rules writes, with a fault or without, is read on as chunks or as units; and
+-- a bilingual text that is read on is never malformed for it.
+abbrev pub TransferIsRead : Type 0
+TransferIsRead = (rules : Rules) → rules.form ≡ Transfer → AreWorded (plain_rules rules)
+    → IsSound (plain_rules rules) →
+    Links Bilingual (given_dialect rules.default) (transferred_text rules)
+
+-- so it is of interchunk, and of a text of chunks
+abbrev pub InterchunkIsRead : Type 0
+InterchunkIsRead = (rules : Rules) → rules.form ≡ Interchunk → AreWorded (plain_rules rules)
+    → IsSound (plain_rules rules) → Links Chunked Chunked (interchunked_text rules)
+
+-- and of postchunk, which writes units
+abbrev pub PostchunkIsRead : Type 0
+PostchunkIsRead = (rules : Rules) → rules.form ≡ Postchunk → AreWorded (plain_rules rules)
+    → IsSound (plain_rules rules) → Links Chunked Lexical (postchunked_text rules)
 
 -- what the stages give depends on the plain rules alone
 abbrev pub PlainRulesDecide : Type 0

@@ -1,5 +1,5 @@
 ghost use Rattle.ap_chunk.specs.Going.{GoesOnAlike, OneIsChosen, TriesAll};
-ghost use Rattle.ap_chunk.specs.Laws.{PlainRulesDecide, TransferKeeps, SoundGivesWritten, SoundTransferKeeps};
+ghost use Rattle.ap_chunk.specs.Laws.{PlainRulesDecide, TransferKeeps, SoundGivesWritten, SoundTransferKeeps, SoundInterchunkKeeps, SoundPostchunkKeeps, TransferIsRead, InterchunkIsRead, PostchunkIsRead};
 ghost use Rattle.ap_chunk.specs.Rows.{RowsTell};
 
 /// The law that going on unit by unit, from the places in patterns that fit so far, chooses what
@@ -42,6 +42,46 @@ pub fn transfer_keeps_superblanks()
 pub fn sound_transfer_keeps_superblanks()
     ensures gives { SoundGivesWritten }
     ensures keeps { SoundTransferKeeps }
+{}
+
+/// The law that interchunk keeps superblanks by all rules that are sound and whose words are words
+/// of the program: where it gives a text without a fault, the superblanks of that text of chunks,
+/// those in its chunks too, are those of the input, in order, whole. It is a statement alone and
+/// does nothing.
+pub fn sound_interchunk_keeps_superblanks()
+    ensures { SoundInterchunkKeeps }
+{}
+
+/// The law that postchunk keeps superblanks by all rules that are sound and whose words are words
+/// of the program: where it gives a text without a fault, the superblanks of that text of units are
+/// those of the input, those in its chunks too, in order, whole. It is a statement alone and does
+/// nothing.
+pub fn sound_postchunk_keeps_superblanks()
+    ensures { SoundPostchunkKeeps }
+{}
+
+/// The law that what transfer writes by sound rules whose words are words of the program, with a
+/// fault or without, is read on as chunks or as units, as the default says: to its end, or to an
+/// item over the limit; and that a Bilingual text that is read on is never malformed for it. It is
+/// a statement alone and does nothing.
+pub fn transfer_is_read()
+    ensures { TransferIsRead }
+{}
+
+/// The law that what interchunk writes by sound rules whose words are words of the program, with a
+/// fault or without, is read on as a text of chunks: to its end, or to an item over the limit; and
+/// that a Chunked text that is read on is never malformed for it. It is a statement alone and does
+/// nothing.
+pub fn interchunk_is_read()
+    ensures { InterchunkIsRead }
+{}
+
+/// The law that what postchunk writes by sound rules whose words are words of the program, with a
+/// fault or without, is read on as a text of units: to its end, or to an item over the limit; and
+/// that a Chunked text that is read on is never malformed for it. It is a statement alone and does
+/// nothing.
+pub fn postchunk_is_read()
+    ensures { PostchunkIsRead }
 {}
 
 /// The law that what the stages give depends on the plain rules alone, which is all that a rule

@@ -28,8 +28,10 @@ pub use choosing::Choosing;
 pub use chunk_work::ChunkWork;
 pub use interchunk::Interchunk;
 pub use laws::{
-    going_on_chooses, one_is_chosen, plain_rules_decide, rows_tell,
-    sound_transfer_keeps_superblanks, transfer_keeps_superblanks, trying_all_chooses,
+    going_on_chooses, interchunk_is_read, one_is_chosen, plain_rules_decide, postchunk_is_read,
+    rows_tell, sound_interchunk_keeps_superblanks, sound_postchunk_keeps_superblanks,
+    sound_transfer_keeps_superblanks, transfer_is_read, transfer_keeps_superblanks,
+    trying_all_chooses,
 };
 pub use postchunk::Postchunk;
 pub use transfer::Transfer;

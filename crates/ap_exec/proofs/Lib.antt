@@ -18,3 +18,4 @@ pub mod FillKeeps
 pub mod Worded
 pub mod RunningKeeps
 pub mod RunningGives
+pub mod Borderless

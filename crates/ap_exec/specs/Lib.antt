@@ -22,3 +22,4 @@ pub mod Stacks
 pub mod Beginning
 pub mod FillingLaws
 pub mod RunningLaws
+pub mod Borderless

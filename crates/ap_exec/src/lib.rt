@@ -4,6 +4,7 @@
 
 mod acting;
 mod beginning;
+mod border_laws;
 mod changes;
 mod clips;
 mod comparing;
@@ -29,6 +30,7 @@ mod word_laws;
 mod writing;
 
 pub use acting::act;
+pub use border_laws::borders_do_not_matter;
 pub use filling::fill;
 pub use filling_laws::filling_keeps_superblanks;
 pub use matched::{Matched, MatchedUnit, MatchedUnits};

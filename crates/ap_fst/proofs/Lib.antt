@@ -16,3 +16,4 @@ pub mod QuietLaws
 pub mod Adding
 pub mod Removals
 pub mod Redrafts
+pub mod Withouts

@@ -13,4 +13,5 @@ pub mod Trimming
 pub mod Silence
 pub mod Quiet
 pub mod Removal
+pub mod Without
 pub mod Sections

@@ -5,7 +5,8 @@ ghost use Rattle.ap_fst.specs.Places.{placed, moved, Shifts};
 use crate::fst::Fst;
 use crate::label::Label;
 use crate::redrafting::moves_of;
-use ap_symbol::Memory;
+use crate::without_right::moves_without;
+use ap_symbol::{Memory, TagName};
 use std::alloc::Global;
 use std::marker::Model;
 
@@ -120,6 +121,7 @@ impl Model for Draft {
 impl Draft {
     ghost use Rattle.ap_fst.specs.Paths.{Accepts, IsJoined, IsEither, IsOptional, IsMoreThanNone, Repeats};
     ghost use Rattle.ap_fst.specs.Walks.{AcceptsLabels};
+    ghost use Rattle.ap_fst.specs.Without.{IsLeftOf};
     ghost use Rattle.ap_fst.specs.declared.label.Label.{Label};
 
     /// Accepts no string.
@@ -330,6 +332,28 @@ impl Draft {
             states: all,
             start: states,
             end: states + 1,
+            moves,
+        })
+    }
+
+    /// A draft of a transducer without that tag on right sides: its label strings are those of the
+    /// transducer with that tag left out of the right sides, where a label whose two sides are then
+    /// empty is left out whole.
+    pub fn without_right(alloc: Global, fst: &Fst, tag: &TagName) -> Result<Draft, Memory>
+        ensures { IfOk result (λ made. (labels : List Label) →
+            Accepts made labels ↔ IsLeftOf fst.now tag.now labels) }
+    {
+        let Draft {
+            states,
+            start,
+            end,
+            moves,
+        } = Draft::of(alloc, fst)?;
+        let moves = moves_without(alloc, moves, tag)?;
+        Ok(Draft {
+            states,
+            start,
+            end,
             moves,
         })
     }

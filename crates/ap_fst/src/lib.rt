@@ -18,6 +18,7 @@ mod silence;
 #[cfg(test)]
 mod tests;
 mod trimming;
+mod without_right;
 
 pub use compiled::{Compiled, Kind2, Way};
 pub use cycles::{empty_cycle, empty_cycle_law};

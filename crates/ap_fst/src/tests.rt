@@ -6,7 +6,7 @@ use crate::graph::{Arc, sort_arcs};
 use crate::label::{Edge, Label};
 use crate::removal::without_empty;
 use crate::trimming::trim;
-use ap_symbol::Symbol;
+use ap_symbol::{Symbol, TagName};
 use std::alloc::Global;
 use std::test::Fail;
 
@@ -109,5 +109,32 @@ fn states_on_one_cycle_share_a_number(rt: HostRuntime) -> Result<(), Fail> {
     assert_eq!(rt; numbers.get(&5).copied(), Some(1));
     assert_eq!(rt; numbers.get(&2).copied(), Some(1));
     assert_eq!(rt; numbers.get(&1).copied(), Some(3));
+    Ok(())
+}
+
+fn tag(alloc: Global, text: &str) -> Result<TagName, Fail> {
+    Ok(TagName::new(alloc, text)?.ok_or("no tag name")?)
+}
+
+#[test]
+fn a_tag_is_left_out_of_right_sides(rt: HostRuntime) -> Result<(), Fail> {
+    let alloc = rt.alloc();
+    let both = Label {
+        left: Some(Symbol::Letter('a')),
+        right: Some(Symbol::Tag(tag(alloc, "x")?)),
+    };
+    let right = Label {
+        left: None,
+        right: Some(Symbol::Tag(tag(alloc, "x")?)),
+    };
+    let other = Label {
+        left: Some(Symbol::Letter('b')),
+        right: Some(Symbol::Tag(tag(alloc, "y")?)),
+    };
+    let front = Draft::letter(alloc, both)?.join(Draft::letter(alloc, right)?)?;
+    let fst = small(alloc, front.join(Draft::letter(alloc, other)?)?)?;
+    let draft = Draft::without_right(alloc, &fst, &tag(alloc, "x")?)?;
+    let text = edges_text(alloc, &small(alloc, draft)?)?;
+    assert_eq!(rt; text.as_str(), "0a-1 1b<2 ");
     Ok(())
 }

@@ -1,19 +1,20 @@
--- Post-generation keeps superblanks.
-use Rattle.std.specs.Prelude.{◌≡◌, ℕ, zero, suc, pred, ◌<◌, nat_lt, Bool, true, false, List, [], ◌∷◌, ◌++◌, length, take, drop, None, refl, if◌then◌else◌}
+-- Post-generation keeps superblanks, and what it writes is read on.
+use Rattle.std.specs.Prelude.{◌≡◌, ℕ, zero, suc, ◌<◌, nat_lt, Bool, true, false, List, [], ◌∷◌, ◌++◌, length, take, drop, None, refl, if◌then◌else◌}
 use Rattle.std.specs.List.{flat_map, AllByRecursion}
 use Rattle.std.proofs.Common.{arith, ap, sym, subst, ◌∙◌, inl, inr}
 use Rattle.std.proofs.lemmas.Bool.{cases_lt, cases_Bool}
 use Rattle.std.proofs.lemmas.Grind.{flat_map-append}
-use Rattle.std.proofs.lemmas.List.{append-nil, take-append-drop}
+use Rattle.std.proofs.lemmas.List.{append-nil}
 use Rattle.std.proofs.lemmas.List.Concat.{flat_map-cons}
 use Rattle.ap_symbol.specs.Rendering.{symbol_bytes, rendering}
 use Rattle.ap_symbol.specs.declared.symbol.Symbol.{Symbol}
 use Rattle.ap_stream.specs.Laws.{AreSpelt, EachSpelt}
 use Rattle.ap_stream.specs.Limits.{span_max, unit_max}
 use Rattle.ap_stream.specs.Pieces.{HasSuperblanks, nothing, HaveSameSuperblanks, supers_of}
+use Rattle.ap_stream.specs.ReadOn.{Links}
 use Rattle.ap_stream.specs.Reading.{reads}
 use Rattle.ap_stream.specs.Spelling.{spelled}
-use Rattle.ap_stream.specs.Steps.{Step, Gives, Stops, goes_on, steps, bytes_of}
+use Rattle.ap_stream.specs.Steps.{Gives, Stops, bytes_of}
 use Rattle.ap_stream.specs.Supers.{blank_supers, item_supers}
 use Rattle.ap_stream.specs.Told.{Clean}
 use Rattle.ap_stream.specs.declared.dialect.Dialect.TheVariants.{Generated}
@@ -22,8 +23,11 @@ use Rattle.ap_stream.specs.declared.item.Item.{Item}
 use Rattle.ap_stream.specs.declared.item.Item.TheVariants as item
 use Rattle.ap_stream.specs.declared.item.Read.{Read}
 use Rattle.ap_stream.proofs.EachKept.{neither, space_has_none}
+use Rattle.ap_stream.proofs.Faults.{fault_fine, steps_fine}
+use Rattle.ap_stream.proofs.Gives.{GivesPieces, gives_all, gives_read}
 use Rattle.ap_stream.proofs.Joined.{joined}
-use Rattle.ap_stream.proofs.Rows.{IsRow, Rows, reads_rows, rows_have, row_has}
+use Rattle.ap_stream.proofs.Rows.{IsRow, AreRead, reads_read, read_take, reads_have, row_has, supers_more}
+use Rattle.ap_stream.proofs.StepsKept.{StepKeeps, steps_keep}
 use Rattle.ap_stream.proofs.SupersAlone.{AreSuperblanks, supers_append, supers_are, supers_alone}
 use Rattle.ap_stream.proofs.Written.{each_spelt, word_has_none}
 use Rattle.ap_live.specs.Lexicon.{Lexicon}
@@ -88,31 +92,11 @@ filled_has [] texts h k = supers_alone Generated (supers_in texts) (left_are tex
 filled_has (x ∷ word) texts h k =
     symbol_has x word texts (h.0, tt) (λ rest j. filled_has word rest h.1 j) k
 
--- items that were read
-abbrev WasRead : Read → Type 0
-WasRead read = (bytes : List ℕ) × IsRow Generated read.item bytes
-
-abbrev AreRead : List Read → Type 0
-AreRead items = AllByRecursion WasRead items
-
-rows_read : (text : List ℕ) (items : List Read) → Rows Generated text items → AreRead items
-rows_read text [] h = tt
-rows_read text (read ∷ items) h = ((h.0, h.2), rows_read h.1 items h.3)
-
-read_take : (n : ℕ) (items : List Read) → AreRead items → AreRead (take n items)
-read_take zero items h = tt
-read_take (suc n) [] h = tt
-read_take (suc n) (read ∷ items) h = (h.0, read_take n items h.1)
-
-supers_more : (read : Read) (items : List Read) → supers_of (read ∷ items) ≡ item_supers read.item
-    ++ supers_of items
-supers_more read items = flat_map-cons (λ (r : Read). item_supers r.item) read items
-
 blanks_more : (read : Read) (items : List Read) → blanks (read ∷ items) ≡ blank_of read.item
     ++ blanks items
 blanks_more read items = flat_map-cons (λ (r : Read). blank_of r.item) read items
 
--- their superblanks are those of their blanks
+-- the superblanks of an item that was read are those of its blanks
 own_supers : (thing : Item) (bytes : List ℕ) → IsRow Generated thing bytes →
     item_supers thing ≡ supers_in (blank_of thing)
 own_supers (item.Plain c) bytes h = refl
@@ -121,7 +105,8 @@ own_supers (item.Blank all) bytes h =
 own_supers (item.Unit words) bytes h = refl
 own_supers (item.Chunk c) bytes h = absurd h
 
-blank_supers_of : (items : List Read) → AreRead items → supers_of items ≡ supers_in (blanks items)
+blank_supers_of : (items : List Read) → AreRead Generated items →
+    supers_of items ≡ supers_in (blanks items)
 blank_supers_of [] h = refl
 blank_supers_of (read ∷ items) h =
     supers_more read items ∙ ap (λ (q : List (List ℕ)). q ++ supers_of items)
@@ -142,7 +127,7 @@ own_blank (item.Blank all) bytes h = (subst HasOwn (sym h.0) (h.1 Generated), tt
 own_blank (item.Unit words) bytes h = tt
 own_blank (item.Chunk c) bytes h = absurd h
 
-read_blanks : (items : List Read) → AreRead items → AreBlanks (blanks items)
+read_blanks : (items : List Read) → AreRead Generated items → AreBlanks (blanks items)
 read_blanks [] h = tt
 read_blanks (read ∷ items) h =
     subst AreBlanks (sym (blanks_more read items))
@@ -164,13 +149,8 @@ alarm_none (item.Blank all) h = absurd (cc)
 alarm_none (item.Unit words) h = absurd (cc)
 alarm_none (item.Chunk c) h = absurd (cc)
 
--- a step uses items, and keeps their superblanks
-abbrev StepKeeps : List Read → Step → Type 0
-StepKeeps items (Gives n text) = (0 < n) × HasSuperblanks Generated text (supers_of (take n items))
-StepKeeps items (Stops kind) = Unit {0}
-
-copied_keeps : (read : Read) (items : List Read) → AreRead (read ∷ items) →
-    StepKeeps (read ∷ items) (copied (read ∷ items))
+copied_keeps : (read : Read) (items : List Read) → AreRead Generated (read ∷ items) →
+    StepKeeps Generated (read ∷ items) (copied (read ∷ items))
 copied_keeps read items h =
     let one : HasSuperblanks Generated (spelled read.item) (item_supers read.item) =
     subst (λ (q : List ℕ). HasSuperblanks Generated q (item_supers read.item))
@@ -188,20 +168,20 @@ copied_keeps read items h =
     )
 
 dropped_keeps : (read : Read) (items : List Read) → begins_alarm (read ∷ items) ≡ true →
-    StepKeeps (read ∷ items) (Gives 1 [])
+    StepKeeps Generated (read ∷ items) (Gives 1 [])
 dropped_keeps read items alarm =
     let none : supers_of (read ∷ []) ≡ [] = supers_more read [] ∙ append-nil (item_supers read.item)
     ∙ alarm_none read.item alarm in
     (omega arith, nothing refl none)
 
-word_keeps : (items : List Read) (n : ℕ) (word : List Symbol) → AreRead items → 0 < n →
-    AreSpelt false word → StepKeeps items (word_step n word (blanks (take n items)))
+word_keeps : (items : List Read) (n : ℕ) (word : List Symbol) → AreRead Generated items → 0 < n →
+    AreSpelt false word → StepKeeps Generated items (word_step n word (blanks (take n items)))
 word_keeps items n word h some spelt = by (nat_lt unit_max (length (rendering word)))
   where
-    there : AreRead (take n items)
-    there = read_take n items h
+    there : AreRead Generated (take n items)
+    there = read_take Generated n items h
 
-    by : (v : Bool) → StepKeeps items (if v then Stops UnitTooLong
+    by : (v : Bool) → StepKeeps Generated items (if v then Stops UnitTooLong
         else Gives n (filled word (blanks (take n items))))
     by true = tt
     by false = (
@@ -215,86 +195,53 @@ least_spelt : (words : List (List Symbol)) → EachSpelt words → AreSpelt fals
 least_spelt [] h = tt
 least_spelt (word ∷ words) h = h.0
 
-drop_after : (n : ℕ) (read : Read) (items : List Read) → 0 < n →
-    drop n (read ∷ items) ≡ drop (pred n) items
-drop_after zero read items some = absurd (omega (arith, some))
-drop_after (suc n) read items some = refl
-
 module _ (lexicon : Lexicon) (sensitive : Bool) (gives : GivesReadable lexicon) where
   chosen_spelt : (seen : List Symbol) → AreSpelt false (chosen lexicon sensitive seen)
   chosen_spelt seen = least_spelt (carried_words lexicon sensitive seen seen)
       (each_spelt (carried_words lexicon sensitive seen seen)
       (words_readable lexicon sensitive seen seen gives))
 
-  match_keeps : (read : Read) (items : List Read) (n : ℕ) → AreRead (read ∷ items) →
+  match_keeps : (read : Read) (items : List Read) (n : ℕ) → AreRead Generated (read ∷ items) →
       begins_alarm (read ∷ items) ≡ true →
-      StepKeeps (read ∷ items) (match_step lexicon sensitive (read ∷ items) n)
+      StepKeeps Generated (read ∷ items) (match_step lexicon sensitive (read ∷ items) n)
   match_keeps read items zero h alarm = dropped_keeps read items alarm
   match_keeps read items (suc n) h alarm =
       let some : 0 < suc n = omega arith in
-      subst (StepKeeps (read ∷ items))
+      subst (StepKeeps Generated (read ∷ items))
       (sym (match_some lexicon sensitive (read ∷ items) (suc n) some))
       (word_keeps (read ∷ items) (suc n)
       (chosen lexicon sensitive (take (suc n) (symbols (read ∷ items)))) h some
       (chosen_spelt (take (suc n) (symbols (read ∷ items)))))
 
-  alarm_keeps : (read : Read) (items : List Read) → AreRead (read ∷ items) →
+  alarm_keeps : (read : Read) (items : List Read) → AreRead Generated (read ∷ items) →
       begins_alarm (read ∷ items) ≡ true →
-      StepKeeps (read ∷ items) (alarm_step lexicon sensitive (read ∷ items))
+      StepKeeps Generated (read ∷ items) (alarm_step lexicon sensitive (read ∷ items))
   alarm_keeps read items h alarm =
       elim (cases_lt span_max (bytes_of (take (span lexicon (read ∷ items)) (read ∷ items)))) [
-        | inl long ↦ subst (StepKeeps (read ∷ items))
+        | inl long ↦ subst (StepKeeps Generated (read ∷ items))
             (sym (alarm_over lexicon sensitive (read ∷ items) long)) tt
-        | inr short ↦ subst (StepKeeps (read ∷ items))
+        | inr short ↦ subst (StepKeeps Generated (read ∷ items))
             (sym (alarm_within lexicon sensitive (read ∷ items) short))
             (match_keeps read items (matched lexicon (read ∷ items)) h alarm)
       ]
 
-  first_keeps : (read : Read) (items : List Read) → AreRead (read ∷ items) →
-      StepKeeps (read ∷ items) (post_step lexicon sensitive (read ∷ items))
+  first_keeps : (read : Read) (items : List Read) → AreRead Generated (read ∷ items) →
+      StepKeeps Generated (read ∷ items) (post_step lexicon sensitive (read ∷ items))
   first_keeps read items h = elim (cases_Bool (begins_alarm (read ∷ items))) [
-    | inl t ↦ subst (StepKeeps (read ∷ items)) (sym (step_alarm lexicon sensitive (read ∷ items) t))
+    | inl t ↦ subst (StepKeeps Generated (read ∷ items))
+        (sym (step_alarm lexicon sensitive (read ∷ items) t))
         (alarm_keeps read items h t)
-    | inr f ↦ subst (StepKeeps (read ∷ items)) (sym (step_bare lexicon sensitive (read ∷ items) f))
+    | inr f ↦ subst (StepKeeps Generated (read ∷ items))
+        (sym (step_bare lexicon sensitive (read ∷ items) f))
         (copied_keeps read items h)
   ]
 
--- Steps that keep superblanks, from left to right.
-module _ (first : List Read → Step) (keeps : (read : Read) (items : List Read) →
-    AreRead (read ∷ items) → StepKeeps (read ∷ items) (first (read ∷ items))) where
-  abbrev GoesKept : ℕ → List Read → Type 0
-  GoesKept skip items = (steps first skip items).fault ≡ None →
-      HasSuperblanks Generated (steps first skip items).text (supers_of (drop skip items))
-
-  step_keeps : (read : Read) (items : List Read) (step : Step) → StepKeeps (read ∷ items) step →
-      ((n : ℕ) → GoesKept n items)
-      → (goes_on read.place step (λ n. steps first n items)).fault ≡ None →
-      HasSuperblanks Generated (goes_on read.place step (λ n. steps first n items)).text
-      (supers_of (read ∷ items))
-  step_keeps read items (Gives n text) k go e =
-      let on : HasSuperblanks Generated (steps first (pred n) items).text
-      (supers_of (drop (pred n) items)) = go (pred n) e in
-      let cut : take n (read ∷ items) ++ drop (pred n) items ≡ read ∷ items =
-      ap (λ (q : List Read). take n (read ∷ items) ++ q) (sym (drop_after n read items k.0))
-      ∙ take-append-drop n (read ∷ items) in
-      let all : supers_of (take n (read ∷ items)) ++ supers_of (drop (pred n) items)
-      ≡ supers_of (read ∷ items) =
-      sym (flat_map-append (λ (r : Read). item_supers r.item) (take n (read ∷ items))
-      (drop (pred n) items)) ∙ ap supers_of cut in
-      subst (λ (q : List (List ℕ)). HasSuperblanks Generated
-      (text ++ (steps first (pred n) items).text) q) all
-      (joined Generated text (steps first (pred n) items).text (supers_of (take n (read ∷ items)))
-      (supers_of (drop (pred n) items)) k.1 on)
-  step_keeps read items (Stops kind) k go e = absurd (cc)
-
-  steps_keep : (skip : ℕ) (items : List Read) → AreRead items → GoesKept skip items
-  unfolding steps
-  steps_keep zero [] h e = nothing refl refl
-  steps_keep (suc skip) [] h e = nothing refl refl
-  steps_keep (suc skip) (read ∷ items) h e = steps_keep skip items h.1 e
-  steps_keep zero (read ∷ items) h e =
-      step_keeps read items (first (read ∷ items)) (keeps read items h)
-      (λ n f. steps_keep n items h.1 f) e
+  pub post_gives : (text : List ℕ) →
+      GivesPieces Generated (post_generated lexicon sensitive (reads Generated 0 text).items)
+      (supers_of (reads Generated 0 text).items)
+  post_gives text =
+      steps_keep Generated Generated (post_step lexicon sensitive) first_keeps 0
+      (reads Generated 0 text).items (reads_read Generated 0 text)
 
 pub post_generation_keeps : (lexicon : Lexicon) (sensitive : Bool) (text : List ℕ) →
     GivesReadable lexicon → (post_generated_text lexicon sensitive text Clean).fault ≡ None →
@@ -303,10 +250,21 @@ pub post_generation_keeps : (lexicon : Lexicon) (sensitive : Bool) (text : List 
 post_generation_keeps lexicon sensitive text gives e =
     let n = neither (post_generated lexicon sensitive (reads Generated 0 text).items).fault
     (reads Generated 0 text).stop e in
-    let rows = reads_rows Generated 0 text n.1 in
     record {
       superblanks = supers_of (reads Generated 0 text).items;
-      before = rows_have Generated text (reads Generated 0 text).items rows;
-      after = steps_keep (post_step lexicon sensitive) (first_keeps lexicon sensitive gives) 0
-          (reads Generated 0 text).items (rows_read text (reads Generated 0 text).items rows) n.0;
+      before = reads_have Generated 0 text n.1;
+      after = gives_all Generated (post_generated lexicon sensitive (reads Generated 0 text).items)
+          (supers_of (reads Generated 0 text).items) (post_gives lexicon sensitive gives text) n.0;
     }
+
+pub post_generation_read : (lexicon : Lexicon) (sensitive : Bool) → GivesReadable lexicon →
+    Links Generated Generated (post_generated_text lexicon sensitive)
+post_generation_read lexicon sensitive gives = record {
+  taken = λ text h. fault_fine
+      (post_generated lexicon sensitive (reads Generated 0 text).items).fault
+      (reads Generated 0 text).stop
+      (steps_fine (post_step lexicon sensitive) 0 (reads Generated 0 text).items) h;
+  written = λ text ending. gives_read Generated
+      (post_generated lexicon sensitive (reads Generated 0 text).items)
+      (supers_of (reads Generated 0 text).items) (post_gives lexicon sensitive gives text);
+}

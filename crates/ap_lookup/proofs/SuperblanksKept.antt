@@ -1,14 +1,16 @@
--- Look-ups keep superblanks.
+-- Look-ups keep superblanks, and what they write is read on.
 use Rattle.std.specs.Prelude.{◌≡◌, ℕ, Bool, true, false, nat_lt, List, [], ◌∷◌, ◌++◌, map, take, drop, None, refl, if◌then◌else◌}
 use Rattle.std.proofs.Common.{arith}
 use Rattle.ap_symbol.specs.declared.symbol.Symbol.{Symbol}
 use Rattle.ap_stream.specs.Each.{each}
 use Rattle.ap_stream.specs.Laws.{AreSpelt, EachSpelt, AreAsMany}
 use Rattle.ap_stream.specs.Pieces.{HasSuperblanks, HaveSameSuperblanks, MakesNone}
+use Rattle.ap_stream.specs.ReadOn.{Links}
 use Rattle.ap_stream.specs.Reading.{reads}
 use Rattle.ap_stream.specs.Told.{Clean}
 use Rattle.ap_stream.specs.declared.dialect.Dialect.TheVariants.{Lexical, Bilingual, Generated}
-use Rattle.ap_stream.proofs.EachKept.{each_keeps, neither, unit_has_none}
+use Rattle.ap_stream.proofs.EachKept.{each_keeps, each_read, neither, unit_has_none}
+use Rattle.ap_stream.proofs.Faults.{fault_fine, each_fine}
 use Rattle.ap_stream.proofs.Written.{spelt_append, spelt_take, spelt_drop, each_spelt, lexical_stays, bare_has_none, word_has_none, words_have_none}
 use Rattle.ap_live.specs.Lexicon.{Lexicon}
 use Rattle.ap_live.specs.Readable.{GivesReadable}
@@ -50,7 +52,7 @@ module _ (lexicon : Lexicon) (sensitive : Bool) (gives : GivesReadable lexicon) 
   heads_spelt (head ∷ heads) left h k = (spelt_append head left h.0 k, heads_spelt heads left h.1 k)
 
   -- one translation at least
-  abbrev AreSome : List (List Symbol) → Type 0
+  abbrev pub AreSome : List (List Symbol) → Type 0
   AreSome words = EachSpelt words × AreAsMany true words
 
   some_by : (word : List Symbol) (heads : List (List Symbol)) (left : List Symbol) →
@@ -60,7 +62,7 @@ module _ (lexicon : Lexicon) (sensitive : Bool) (gives : GivesReadable lexicon) 
   some_by word (head ∷ heads) left h k l =
       ((spelt_append head left k.0 l, heads_spelt heads left k.1 l), refl)
 
-  some_translations : (word : List Symbol) → AreSpelt false word →
+  pub some_translations : (word : List Symbol) → AreSpelt false word →
       AreSome (translations lexicon sensitive word)
   some_translations word h = by (is_marked word)
     where
@@ -140,3 +142,25 @@ generation_keeps lexicon m sensitive text gives e =
     let n = neither (each given (reads Lexical 0 text).items).fault (reads Lexical 0 text).stop e in
     each_keeps Lexical Generated (generated_unit lexicon m sensitive) 0 text lexical_stays
     (generated_none lexicon sensitive gives m) n.1 n.0
+
+pub bilingual_read : (lexicon : Lexicon) (sensitive : Bool) → GivesReadable lexicon →
+    Links Lexical Bilingual (bilingual_text lexicon sensitive)
+bilingual_read lexicon sensitive gives =
+    let given : List (List Symbol) → List ℕ = bilingual_unit lexicon sensitive in
+    record {
+      taken = λ text h. fault_fine (each given (reads Lexical 0 text).items).fault
+          (reads Lexical 0 text).stop (each_fine given (reads Lexical 0 text).items) h;
+      written = λ text ending. each_read Lexical Bilingual given 0 text (λ c h. h)
+          (bilingual_none lexicon sensitive gives);
+    }
+
+pub generation_read : (lexicon : Lexicon) (m : Marks) (sensitive : Bool) → GivesReadable lexicon →
+    Links Lexical Generated (generated_text lexicon m sensitive)
+generation_read lexicon m sensitive gives =
+    let given : List (List Symbol) → List ℕ = generated_unit lexicon m sensitive in
+    record {
+      taken = λ text h. fault_fine (each given (reads Lexical 0 text).items).fault
+          (reads Lexical 0 text).stop (each_fine given (reads Lexical 0 text).items) h;
+      written = λ text ending. each_read Lexical Generated given 0 text lexical_stays
+          (generated_none lexicon sensitive gives m);
+    }

@@ -6,6 +6,7 @@ use Rattle.ap_fst.specs.declared.compiled.Kind2.{Kind2}
 use Rattle.ap_live.specs.Lexicon.{Lexicon}
 use Rattle.ap_live.specs.Readable.{GivesReadable}
 use Rattle.ap_stream.specs.Pieces.{HaveSameSuperblanks}
+use Rattle.ap_stream.specs.ReadOn.{Links}
 use Rattle.ap_stream.specs.Told.{Clean}
 use Rattle.ap_stream.specs.declared.dialect.Dialect.TheVariants.{Lexical, Bilingual, Generated}
 use Rattle.ap_lookup.specs.PostWorks.{post_generated_text}
@@ -51,3 +52,19 @@ PostGenerationKeeps = (lexicon : Lexicon) (sensitive : Bool) (text : List ℕ) �
     → (post_generated_text lexicon sensitive text Clean).fault ≡ None
     → HaveSameSuperblanks Generated Generated text
     (post_generated_text lexicon sensitive text Clean).text
+
+-- the bilingual text of any text is read on as bilingual text, and a lexical text that is read on
+-- is never malformed for the look-up
+abbrev pub BilingualIsRead : Type 0
+BilingualIsRead = (lexicon : Lexicon) (sensitive : Bool) → GivesReadable lexicon →
+    Links Lexical Bilingual (bilingual_text lexicon sensitive)
+
+-- so it is with what is generated
+abbrev pub GenerationIsRead : Type 0
+GenerationIsRead = (lexicon : Lexicon) (marks : Marks) (sensitive : Bool) → GivesReadable lexicon →
+    Links Lexical Generated (generated_text lexicon marks sensitive)
+
+-- and with what post-generation makes
+abbrev pub PostGenerationIsRead : Type 0
+PostGenerationIsRead = (lexicon : Lexicon) (sensitive : Bool) → GivesReadable lexicon →
+    Links Generated Generated (post_generated_text lexicon sensitive)

@@ -9,5 +9,6 @@ pub mod Kept
 pub mod Works
 pub mod PostGenerating
 pub mod PostWorks
+pub mod PostCopies
 pub mod PostSearching
 pub mod PostMeasure

@@ -66,7 +66,7 @@ impl Stage for Bilingual {
     ghost fault = { λ s. s.fault };
 
     fn take(&mut self, piece: &[u8]) -> Result<usize, StageFault> {
-        self.stage.take(piece)
+        self.stage.take_units(piece)
     }
 
     fn end(&mut self) -> Result<Finish, StageFault> {

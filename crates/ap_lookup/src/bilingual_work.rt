@@ -1,12 +1,13 @@
 ghost use Rattle.std.specs.Prelude.{◌≡◌, length, false, None, IfOk};
-ghost use Rattle.ap_stream.specs.Each.{held_items, held_size, none_held};
+ghost use Rattle.ap_stream.specs.Each.{held_items, held_size, none_held, each_copies};
 ghost use Rattle.ap_stream.specs.declared.dialect.Dialect.TheVariants.{Lexical};
-ghost use Rattle.ap_lookup.specs.Works.{bilingual_work};
+ghost use Rattle.ap_lookup.specs.Works.{bilingual_work, bilingual_unit};
+ghost use Rattle.ap_live.specs.Lexicon.{lexicon_of};
 
 use crate::bilingual_writer::BilingualWriter;
 use crate::keeping::Keeping;
 use ap_fst::Compiled;
-use ap_stream::{Dialect, Each, Handler, Read, StageFault, Turn};
+use ap_stream::{ByUnit, Copies, Dialect, Each, Handler, Read, StageFault, Turn};
 use ap_symbol::{Bytes, Memory};
 use std::alloc::Global;
 use std::marker::Model;
@@ -72,4 +73,20 @@ impl Handler for BilingualWork {
     }
 
     ghost wants_first = { λ h e. none_held h.item e };
+}
+
+impl Copies for BilingualWork {
+    fn is_free(&self) -> bool {
+        self.each.is_free()
+    }
+
+    ghost copies = { λ h read xs none copied. each_copies
+        (bilingual_unit (lexicon_of h.writer.compiled h.writer.sensitive)
+        h.writer.sensitive) h.item read xs none copied };
+}
+
+impl ByUnit for BilingualWork {
+    fn unit(&mut self, bytes: &[u8], into: &mut Bytes) -> Result<bool, Memory> {
+        self.each.unit(bytes, into)
+    }
 }

@@ -1,12 +1,13 @@
 ghost use Rattle.std.specs.Prelude.{◌≡◌, length, false, None, IfOk};
-ghost use Rattle.ap_stream.specs.Each.{held_items, held_size, none_held};
+ghost use Rattle.ap_stream.specs.Each.{held_items, held_size, none_held, each_copies};
 ghost use Rattle.ap_stream.specs.declared.dialect.Dialect.TheVariants.{Lexical};
-ghost use Rattle.ap_lookup.specs.Works.{generation_work};
+ghost use Rattle.ap_lookup.specs.Works.{generation_work, generated_unit};
+ghost use Rattle.ap_live.specs.Lexicon.{lexicon_of};
 
 use crate::generation_writer::{GenerationWriter, Marks};
 use crate::keeping::Keeping;
 use ap_fst::Compiled;
-use ap_stream::{Dialect, Each, Handler, Read, StageFault, Turn};
+use ap_stream::{ByUnit, Copies, Dialect, Each, Handler, Read, StageFault, Turn};
 use ap_symbol::{Bytes, Memory};
 use std::alloc::Global;
 use std::marker::Model;
@@ -78,4 +79,20 @@ impl Handler for GenerationWork {
     }
 
     ghost wants_first = { λ h e. none_held h.item e };
+}
+
+impl Copies for GenerationWork {
+    fn is_free(&self) -> bool {
+        self.each.is_free()
+    }
+
+    ghost copies = { λ h read xs none copied. each_copies
+        (generated_unit (lexicon_of h.writer.compiled h.writer.sensitive)
+        h.writer.marks h.writer.sensitive) h.item read xs none copied };
+}
+
+impl ByUnit for GenerationWork {
+    fn unit(&mut self, bytes: &[u8], into: &mut Bytes) -> Result<bool, Memory> {
+        self.each.unit(bytes, into)
+    }
 }

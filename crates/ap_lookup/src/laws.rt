@@ -3,7 +3,7 @@ ghost use Rattle.std.specs.List.Sorted.{IsStrictlySortedBy};
 ghost use Rattle.ap_symbol.specs.Rendering.{word_cmp};
 ghost use Rattle.ap_symbol.specs.declared.symbol.Symbol.{Symbol};
 ghost use Rattle.ap_live.specs.Lexicon.{Lexicon};
-ghost use Rattle.ap_lookup.specs.Laws.{IsLongest, HasNone, BilingualKeeps, GenerationKeeps, PostGenerationKeeps};
+ghost use Rattle.ap_lookup.specs.Laws.{IsLongest, HasNone, BilingualKeeps, GenerationKeeps, PostGenerationKeeps, BilingualIsRead, GenerationIsRead, PostGenerationIsRead};
 ghost use Rattle.ap_lookup.specs.Translation.{is_marked, taken, untaken, translation};
 
 /// The law of translation, whatever the lexicon: of the prefixes that hold the whole lemma and fit
@@ -41,4 +41,28 @@ pub fn generation_keeps_superblanks()
 /// order, whole. It is a statement alone and does nothing.
 pub fn post_generation_keeps_superblanks()
     ensures { PostGenerationKeeps }
+{}
+
+/// The law that what bilingual lookup writes of any text, by a lexicon whose right words can be
+/// written, is read as bilingual text to its end, or to an item over the limit, whatever fault
+/// stops the look-up; and that a lexical text that is read so is never malformed for it. It is a
+/// statement alone and does nothing.
+pub fn bilingual_is_read()
+    ensures { BilingualIsRead }
+{}
+
+/// The law that what generation writes of any text, by a lexicon whose right words can be written,
+/// is read as generated text to its end, or to an item over the limit, whatever fault stops
+/// generation; and that a lexical text that is read so is never malformed for it. It is a statement
+/// alone and does nothing.
+pub fn generation_is_read()
+    ensures { GenerationIsRead }
+{}
+
+/// The law that what post-generation writes of any text, by a lexicon whose right words can be
+/// written, is read as generated text to its end, or to an item over the limit, whatever fault
+/// stops post-generation; and that a generated text that is read so is never malformed for it. It
+/// is a statement alone and does nothing.
+pub fn post_generation_is_read()
+    ensures { PostGenerationIsRead }
 {}

@@ -27,7 +27,8 @@ pub use generation_work::GenerationWork;
 pub use generation_writer::{GenerationWriter, Marks};
 pub use keeping::Keeping;
 pub use laws::{
-    bilingual_keeps_superblanks, generation_keeps_superblanks, longest_prefix_is_taken,
+    bilingual_is_read, bilingual_keeps_superblanks, generation_is_read,
+    generation_keeps_superblanks, longest_prefix_is_taken, post_generation_is_read,
     post_generation_keeps_superblanks,
 };
 pub use post_generation::PostGeneration;

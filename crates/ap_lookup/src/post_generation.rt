@@ -69,7 +69,7 @@ impl Stage for PostGeneration {
     ghost fault = { λ s. s.fault };
 
     fn take(&mut self, piece: &[u8]) -> Result<usize, StageFault> {
-        self.stage.take(piece)
+        self.stage.take_copying(piece)
     }
 
     fn end(&mut self) -> Result<Finish, StageFault> {

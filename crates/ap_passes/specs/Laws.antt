@@ -5,6 +5,7 @@ use Rattle.ap_symbol.specs.declared.symbol.Symbol.{Symbol}
 use Rattle.ap_symbol.specs.declared.symbol.Symbol.TheVariants.{Join}
 use Rattle.ap_stream.specs.Laws.{AreWords}
 use Rattle.ap_stream.specs.Pieces.{HaveSameSuperblanks}
+use Rattle.ap_stream.specs.ReadOn.{Links}
 use Rattle.ap_stream.specs.Told.{Clean}
 use Rattle.ap_stream.specs.declared.dialect.Dialect.TheVariants.{Analysed, Lexical}
 use Rattle.ap_passes.specs.Marks.{is_tag, is_queue, is_end, is_seam, is_marked}
@@ -77,3 +78,12 @@ FirstKeeps = (text : List ℕ) → (first_pass text Clean).fault ≡ None
 abbrev pub SplitKeeps : Type 0
 SplitKeeps = (text : List ℕ) → (split_pass text Clean).fault ≡ None
     → HaveSameSuperblanks Lexical Lexical text (split_pass text Clean).text
+
+-- the first readings of a text are read on as lexical text, and an analysed text that is read on is
+-- never malformed for them
+abbrev pub FirstIsRead : Type 0
+FirstIsRead = Links Analysed Lexical first_pass
+
+-- so it is where words are taken apart
+abbrev pub SplitIsRead : Type 0
+SplitIsRead = Links Lexical Lexical split_pass

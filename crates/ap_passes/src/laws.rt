@@ -1,4 +1,4 @@
-ghost use Rattle.ap_passes.specs.Laws.{NothingIsLost, NoneIsEmpty, PlainStays, TaglessStays, SplitReads, FirstReads, FirstKeeps, SplitKeeps};
+ghost use Rattle.ap_passes.specs.Laws.{NothingIsLost, NoneIsEmpty, PlainStays, TaglessStays, SplitReads, FirstReads, FirstKeeps, SplitKeeps, FirstIsRead, SplitIsRead};
 
 /// The law that nothing of a word is lost where no part is empty: its words joined again by Joins
 /// are the word with its invariable part moved. It is a statement alone and does nothing.
@@ -45,4 +45,18 @@ pub fn first_keeps_superblanks()
 /// does nothing.
 pub fn pretransfer_keeps_superblanks()
     ensures { SplitKeeps }
+{}
+
+/// The law that what `first` writes of any text is read as lexical text to its end, or to an item
+/// over the limit, whatever fault stops `first`; and that an analysed text that is read so is never
+/// malformed for it. It is a statement alone and does nothing.
+pub fn first_is_read()
+    ensures { FirstIsRead }
+{}
+
+/// The law that what `pretransfer` writes of any text is read as lexical text to its end, or to an
+/// item over the limit, whatever fault stops `pretransfer`; and that a lexical text that is read so
+/// is never malformed for it. It is a statement alone and does nothing.
+pub fn pretransfer_is_read()
+    ensures { SplitIsRead }
 {}

@@ -1,5 +1,5 @@
 ghost use Rattle.std.specs.Prelude.{◌≡◌, ℕ, List, [], length, false, None};
-ghost use Rattle.ap_stream.specs.Each.{held_items, held_size, none_held};
+ghost use Rattle.ap_stream.specs.Each.{held_items, held_size, none_held, each_copies};
 ghost use Rattle.ap_stream.specs.Told.{Ending};
 ghost use Rattle.ap_stream.specs.Rest.{rest_of, held_of, rest_at_fault, rest_at_cut, rest_pending_first};
 ghost use Rattle.ap_stream.specs.declared.dialect.Dialect.TheVariants.{Lexical};
@@ -8,8 +8,8 @@ ghost use Rattle.ap_passes.specs.Passes.{split_unit, split_pass, split_work};
 use crate::splitting::write_split;
 use crate::units::write_whole;
 use ap_stream::{
-    Dialect, Each, Finish, Handler, Names, Pipe, Read, Stage, StageFault, Staged, Turn, Unit,
-    UnitWriter,
+    ByUnit, Copies, Dialect, Each, Finish, Handler, Names, Pipe, Read, Stage, StageFault, Staged,
+    Turn, Unit, UnitWriter,
 };
 use ap_symbol::{Bytes, Memory, Word};
 use std::alloc::Global;
@@ -120,6 +120,20 @@ impl Handler for PretransferWork {
     ghost wants_first = { λ h e. none_held h.item e };
 }
 
+impl Copies for PretransferWork {
+    fn is_free(&self) -> bool {
+        self.each.is_free()
+    }
+
+    ghost copies = { λ h read xs none copied. each_copies split_unit h.item read xs none copied };
+}
+
+impl ByUnit for PretransferWork {
+    fn unit(&mut self, bytes: &[u8], into: &mut Bytes) -> Result<bool, Memory> {
+        self.each.unit(bytes, into)
+    }
+}
+
 /// A lexical text whose words are taken apart, as `apertium-pretransfer` does: a `Stage` over
 /// bytes.
 ///
@@ -171,7 +185,7 @@ impl Stage for Pretransfer {
     ghost fault = { λ s. s.fault };
 
     fn take(&mut self, piece: &[u8]) -> Result<usize, StageFault> {
-        self.stage.take(piece)
+        self.stage.take_units(piece)
     }
 
     fn end(&mut self) -> Result<Finish, StageFault> {

@@ -112,7 +112,7 @@ named b h =
     record { ascii = ltb-true b 128 both.0; unreserved = not-true (is_reserved_lem b) both.1 }
 
 -- what stands in a unit behind these bytes
-abbrev InUnitAt : Dialect → Mode → List ℕ → Type 0
+abbrev pub InUnitAt : Dialect → Mode → List ℕ → Type 0
 InUnitAt dialect (mode.Word at) done = InUnit dialect at done
 InUnitAt dialect (mode.Tag at some) done = InTag dialect at some done
 InUnitAt dialect mode.Start done = ⊥
@@ -174,7 +174,7 @@ crossed_on dialect mode.Inside to done b h e = absurd h
 crossed_on dialect mode.InsideEscape to done b h e = absurd h
 crossed_on dialect (mode.WordEscape at) to done b h e = absurd h
 
-crossed_all : (dialect : Dialect) (at to : Mode) (done run : List ℕ) → InUnitAt dialect at done →
+pub crossed_all : (dialect : Dialect) (at to : Mode) (done run : List ℕ) → InUnitAt dialect at done →
     crossing dialect at run ≡ Some to → InUnitAt dialect to (done ++ run)
 unfolding crossing
 crossed_all dialect at to done [] h e =

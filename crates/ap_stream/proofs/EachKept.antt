@@ -1,8 +1,7 @@
 -- A tool that takes each item by itself keeps superblanks.
-use Rattle.std.specs.Prelude.{◌≡◌, ℕ, Bool, true, false, List, [], ◌∷◌, ◌++◌, length, Option, Some, None, refl, if◌then◌else◌}
+use Rattle.std.specs.Prelude.{◌≡◌, ℕ, Bool, true, false, List, [], ◌∷◌, length, Option, Some, None, refl, if◌then◌else◌}
 use Rattle.std.proofs.Common.{ap, sym, subst, ◌∙◌}
 use Rattle.std.proofs.lemmas.List.{append-nil}
-use Rattle.std.proofs.lemmas.List.Concat.{flat_map-cons}
 use Rattle.ap_symbol.specs.declared.symbol.Symbol.{Symbol}
 use Rattle.ap_stream.specs.declared.dialect.Dialect.{Dialect}
 use Rattle.ap_stream.specs.declared.fault.StreamFault.{StreamFault}
@@ -13,14 +12,17 @@ use Rattle.ap_stream.specs.declared.item.Item.TheVariants as item
 use Rattle.ap_stream.specs.declared.item.Read.{Read}
 use Rattle.ap_stream.specs.Each.{each, item_text, is_over}
 use Rattle.ap_stream.specs.Laws.{AreWords}
-use Rattle.ap_stream.specs.Pieces.{HasSuperblanks, nothing, piece, plain, white, unit, HaveSameSuperblanks, StayBare, MakesNone, supers_of, chunk, BareStay}
+use Rattle.ap_stream.specs.Pieces.{HasSuperblanks, piece, plain, white, unit, HaveSameSuperblanks, StayBare, MakesNone, supers_of, chunk, BareStay}
+use Rattle.ap_stream.specs.ReadOn.{ArePieces, IsReadOn}
 use Rattle.ap_stream.specs.Reading.{first, reads, Whole}
 use Rattle.ap_stream.specs.Spelling.{unit_bytes, spelled, chunk_bytes}
 use Rattle.ap_stream.specs.Supers.{blank_supers, item_supers}
 use Rattle.ap_stream.specs.Told.{behind, ends_in, or_else}
 use Rattle.ap_stream.proofs.Back.{unit_back}
-use Rattle.ap_stream.proofs.Joined.{joined, one_piece}
-use Rattle.ap_stream.proofs.Rows.{IsRow, Rows, reads_rows, rows_have, ChunkRow}
+use Rattle.ap_stream.proofs.Joined.{one_piece}
+use Rattle.ap_stream.proofs.Gives.{GivesPieces, gives_none, gives_end, gives_behind, gives_all, gives_pieces}
+use Rattle.ap_stream.proofs.ReadOn.{are_read}
+use Rattle.ap_stream.proofs.Rows.{IsRow, ChunkRow, AreRead, reads_read, reads_have, supers_more}
 use Rattle.ap_stream.specs.declared.item.Chunk.{Chunk}
 use Rattle.ap_stream.specs.declared.dialect.Dialect.TheVariants.{Raw, Analysed, Lexical, Bilingual, Chunked, Generated}
 use Rattle.ap_stream.proofs.ChunkCut.{chunk_back}
@@ -75,48 +77,34 @@ spelled_has from to given (item.Chunk c) bytes stay none h = chunk_stays from to
 
 module _ (from to : Dialect) (given : List (List Symbol) → List ℕ) (stay : StayBare from to)
     (none : MakesNone from to given) where
-  each_kept : (text : List ℕ) (items : List Read) → Rows from text items → (each given items).fault
-      ≡ None → HasSuperblanks to (each given items).text (supers_of items)
-  each_kept text [] h e = nothing refl refl
-  each_kept text (read ∷ items) h e =
-      by (is_over given read.item) (λ f. each_kept h.1 items h.3 f) e
+  each_kept : (items : List Read) → AreRead from items →
+      GivesPieces to (each given items) (supers_of items)
+  each_kept [] h = gives_none to
+  each_kept (read ∷ items) h = by (is_over given read.item) (each_kept items h.1)
     where
       own : HasSuperblanks to (item_text given read.item) (item_supers read.item)
-      own = spelled_has from to given read.item h.0 stay none h.2
+      own = spelled_has from to given read.item h.0.0 stay none h.0.1
 
-      list : supers_of (read ∷ items) ≡ item_supers read.item ++ supers_of items
-      list = flat_map-cons (λ (r : Read). item_supers r.item) read items
-
-      on : ((each given items).fault ≡ None →
-          HasSuperblanks to (each given items).text (supers_of items)) → (each given items).fault
-          ≡ None → HasSuperblanks to (item_text given read.item ++ (each given items).text)
-          (supers_of (read ∷ items))
-      on go e = subst (λ (q : List (List ℕ)). HasSuperblanks to (item_text given read.item
-          ++ (each given items).text) q) (sym list)
-          (joined to (item_text given read.item) (each given items).text (item_supers read.item)
-          (supers_of items) own (go e))
-
-      by : (v : Bool) → ((each given items).fault ≡ None →
-          HasSuperblanks to (each given items).text (supers_of items)) →
-          (if v then ends_in [] (Limit UnitTooLong read.place)
-          else behind (item_text given read.item) (each given items)).fault ≡ None
-          → HasSuperblanks to (if v then ends_in [] (Limit UnitTooLong read.place)
-          else behind (item_text given read.item) (each given items)).text
-          (supers_of (read ∷ items))
-      by true go e = absurd (cc)
-      by false go e = on go e
+      by : (v : Bool) → GivesPieces to (each given items) (supers_of items) →
+          GivesPieces to (if v then ends_in [] (Limit UnitTooLong read.place)
+          else behind (item_text given read.item) (each given items)) (supers_of (read ∷ items))
+      by true go = gives_end to (Limit UnitTooLong read.place) (supers_of (read ∷ items))
+      by false go = subst (GivesPieces to (behind (item_text given read.item) (each given items)))
+          (sym (supers_more read items))
+          (gives_behind to (item_text given read.item) (each given items) (item_supers read.item)
+          (supers_of items) own go)
 
   pub reads_kept : (place : ℕ) (text : List ℕ) → (reads from place text).stop ≡ None →
       (each given (reads from place text).items).fault ≡ None →
       HaveSameSuperblanks from to text (each given (reads from place text).items).text
   reads_kept place text h e =
-      let rows = reads_rows from place text h in
       record {
         superblanks = supers_of (reads from place text).items;
-        before =
-            rows_have from text (reads from place text).items rows;
+        before = reads_have from place text h;
         after =
-            each_kept text (reads from place text).items rows e;
+            gives_all to (each given (reads from place text).items)
+            (supers_of (reads from place text).items)
+            (each_kept (reads from place text).items (reads_read from place text)) e;
       }
 
 pub each_keeps : (from to : Dialect) (given : List (List Symbol) → List ℕ) (place : ℕ)
@@ -125,6 +113,23 @@ pub each_keeps : (from to : Dialect) (given : List (List Symbol) → List ℕ) (
     → HaveSameSuperblanks from to text (each given (reads from place text).items).text
 each_keeps from to given place text stay none h e =
     reads_kept from to given stay none place text h e
+
+-- whatever stops it, it writes a row of pieces
+pub each_pieces : (from to : Dialect) (given : List (List Symbol) → List ℕ) (place : ℕ)
+    (text : List ℕ) → StayBare from to → MakesNone from to given
+    → ArePieces to (each given (reads from place text).items).text
+each_pieces from to given place text stay none =
+    gives_pieces to (each given (reads from place text).items)
+    (supers_of (reads from place text).items)
+    (each_kept from to given stay none (reads from place text).items (reads_read from place text))
+
+-- so it is read on
+pub each_read : (from to : Dialect) (given : List (List Symbol) → List ℕ) (place : ℕ)
+    (text : List ℕ) → StayBare from to → MakesNone from to given
+    → IsReadOn to (each given (reads from place text).items).text
+each_read from to given place text stay none =
+    are_read to (each given (reads from place text).items).text
+    (each_pieces from to given place text stay none)
 
 -- where neither of two faults is there
 pub neither : (a b : Option StreamFault) → or_else a b ≡ None → (a ≡ None) × (b ≡ None)

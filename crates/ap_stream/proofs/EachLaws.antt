@@ -1,6 +1,6 @@
 -- The turn of a tool that handles each item by itself.
-use Rattle.std.specs.Prelude.{◌≡◌, ℕ, ◌+◌, ◌<◌, ◌≤◌, nat_lt, Bool, true, false, ◌&&◌, List, [], ◌∷◌, ◌++◌, length, Option, Some, None, refl, if◌then◌else◌, IfSome}
-use Rattle.std.proofs.Common.{arith, ap, sym, subst, ◌∙◌}
+use Rattle.std.specs.Prelude.{◌≡◌, ℕ, ◌+◌, ◌-◌, ◌<◌, ◌≤◌, leb, nat_lt, Bool, true, false, ◌&&◌, List, [], ◌∷◌, ◌++◌, length, Option, Some, None, refl, if◌then◌else◌, IfSome}
+use Rattle.std.proofs.Common.{arith, ap, sym, subst, ◌∙◌, length-append}
 use Rattle.std.proofs.lemmas.Bool.Decides.{nat_tests}
 use Rattle.ap_stream.specs.Limits.{stage_max, unit_max}
 use Rattle.ap_symbol.specs.declared.symbol.Symbol.{Symbol}
@@ -10,11 +10,14 @@ use Rattle.ap_stream.specs.declared.fault.LimitKind.TheVariants.{UnitTooLong}
 use Rattle.ap_stream.specs.declared.item.Item.{Item}
 use Rattle.ap_stream.specs.declared.item.Item.TheVariants as item
 use Rattle.ap_stream.specs.declared.item.Read.{Read}
-use Rattle.ap_stream.specs.Reading.{IsRead}
+use Rattle.ap_stream.specs.Reading.{IsRead, read_at}
 use Rattle.ap_stream.specs.Spelling.{spelled}
 use Rattle.ap_stream.specs.Told.{Told, behind, ends_in}
-use Rattle.ap_stream.specs.Each.{each, item_text, is_over, is_worded, Single, held_items, held_size}
+use Rattle.ap_stream.specs.Each.{each, item_text, is_over, is_worded, Single, held_items, held_size, none_held}
+use Rattle.ap_stream.specs.Copying.{GivesUnit}
+use Rattle.ap_stream.specs.UnitBytes.{UnitOf}
 use Rattle.ap_stream.proofs.BareSpells.{bare_size}
+use Rattle.ap_stream.proofs.UnitWords.{words_are}
 
 module _ (given : List (List Symbol) → List ℕ) (read : Read) (xs : List Read) where
   pub each_writes : is_over given read.item ≡ false →
@@ -85,3 +88,31 @@ module _ {W : Type 0} (given : W → List (List Symbol) → List ℕ) (now : Sin
         refl,
         λ xs f. rw (same, t) (each_writes (given writer) read xs under_max),
       )
+
+pub few_appended : (old text new : List ℕ) → new ≡ old ++ text →
+    leb (length new - length old) unit_max ≡ true → length text ≤ unit_max
+few_appended old text new e h =
+    let l : length new ≡ length old + length text = ap length e ∙ length-append old text in
+    let k : length new - length old ≤ unit_max = grind (arith, nat_tests) in omega (arith, l, k)
+
+over : (n : ℕ) → n ≤ unit_max → nat_lt unit_max n ≡ false
+over n h = grind (arith, nat_tests)
+
+-- a unit that is taken by itself
+pub unit_gives : {W : Type 0} (given : W → List (List Symbol) → List ℕ) (now : Single W)
+    (writer after : W) (dialect : Dialect) (held : Option Read) (finished : Bool) →
+    record { writer = writer; dialect = dialect; item = held; finished = finished } ≡ now →
+    length (held_items now.item) ≡ 0 → given after ≡ given writer → (bytes : List ℕ)
+    (words : List (List Symbol)) → UnitOf dialect bytes words →
+    length (given writer words) ≤ unit_max →
+    GivesUnit (λ h xs. each (given h.writer) (held_items h.item ++ xs)) now.dialect now
+    (record { writer = after; dialect = dialect; item = held; finished = finished }) bytes
+    (given writer words)
+unit_gives given now writer after dialect held finished view none same bytes words is short =
+    let gone : held ≡ None = none_held held (rw (← view) at none) in
+    record {
+      short = short;
+      gives = λ place size xs. rw (← view, gone, words_are dialect bytes words is, same)
+          (sym (each_writes (given writer) (read_at place (item.Unit words) size) xs
+          (over (length (given writer words)) short)));
+    }

@@ -22,9 +22,16 @@ pub mod Joined
 pub mod Cut
 pub mod Fronts
 pub mod Rows
+pub mod Gives
+pub mod Faults
+pub mod Stays
+pub mod StepsKept
 pub mod EachKept
 pub mod Written
 pub mod SupersAlone
 pub mod ItemFronts
 pub mod StepLaws
 pub mod Scan
+pub mod Copied
+pub mod ReadOn
+pub mod WholeUnits

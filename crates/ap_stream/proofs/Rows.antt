@@ -1,5 +1,6 @@
 -- A text that is read to its end is the bytes of its items, and these are pieces.
 use Rattle.std.specs.Prelude.{◌≡◌, ◌≢◌, ℕ, zero, suc, ◌+◌, ◌-◌, ◌<◌, ◌≤◌, pred, List, [], ◌∷◌, ◌++◌, drop, take, length, Bool, true, false, cond, eqb, leb, ◌&&◌, ◌||◌, not, None, refl, encode_utf8}
+use Rattle.std.specs.List.{AllByRecursion}
 use Rattle.std.proofs.Common.{arith, ap, sym, subst, ◌∙◌}
 use Rattle.std.proofs.lemmas.Bool.{eqb-true}
 use Rattle.std.proofs.lemmas.Bool.Decides.{nat_tests}
@@ -169,7 +170,7 @@ super_row inner bs t h dialect =
     piece (91 ∷ inner) bs ((91 ∷ inner) ∷ []) (blank_supers 0 bs) (superblank own refl)
     (h dialect) refl all
 
-abbrev RunRow : List ℕ → Run → Type 0
+abbrev pub RunRow : List ℕ → Run → Type 0
 RunRow bs Open = BlankRow bs
 RunRow bs Inside = Unit {0}
 RunRow bs BadChar = Unit {0}
@@ -207,7 +208,7 @@ run_cond : (bs : List ℕ) (v : Bool) (r s : Run) → (v ≡ true → RunRow bs 
 run_cond bs true r s h k = h refl
 run_cond bs false r s h k = k refl
 
-run_row : (skip : ℕ) (bs : List ℕ) → RunRow (drop skip bs) (blank skip bs)
+pub run_row : (skip : ℕ) (bs : List ℕ) → RunRow (drop skip bs) (blank skip bs)
 unfolding blank
 run_row zero [] = none_row
 run_row (suc skip) [] = none_row
@@ -512,3 +513,47 @@ pub reads_have : (dialect : Dialect) (place : ℕ) (text : List ℕ) → (reads 
     ≡ None → HasSuperblanks dialect text (supers_of (reads dialect place text).items)
 reads_have dialect place text h =
     rows_have dialect text (reads dialect place text).items (reads_rows dialect place text h)
+
+-- whatever stops the reading, each item that was read has its bytes
+abbrev pub WasRead : Dialect → Read → Type 0
+WasRead dialect read = (bytes : List ℕ) × IsRow dialect read.item bytes
+
+abbrev pub AreRead : Dialect → List Read → Type 0
+AreRead dialect items = AllByRecursion (WasRead dialect) items
+
+walk_read : (dialect : Dialect) (place skip : ℕ) (bs : List ℕ) →
+    AreRead dialect (walk dialect place skip bs).items
+unfolding walk
+walk_read dialect place zero [] = tt
+walk_read dialect place (suc skip) [] = tt
+walk_read dialect place (suc skip) (b ∷ bs) = walk_read dialect place skip bs
+walk_read dialect place zero (b ∷ bs) =
+    by (limited item_max dialect (b ∷ bs)) (limited_row dialect item_max (b ∷ bs))
+    (λ at k. walk_read dialect at k bs)
+  where
+    end : (l : Last) → LastRow dialect (b ∷ bs) l →
+        AreRead dialect (at_end place (b ∷ bs) l).items
+    end (Complete thing) r = ((b ∷ bs, r), tt)
+    end (Broken kind) r = tt
+
+    by : (f : First) → FirstRow dialect (b ∷ bs) f →
+        ((at k : ℕ) → AreRead dialect (walk dialect at k bs).items) →
+        AreRead dialect (walked place (b ∷ bs) f (λ at k. walk dialect at k bs)).items
+    by Needs r go = end (last (b ∷ bs)) (last_row dialect (b ∷ bs))
+    by (Whole thing n) r go = ((take n (b ∷ bs), r.0), go (counted (place + n)) (pred n))
+    by (Faulty kind) r go = tt
+
+pub reads_read : (dialect : Dialect) (place : ℕ) (text : List ℕ) →
+    AreRead dialect (reads dialect place text).items
+unfolding reads
+reads_read dialect place text = walk_read dialect place 0 text
+
+pub read_take : (dialect : Dialect) (n : ℕ) (items : List Read) → AreRead dialect items →
+    AreRead dialect (take n items)
+read_take dialect zero items h = tt
+read_take dialect (suc n) [] h = tt
+read_take dialect (suc n) (read ∷ items) h = (h.0, read_take dialect n items h.1)
+
+pub supers_more : (read : Read) (items : List Read) →
+    supers_of (read ∷ items) ≡ item_supers read.item ++ supers_of items
+supers_more read items = flat_map-cons (λ (r : Read). item_supers r.item) read items

@@ -52,18 +52,18 @@ open_run : blank 0 [] ≡ Open
 unfolding blank
 open_run = refl
 
-first_blank : (dialect : Dialect) (b : ℕ) (bs : List ℕ) → begins_blank b ≡ true →
+pub first_blank : (dialect : Dialect) (b : ℕ) (bs : List ℕ) → begins_blank b ≡ true →
     first dialect (b ∷ bs) ≡ of_run (b ∷ bs) (blank 0 (b ∷ bs))
 unfolding first
 first_blank dialect b bs t = rw t refl
 
-last_blank : (b : ℕ) (bs : List ℕ) → begins_blank b ≡ true →
+pub last_blank : (b : ℕ) (bs : List ℕ) → begins_blank b ≡ true →
     last (b ∷ bs) ≡ last_run (b ∷ bs) (blank 0 (b ∷ bs))
 unfolding last
 last_blank b bs t = rw t refl
 
 -- the blank at the front of a text: its superblanks, and those of the rest
-abbrev RunCut : Dialect → List ℕ → List (List ℕ) → Run → Type 0
+abbrev pub RunCut : Dialect → List ℕ → List (List ℕ) → Run → Type 0
 RunCut dialect text supers Open = blank_supers 0 text ≡ supers
 RunCut dialect text supers Inside = ⊥
 RunCut dialect text supers BadChar = ⊥
@@ -131,7 +131,7 @@ module _ (dialect : Dialect) where
       ∙ ap (further 1) (rw (to_bracket inner t bs)
       (ap (further (length inner)) (blank_at inner bs)))
 
-  run_cut : (text : List ℕ) (supers : List (List ℕ)) → HasSuperblanks dialect text supers →
+  pub run_cut : (text : List ℕ) (supers : List (List ℕ)) → HasSuperblanks dialect text supers →
       RunCut dialect text supers (blank 0 text)
   run_cut text supers (nothing e f) =
       let here : RunCut dialect [] [] (blank 0 []) =

@@ -32,7 +32,7 @@ steps_first : (first : List Read → Step) (read : Read) (reads : List Read) →
 unfolding steps
 steps_first first read reads = refl
 
-drop_after : (read : Read) (reads : List Read) (n : ℕ) → 0 < n →
+pub drop_after : (read : Read) (reads : List Read) (n : ℕ) → 0 < n →
     drop (pred n) reads ≡ drop n (read ∷ reads)
 drop_after read reads zero h = absurd (omega arith)
 drop_after read reads (suc n) h = refl

@@ -29,6 +29,8 @@ pub mod Sound
 pub mod Spelling
 pub mod Supers
 pub mod Crossing
+pub mod Copying
 pub mod Each
 pub mod Laws
 pub mod Pieces
+pub mod ReadOn

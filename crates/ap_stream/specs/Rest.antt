@@ -64,7 +64,8 @@ cut_twice (Malformed EmptyWord place) = refl
 cut_twice (Limit kind place) = refl
 cut_twice Memory = refl
 
-cut_stop : (own stop : Option StreamFault) → cut_option (or_else own (stop_at Cut stop))
+-- where the text was cut, no unfinished item is left
+pub cut_stop : (own stop : Option StreamFault) → cut_option (or_else own (stop_at Cut stop))
     ≡ cut_option (or_else own (stop_at Clean stop))
 cut_stop (Some fault) stop = refl
 cut_stop None None = refl

@@ -117,7 +117,7 @@ pub(crate) struct Crossed {
 }
 
 /// How many of the bytes are such within a unit.
-fn unit_run(dialect: Dialect, mode: Mode, bytes: &[u8]) -> Crossed
+pub(crate) fn unit_run(dialect: Dialect, mode: Mode, bytes: &[u8]) -> Crossed
     ensures most { result.count ≤ length bytes.now }
     ensures crossing { crossing dialect mode (take result.count bytes.now) ≡ Some result.mode }
 {

@@ -6,7 +6,7 @@ ghost use Rattle.ap_stream.specs.Seen.{front_of};
 /// What bytes that may go on begin with: the start of a character, or nothing that begins one, or a
 /// character and the number of its bytes.
 #[derive(Clone, Copy, Debug, PartialEq, Eq)]
-pub(crate) enum Decoded {
+pub enum Decoded {
     Part,
     NotChar,
     Char { letter: char, size: usize },
@@ -139,7 +139,7 @@ fn decode4(a: u8, bytes: &[u8]) -> Decoded
 /// The character at the front of bytes that may go on, by the table of well-formed sequences of the
 /// Unicode Standard.
 #[tactic(auto, unfolding(crate::specs::Chars::char_at))]
-pub(crate) fn decode(bytes: &[u8]) -> Decoded
+pub fn decode(bytes: &[u8]) -> Decoded
     ensures { front_of result ≡ char_at bytes.now }
 {
     match bytes {

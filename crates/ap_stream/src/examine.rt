@@ -160,7 +160,7 @@ fn starts_escape(bytes: &[u8]) -> bool
 }
 
 /// Whether the dialect has units or chunks.
-fn has_units(dialect: Dialect) -> bool
+pub(crate) fn has_units(dialect: Dialect) -> bool
     ensures { result ≡ units_test dialect }
 {
     !matches!(dialect, Dialect::Raw | Dialect::Generated)
@@ -229,7 +229,7 @@ fn is_braced(dialect: Dialect) -> bool
 }
 
 /// What a `$` shows.
-fn see_dollar(dialect: Dialect, at: Spot) -> Seen
+pub(crate) fn see_dollar(dialect: Dialect, at: Spot) -> Seen
     ensures { result ≡ dollar_seen dialect at }
 {
     if is_braced(dialect) {

@@ -1,6 +1,7 @@
 ghost use Rattle.ap_stream.specs.Limits.{LimitsAre};
 ghost use Rattle.ap_stream.specs.Laws.{ReadsBack, ReadsWords, ChunksReadBack, ChunksAreWritten, WordsAreSpelt};
 ghost use Rattle.ap_stream.specs.Pieces.{TextsJoin, OneList, ReadTextsHave, EachKeeps, KeptTwice, ScanFinds};
+ghost use Rattle.ap_stream.specs.ReadOn.{PiecesAreRead, EachIsPieces};
 
 /// The numbers of the limits. It is a statement alone and does nothing.
 pub fn limits()
@@ -70,4 +71,17 @@ pub fn superblanks_are_kept_twice()
 /// statement alone and does nothing.
 pub fn superblanks_are_scanned()
     ensures { ScanFinds }
+{}
+
+/// The law that a text that is a row of pieces of a dialect is read by it to its end, or to an item
+/// over the limit: no piece of it is malformed. It is a statement alone and does nothing.
+pub fn pieces_are_read()
+    ensures { PiecesAreRead }
+{}
+
+/// The law that a tool that takes each item by itself, and makes no superblank of a unit, writes a
+/// row of pieces, whatever stops its reading, and up to a fault of its own. It is a statement alone
+/// and does nothing.
+pub fn each_gives_pieces()
+    ensures { EachIsPieces }
 {}

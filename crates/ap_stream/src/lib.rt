@@ -4,8 +4,10 @@
 
 mod blank;
 mod chunks;
+mod copying;
 mod crossing;
-mod decode;
+/// The character at the front of bytes that may go on.
+pub mod decode;
 mod dialect;
 mod each;
 mod examine;
@@ -23,20 +25,22 @@ mod stage;
 mod staged;
 mod supers;
 mod unit;
+mod whole;
 mod words;
 mod write;
 
 pub use blank::Blank;
+pub use copying::{ByUnit, Copies};
 pub use dialect::Dialect;
 pub use each::{Each, UnitWriter};
 pub use fault::{LimitKind, MalformedKind, StageFault, StreamFault};
 pub use handler::{Handler, Turn};
 pub use item::{Character, Chunk, Content, Inner, Item, Read};
 pub use laws::{
-    chunks_can_be_written, chunks_read_back, each_item_keeps_superblanks, limits,
-    one_list_of_superblanks, read_texts_have_superblanks, superblanks_are_kept_twice,
-    superblanks_are_scanned, superblanks_of_texts_joined, units_are_words, units_read_back,
-    words_are_spelt,
+    chunks_can_be_written, chunks_read_back, each_gives_pieces, each_item_keeps_superblanks,
+    limits, one_list_of_superblanks, pieces_are_read, read_texts_have_superblanks,
+    superblanks_are_kept_twice, superblanks_are_scanned, superblanks_of_texts_joined,
+    units_are_words, units_read_back, words_are_spelt,
 };
 pub use names::Names;
 pub use pipe::Pipe;

@@ -134,6 +134,33 @@ impl Reader {
         self.held.len()
     }
 
+    /// Its dialect.
+    pub(crate) fn dialect(&self) -> Dialect
+        ensures { result ≡ self.now.dialect }
+    {
+        self.dialect
+    }
+
+    /// Whether it stands between two items: it holds nothing, and has answered no fault.
+    pub(crate) fn is_between(&self) -> bool
+        ensures held { result ≡ true → self.now.held ≡ [] }
+        ensures fault { result ≡ true → self.now.fault ≡ None }
+    {
+        self.held.is_empty() && self.fault.is_none()
+    }
+
+    /// Passes over so many bytes, which it doesn't look at.
+    pub(crate) fn pass(&mut self, count: usize)
+        requires { self.old.held ≡ [] }
+        ensures held { self.new.held ≡ [] }
+        ensures place { self.new.place ≡ counted (self.old.place + count) }
+        ensures counts { counted self.old.place ≡ self.old.place }
+        ensures dialect { self.new.dialect ≡ self.old.dialect }
+        ensures fault { self.new.fault ≡ self.old.fault }
+    {
+        self.place = place_after(self.place, count as u64);
+    }
+
     /// Takes one more byte, and doesn't look at it yet.
     fn push(&mut self, byte: u8) -> Result<(), StreamFault>
         requires going { self.old.fault ≡ None }

@@ -5,7 +5,9 @@ ghost use Rattle.ap_stream.specs.declared.TheConstants.{SPAN_MAX, UNIT_MAX};
 ghost use Rattle.ap_stream.specs.Told.{Told, Ending, Clean, Cut, silent, behind, ends_in, Begins};
 ghost use Rattle.ap_stream.specs.Rest.{rest_of, held_of, rest_at_fault, rest_at_cut, rest_pending_first};
 ghost use Rattle.ap_stream.specs.Sound.{May, measure};
+ghost use Rattle.ap_stream.specs.Copying.{IsOpen, IsIdle};
 
+use crate::copying::{ByUnit, Copies, copied_run, give_first};
 use crate::dialect::Dialect;
 use crate::fault::{StageFault, StreamFault};
 use crate::handler::{Handler, Turn};
@@ -16,6 +18,12 @@ use ap_symbol::Bytes;
 use std::alloc::Global;
 use std::marker::Model;
 
+/// The most bytes that are copied at once.
+const COPIED_AT_ONCE: usize = 4096;
+
+/// Once so many bytes are pending, nothing more is given by itself.
+const GIVEN_AT_ONCE: usize = 4096;
+
 /// A stage over bytes, made of a handler over whole items. It reads by a reader of its dialect, and
 /// lets the handler work only while nothing is pending.
 #[derive(Drop)]
@@ -25,6 +33,8 @@ pub struct Staged<H: Handler + Drop> {
     out: Bytes,
     /// The bytes of `out` before it are given.
     from: usize,
+    /// Room for what is given by itself.
+    room: Bytes,
     /// What the reader stopped at.
     stop: Option<StreamFault>,
     finished: bool,
@@ -77,6 +87,7 @@ impl<H: Handler + Drop> Staged<H> {
             handler,
             out: Bytes::new(alloc),
             from: 0,
+            room: Bytes::new(alloc),
             stop: None,
             finished: false,
             ended: false,
@@ -232,6 +243,208 @@ impl<H: Handler + Drop> Staged<H> {
                 }
             },
         }
+    }
+}
+
+impl<H: Copies + Drop> Staged<H> {
+    /// Nothing is pending, begun or held, and more may come.
+    fn is_free(&self) -> bool
+        ensures { result ≡ true → IsIdle H.finished H.count self.now }
+    {
+        self.fault.is_none()
+            && !self.finished
+            && self.from == self.out.as_slice().len()
+            && self.reader.is_between()
+            && self.handler.is_free()
+    }
+
+    /// Copies what stands at the front of the piece and is copied, however the text goes on, where
+    /// nothing is pending, begun or held. Answers how many bytes; where that is 0, nothing was
+    /// changed.
+    fn copy(&mut self, piece: &[u8]) -> usize
+        ensures none { result ≡ 0 → self.new ≡ self.old }
+        ensures count { result ≤ length piece.now }
+        ensures ended { self.new.ended ≡ self.old.ended }
+        ensures going { 0 < result → (self.old.fault ≡ None) × (self.new.fault ≡ None) }
+        ensures rest { 0 < result → (x : List ℕ) (e : Ending) →
+            rest_of H.work self.old (take result piece.now ++ x) e ≡ rest_of H.work self.new x e }
+        ensures held { held_of H.held self.new ≡ held_of H.held self.old }
+        ensures bounded { 0 < result → (held_of H.held self.new ≤ SPAN_MAX + UNIT_MAX + 2)
+            × (length self.new.pending ≤ SPAN_MAX + UNIT_MAX + 2) }
+    {
+        let most = piece.len().min(COPIED_AT_ONCE);
+        let count = copied_run(&piece[..most]);
+        if count == 0 || !self.is_free() {
+            return 0;
+        }
+        self.out.clear();
+        self.from = 0;
+        match self.out.extend(&piece[..count]) {
+            Ok(()) => {}
+            Err(_) => return 0,
+        }
+        self.reader.pass(count);
+        count
+    }
+
+    /// As `take`, but what only gives itself is copied by runs.
+    pub fn take_copying(&mut self, piece: &[u8]) -> Result<usize, StageFault>
+        requires { self.old.ended ≡ false }
+        ensures count { IfOk result (λ n. n ≤ length piece.now) }
+        ensures rest { IfOk result (λ n. (x : List ℕ) (e : Ending) →
+            rest_of H.work self.old (take n piece.now ++ x) e ≡ rest_of H.work self.new x e) }
+        ensures zero { result ≡ Ok 0 → self.new.pending ≡ [] → piece.now ≡ [] }
+        ensures held { IfOk result
+            (λ n. held_of H.held self.new ≤ held_of H.held self.old + n) }
+        ensures rank { result ≡ Ok 0 → length self.old.pending < length self.new.pending →
+            held_of H.held self.new < held_of H.held self.old }
+        ensures open { self.new.ended ≡ false }
+        ensures no_fault { OnOk result (self.new.fault ≡ None) }
+        ensures fault { IfErr result (λ f. self.new.fault ≡ Some f) }
+        ensures cause { IfErr result (λ f. f ≢ StreamFault.Memory → self.old.fault ≡ None →
+            (n : ℕ) × (n ≤ length piece.now) × ((x : List ℕ) (e : Ending) →
+            rest_of H.work self.old (take n piece.now ++ x) e ≡ ends_in self.new.pending f)) }
+        ensures whole { IfErr result (λ f. self.old.fault ≡ None → (place : ℕ) →
+            f ≢ StreamFault.Malformed MalformedKind.Unfinished place) }
+        ensures front { OnErr result (self.old.fault ≡ None → (x : List ℕ) (e : Ending) →
+            Begins self.new.pending (rest_of H.work self.old (piece.now ++ x) e).text) }
+        ensures stays { (f : StreamFault) → self.old.fault ≡ Some f →
+            (result ≡ Err f) × (self.new ≡ self.old) }
+        ensures bounded { (held_of H.held self.new ≤ SPAN_MAX + UNIT_MAX + 2)
+            × (length self.new.pending ≤ SPAN_MAX + UNIT_MAX + 2) }
+    {
+        let count = self.copy(piece);
+        if count > 0 {
+            return Ok(count);
+        }
+        self.take(piece)
+    }
+}
+
+impl<H: ByUnit + Drop> Staged<H> {
+    /// Lets the room of what was given go.
+    fn begin(&mut self)
+        requires { IsIdle H.finished H.count self.old }
+        ensures same { self.new ≡ self.old }
+        ensures bounded { (held_of H.held self.new ≤ SPAN_MAX + UNIT_MAX + 2)
+            × (length self.new.pending ≤ SPAN_MAX + UNIT_MAX + 2) }
+    {
+        self.out.clear();
+        self.from = 0;
+    }
+
+    /// Works on what stands at the front of the piece and gives a text by itself, however the text
+    /// goes on. Answers how many bytes that was.
+    fn advance(&mut self, piece: &[u8]) -> Result<usize, StageFault>
+        requires { IsOpen H.finished H.count self.old }
+        ensures count { IfOk result (λ n. n ≤ length piece.now) }
+        ensures rest { IfOk result (λ n. (x : List ℕ) (e : Ending) →
+            rest_of H.work self.old (take n piece.now ++ x) e ≡ rest_of H.work self.new x e) }
+        ensures free { OnOk result (IsOpen H.finished H.count self.new) }
+        ensures ended { self.new.ended ≡ self.old.ended }
+        ensures held { OnOk result (H.held self.new.handler ≡ H.held self.old.handler) }
+        ensures none { result ≡ Ok 0 → self.new.pending ≡ self.old.pending }
+        ensures err { IfErr result (λ f. (f ≡ StreamFault.Memory) × (self.new.fault ≡ Some f)
+            × (self.new.pending ≡ self.old.pending)) }
+        ensures bounded { (held_of H.held self.new ≤ SPAN_MAX + UNIT_MAX + 2)
+            × (length self.new.pending ≤ SPAN_MAX + UNIT_MAX + 2) }
+    {
+        if self.out.as_slice().len() >= GIVEN_AT_ONCE {
+            return Ok(0);
+        }
+        self.room.clear();
+        let dialect = self.reader.dialect();
+        let count = match give_first(&mut self.handler, dialect, piece, &mut self.room) {
+            Ok(count) => count,
+            Err(_) => {
+                self.fault = Some(StreamFault::Memory);
+                return Err(StreamFault::Memory);
+            }
+        };
+        if count == 0 {
+            return Ok(0);
+        }
+        match self.out.extend(self.room.as_slice()) {
+            Ok(()) => {}
+            Err(_) => {
+                self.fault = Some(StreamFault::Memory);
+                return Err(StreamFault::Memory);
+            }
+        }
+        self.reader.pass(count);
+        Ok(count)
+    }
+
+    /// Works on what stands in the piece and gives a text by itself, up to what doesn't. Answers how
+    /// many bytes that was.
+    fn go_over(&mut self, piece: &[u8]) -> Result<usize, StageFault>
+        requires idle { IsIdle H.finished H.count self.old }
+        requires open { self.old.ended ≡ false }
+        ensures count { IfOk result (λ n. n ≤ length piece.now) }
+        ensures rest { IfOk result (λ n. (x : List ℕ) (e : Ending) →
+            rest_of H.work self.old (take n piece.now ++ x) e ≡ rest_of H.work self.new x e) }
+        ensures free { OnOk result (IsOpen H.finished H.count self.new) }
+        ensures ended { self.new.ended ≡ false }
+        ensures held { OnOk result (H.held self.new.handler ≡ H.held self.old.handler) }
+        ensures none { result ≡ Ok 0 → self.new.pending ≡ [] }
+        ensures err { IfErr result (λ f. (f ≡ StreamFault.Memory) × (self.new.fault ≡ Some f)) }
+        ensures front { OnErr result ((x : List ℕ) (e : Ending) →
+            Begins self.new.pending (rest_of H.work self.old (piece.now ++ x) e).text) }
+        ensures bounded { (held_of H.held self.new ≤ SPAN_MAX + UNIT_MAX + 2)
+            × (length self.new.pending ≤ SPAN_MAX + UNIT_MAX + 2) }
+    {
+        self.begin();
+        let mut used = 0;
+        while used < piece.len() {
+            let count = match self.advance(&piece[used..]) {
+                Ok(count) => count,
+                Err(fault) => return Err(fault),
+            };
+            if count == 0 {
+                return Ok(used);
+            }
+            used += count;
+        }
+        Ok(used)
+    }
+
+    /// As `take`, but units and what only gives itself are worked on as they stand in the piece.
+    pub fn take_units(&mut self, piece: &[u8]) -> Result<usize, StageFault>
+        requires { self.old.ended ≡ false }
+        ensures count { IfOk result (λ n. n ≤ length piece.now) }
+        ensures rest { IfOk result (λ n. (x : List ℕ) (e : Ending) →
+            rest_of H.work self.old (take n piece.now ++ x) e ≡ rest_of H.work self.new x e) }
+        ensures zero { result ≡ Ok 0 → self.new.pending ≡ [] → piece.now ≡ [] }
+        ensures held { IfOk result
+            (λ n. held_of H.held self.new ≤ held_of H.held self.old + n) }
+        ensures rank { result ≡ Ok 0 → length self.old.pending < length self.new.pending →
+            held_of H.held self.new < held_of H.held self.old }
+        ensures open { self.new.ended ≡ false }
+        ensures no_fault { OnOk result (self.new.fault ≡ None) }
+        ensures fault { IfErr result (λ f. self.new.fault ≡ Some f) }
+        ensures cause { IfErr result (λ f. f ≢ StreamFault.Memory → self.old.fault ≡ None →
+            (n : ℕ) × (n ≤ length piece.now) × ((x : List ℕ) (e : Ending) →
+            rest_of H.work self.old (take n piece.now ++ x) e ≡ ends_in self.new.pending f)) }
+        ensures whole { IfErr result (λ f. self.old.fault ≡ None → (place : ℕ) →
+            f ≢ StreamFault.Malformed MalformedKind.Unfinished place) }
+        ensures front { OnErr result (self.old.fault ≡ None → (x : List ℕ) (e : Ending) →
+            Begins self.new.pending (rest_of H.work self.old (piece.now ++ x) e).text) }
+        ensures stays { (f : StreamFault) → self.old.fault ≡ Some f →
+            (result ≡ Err f) × (self.new ≡ self.old) }
+        ensures bounded { (held_of H.held self.new ≤ SPAN_MAX + UNIT_MAX + 2)
+            × (length self.new.pending ≤ SPAN_MAX + UNIT_MAX + 2) }
+    {
+        if !self.is_free() {
+            return self.take(piece);
+        }
+        let used = match self.go_over(piece) {
+            Ok(used) => used,
+            Err(fault) => return Err(fault),
+        };
+        if used > 0 {
+            return Ok(used);
+        }
+        self.take(piece)
     }
 }
 

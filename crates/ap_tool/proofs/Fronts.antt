@@ -19,7 +19,7 @@ use Rattle.ap_tool.specs.Rows.{Stage}
 use Rattle.ap_tool.specs.Gives.{Gives, Streams, Lists, Stores, Nothing, gives_of, Making}
 use Rattle.ap_tool.specs.Listing.{IsListed}
 use Rattle.ap_tool.specs.Reading.{Flaw, TooLong, OfDictionary, OfCompiled, OfRules, status_of_flaw}
-use Rattle.ap_tool.specs.Stream.{Always, Flows}
+use Rattle.ap_tool.specs.Stream.{Always, Flows, FlowsOrStops}
 use Rattle.ap_tool.specs.Compiling.{StoresOrStops}
 use Rattle.ap_tool.specs.Answer.{IsRun, IsCommandAnswer, IsAnswer}
 use Rattle.ap_tool.specs.Account.{GivesFront, StoresWhole, StreamsFront, OnAccepted}
@@ -129,11 +129,17 @@ module _ (words : List (List ℕ)) (command : Command) (before after : Outside) 
   store-broken out making status e (inr (inl s)) = not-fault status out e s.status_is
   store-broken out making status e (inr (inr m)) = not-memory status e m.memory
 
+  stream-broken : (stages : List Stage) (status : Status) → status ≡ WriteFault →
+      FlowsOrStops stages before.source after.source before.sink after.sink status →
+      StreamsFront stages before after
+  stream-broken stages status e (inl f) = stream-front stages status f
+  stream-broken stages status e (inr u) = not-memory status e u.memory
+
   run-broken : (g : Gives) (status : Status) → status ≡ WriteFault →
       IsRun words g before after status → GivesFront g before after
       × StoresWhole words g before.files after.files
   run-broken (Streams stages) status e r =
-      (stream-front stages status r.1, ap (λ (x : FilesStanding). x.contents) r.0)
+      (stream-broken stages status e r.1, ap (λ (x : FilesStanding). x.contents) r.0)
   run-broken (Lists text) status e r =
       (list-front text status r.2, ap (λ (x : FilesStanding). x.contents) r.0)
   run-broken (Stores out making) status e r = store-broken out making status e r.1
@@ -171,9 +177,15 @@ module _ (words : List (List ℕ)) (command : Command) (before after : Outside) 
   store-starved out making status e (inr (inl s)) = inl s.unwritten
   store-starved out making status e (inr (inr m)) = inl m.unwritten
 
+  stream-starved : (stages : List Stage) (status : Status) →
+      FlowsOrStops stages before.source after.source before.sink after.sink status →
+      (after.sink ≡ before.sink) ⊎ StreamsFront stages before after
+  stream-starved stages status (inl f) = inr (stream-front stages status f)
+  stream-starved stages status (inr u) = inl u.unwritten
+
   run-starved : (g : Gives) (status : Status) → status ≡ Memory → IsRun words g before after status
       → (after.sink ≡ before.sink) ⊎ GivesFront g before after
-  run-starved (Streams stages) status e r = inr (stream-front stages status r.1)
+  run-starved (Streams stages) status e r = stream-starved stages status r.1
   run-starved (Lists text) status e r = inr (list-front text status r.2)
   run-starved (Stores out making) status e r = store-starved out making status e r.1
   run-starved Nothing status e r = absurd r

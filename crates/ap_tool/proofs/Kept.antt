@@ -12,19 +12,17 @@ use Rattle.ap_pipe.specs.declared.round.Outcome.TheVariants as outcome
 use Rattle.ap_pipe.specs.declared.station.RowFault.{RowFault}
 use Rattle.ap_pipe.specs.Row.{RowTold, last_fault, meaning}
 use Rattle.ap_pipe.specs.Flow.{WentThrough, Came, IsTaken}
-use Rattle.ap_tool.specs.Said.{Said}
 use Rattle.ap_tool.specs.declared.status.Status.{Status}
 use Rattle.ap_tool.specs.declared.status.Status.TheVariants.{Done, ReadFault, WriteFault, FileFault, BadDictionary, BadRules, BadCompiled, Limit, Memory}
 use Rattle.ap_tool.specs.declared.words.Command.{Command}
 use Rattle.ap_tool.specs.Words.{command_of, files_of}
 use Rattle.ap_tool.specs.Outside.{Outside}
-use Rattle.ap_tool.specs.Rows.{Stage, Meaning, AreJoined, stage_reads, row_reads, row_writes, EachKeepsSuperblanks}
+use Rattle.ap_tool.specs.Rows.{Stage, Meaning, TextKind, PlainText, StreamText, AreJoined, ReadAsWritten, HaveSame, KeepsAs, KeptTo, KeptInside, AreMeanings, stage_reads, stage_writes, row_reads, row_writes, EachKeepsSuperblanks}
 use Rattle.ap_tool.specs.Gives.{Gives, Streams, Lists, Stores, Nothing, gives_of}
 use Rattle.ap_tool.specs.Reading.{Flaw, TooLong, OfDictionary, OfCompiled, OfRules, status_of_flaw}
-use Rattle.ap_tool.specs.Stream.{status_at, status_of_outcome}
+use Rattle.ap_tool.specs.Stream.{status_at, status_of_outcome, FlowsOrStops}
 use Rattle.ap_tool.specs.Answer.{IsRun, IsCommandAnswer, IsAnswer}
 use Rattle.ap_tool.specs.Account.{StreamsSuperblanks, GivesSuperblanks, OnAccepted}
-use Rattle.ap_tool.proofs.Fitting.{streams-joined}
 use Rattle.ap_tool.proofs.Flowing.{no-more}
 use Rattle.ap_tool.proofs.Reasons.{Refused, Unloaded, Flawed, Starved, refused-so, by-command}
 
@@ -41,22 +39,92 @@ none-own None n (Some f) e =
     absurd (let x : Some (record { stage = n; fault = f }) ≡ None = e in cc)
 none-own None n None e = refl
 
+-- what a stage gives has the superblanks of what it reads, where neither is a plain text
+keeps-at : (from to : TextKind) (m : Meaning) (x : List ℕ) → KeepsAs from to m →
+    (m x Whole).fault ≡ None → HaveSame from to x (m x Whole).text
+keeps-at (StreamText a) (StreamText b) m x k e = k x e
+keeps-at (StreamText a) PlainText m x k e = tt
+keeps-at PlainText to m x k e = tt
+
+-- and so has what the next one gives of it
+kept-as : (from written read to : TextKind) (x y z : List ℕ) → ReadAsWritten written read →
+    HaveSame from written x y → HaveSame read to y z → HaveSame from to x z
+kept-as (StreamText a) (StreamText b) (StreamText c) (StreamText d) x y z j h k =
+    kept_twice a c d x y z (subst (λ w. HaveSameSuperblanks a w x y) (sym j) h) k
+kept-as (StreamText a) (StreamText b) (StreamText c) PlainText x y z j h k = tt
+kept-as (StreamText a) (StreamText b) PlainText to x y z j h k = absurd j
+kept-as (StreamText a) PlainText read to x y z j h k = absurd j
+kept-as PlainText written read to x y z j h k = tt
+
 -- a row of stages keeps superblanks
 row-keeps : (n : ℕ) (stages : List Stage) (ms : List Meaning) (x : List ℕ) → AreJoined stages →
     EachKeepsSuperblanks stages ms → (meaning n ms x Whole).fault ≡ None →
-    HaveSameSuperblanks (row_reads stages) (row_writes stages) x (meaning n ms x Whole).text
+    HaveSame (row_reads stages) (row_writes stages) x (meaning n ms x Whole).text
 row-keeps n [] ms x j k e = absurd j
 row-keeps n (s ∷ ss) [] x j k e = absurd k
-row-keeps n (s ∷ []) (m ∷ []) x j k e = k.0 x (none-own None n (m x Whole).fault e)
+row-keeps n (s ∷ []) (m ∷ []) x j k e =
+    keeps-at (stage_reads s) (stage_writes s) m x k.0 (none-own None n (m x Whole).fault e)
 row-keeps n (s ∷ []) (m ∷ l ∷ ms) x j k e = absurd k.1
 row-keeps n (s ∷ t ∷ ss) (m ∷ ms) x j k e =
     let own = none-own (meaning (suc n) ms (m x Whole).text Whole).fault n (m x Whole).fault e in
     let behind = none-behind (meaning (suc n) ms (m x Whole).text Whole).fault n
     (m x Whole).fault e in
-    kept_twice (stage_reads s) (stage_reads t) (row_writes (t ∷ ss)) x (m x Whole).text
-    (meaning n (m ∷ ms) x Whole).text
-    (subst (λ d. HaveSameSuperblanks (stage_reads s) d x (m x Whole).text) (sym j.0) (k.0 x own))
+    kept-as (stage_reads s) (stage_writes s) (stage_reads t) (row_writes (t ∷ ss)) x
+    (m x Whole).text (meaning n (m ∷ ms) x Whole).text j.0
+    (keeps-at (stage_reads s) (stage_writes s) m x k.0 own)
     (row-keeps (suc n) (t ∷ ss) ms (m x Whole).text j.1 k.1 behind)
+
+-- what is written in a dialect is read in it
+as-read : (from written read : TextKind) (x y : List ℕ) → ReadAsWritten written read →
+    HaveSame from written x y → HaveSame from read x y
+as-read (StreamText a) (StreamText b) (StreamText c) x y j h =
+    subst (λ w. HaveSameSuperblanks a w x y) (sym j) h
+as-read (StreamText a) (StreamText b) PlainText x y j h = absurd j
+as-read (StreamText a) PlainText read x y j h = absurd j
+as-read PlainText written read x y j h = tt
+
+-- what the last stage reads has the superblanks of what goes into the first
+kept-to : (n : ℕ) (from written : TextKind) (first x : List ℕ) (s : Stage) (ss : List Stage)
+    (ms : List Meaning) → ReadAsWritten written (stage_reads s) → HaveSame from written first x →
+    AreJoined (s ∷ ss) → EachKeepsSuperblanks (s ∷ ss) ms → (meaning n ms x Whole).fault ≡ None →
+    KeptTo from first (s ∷ ss) ms x
+kept-to n from written first x s ss [] r h j k e = absurd k
+kept-to n from written first x s [] (m ∷ ms) r h j k e =
+    as-read from written (stage_reads s) first x r h
+kept-to n from written first x s (t ∷ ss) (m ∷ ms) r h j k e =
+    let own = none-own (meaning (suc n) ms (m x Whole).text Whole).fault n (m x Whole).fault e in
+    let behind = none-behind (meaning (suc n) ms (m x Whole).text Whole).fault n
+    (m x Whole).fault e in
+    kept-to (suc n) from (stage_writes s) first (m x Whole).text t ss ms j.0
+    (kept-as from written (stage_reads s) (stage_writes s) first x (m x Whole).text r h
+    (keeps-at (stage_reads s) (stage_writes s) m x k.0 own)) j.1 k.1 behind
+
+-- what is read in a dialect was written in it
+as-written : (written read to : TextKind) (x y : List ℕ) → ReadAsWritten written read →
+    HaveSame read to x y → HaveSame written to x y
+as-written (StreamText a) (StreamText b) (StreamText c) x y j h =
+    subst (λ w. HaveSameSuperblanks w c x y) j h
+as-written (StreamText a) (StreamText b) PlainText x y j h = tt
+as-written (StreamText a) PlainText to x y j h = absurd j
+as-written PlainText read to x y j h = tt
+
+kept-inside : (n : ℕ) (stages : List Stage) (ms : List Meaning) (x : List ℕ) → AreJoined stages →
+    EachKeepsSuperblanks stages ms → (meaning n ms x Whole).fault ≡ None → KeptInside stages ms x
+kept-inside n [] ms x j k e = tt
+kept-inside n (s ∷ []) ms x j k e = tt
+kept-inside n (s ∷ t ∷ []) ms x j k e = tt
+kept-inside n (s ∷ t ∷ u ∷ ss) [] x j k e = tt
+kept-inside n (s ∷ t ∷ u ∷ ss) (m ∷ []) x j k e = tt
+kept-inside n (s ∷ t ∷ u ∷ ss) (m ∷ l ∷ ms) x j k e =
+    let d = (m x Whole).text in
+    let y = (l d Whole).text in
+    let behind = none-behind (meaning (suc n) (l ∷ ms) d Whole).fault n (m x Whole).fault e in
+    let own = none-own (meaning (suc (suc n)) ms y Whole).fault (suc n) (l d Whole).fault behind in
+    let last = none-behind (meaning (suc (suc n)) ms y Whole).fault (suc n) (l d Whole).fault
+    behind in
+    kept-to (suc (suc n)) (stage_writes s) (stage_writes t) d y u ss ms j.1.0
+    (as-written (stage_writes s) (stage_reads t) (stage_writes t) d y j.0
+    (keeps-at (stage_reads t) (stage_writes t) l d k.1.0 own)) j.1.1 k.1.1 last
 
 not-fault : {A : Type 0} (status : Status) (file : ℕ) → status ≡ Done → status ≡ FileFault file → A
 not-fault status file e f = let x : Done ≡ FileFault file = sym e ∙ f in cc
@@ -81,11 +149,12 @@ not-done n fault.Memory e = cc
 
 module _ (words : List (List ℕ)) (command : Command) (before after : Outside) where
   -- all was put of what the row gives
-  went-kept : (stages : List Stage) (ms : List Meaning) (input : List ℕ) → AreJoined stages →
-      EachKeepsSuperblanks stages ms → IsTaken before.source after.source input Clean →
+  went-kept : (stages : List Stage) (ms : List Meaning) (input : List ℕ) →
+      AreMeanings stages ms → AreJoined stages → EachKeepsSuperblanks stages ms →
+      IsTaken before.source after.source input Clean →
       WentThrough (meaning 1 ms) input Clean before.sink after.sink outcome.Done →
       StreamsSuperblanks stages before after
-  went-kept stages ms input j k taken w =
+  went-kept stages ms input mean j k taken w =
       let all : meaning 1 ms input Whole ≡ record { text = w.text; fault = None } =
       ap (λ x. meaning 1 ms x Whole) (sym (append-nil input))
       ∙ w.told [] Whole (no-more Clean) in
@@ -94,36 +163,45 @@ module _ (words : List (List ℕ)) (command : Command) (before after : Outside) 
         taken = taken;
         text = w.text;
         put = record { put = w.put; calm = w.calm };
-        kept = subst (λ (t : RowTold). HaveSameSuperblanks (row_reads stages) (row_writes stages)
+        kept = subst (λ (t : RowTold). HaveSame (row_reads stages) (row_writes stages)
             input t.text) all (row-keeps 1 stages ms input j k (ap (λ (t : RowTold). t.fault) all));
+        meanings = ms;
+        mean = mean;
+        inside = kept-inside 1 stages ms input j k (ap (λ (t : RowTold). t.fault) all);
       }
 
   came-kept : (stages : List Stage) (ms : List Meaning) (input : List ℕ) (intake : Intake)
-      (o : Outcome) → Done ≡ status_of_outcome o → AreJoined stages → EachKeepsSuperblanks stages ms
+      (o : Outcome) → Done ≡ status_of_outcome o → AreMeanings stages ms → AreJoined stages →
+      EachKeepsSuperblanks stages ms
       → IsTaken before.source after.source input intake →
       Came (meaning 1 ms) input intake before.sink after.sink o →
       StreamsSuperblanks stages before after
-  came-kept stages ms input intake outcome.Done e j k taken c =
-      went-kept stages ms input j k
+  came-kept stages ms input intake outcome.Done e mean j k taken c =
+      went-kept stages ms input mean j k
       (subst (λ i. IsTaken before.source after.source input i) c.1 taken)
       (subst (λ i. WentThrough (meaning 1 ms) input i before.sink after.sink
       outcome.Done) c.1 c.0)
-  came-kept stages ms input intake outcome.ReadFault e j k taken c =
+  came-kept stages ms input intake outcome.ReadFault e mean j k taken c =
       absurd (let x : Done ≡ ReadFault = e in cc)
-  came-kept stages ms input intake outcome.WriteFault e j k taken c =
+  came-kept stages ms input intake outcome.WriteFault e mean j k taken c =
       absurd (let x : Done ≡ WriteFault = e in cc)
-  came-kept stages ms input intake outcome.InputTooLong e j k taken c = absurd (cc)
-  came-kept stages ms input intake (outcome.Fault n f) e j k taken c = not-done n f e
+  came-kept stages ms input intake outcome.InputTooLong e mean j k taken c = absurd (cc)
+  came-kept stages ms input intake (outcome.Fault n f) e mean j k taken c = not-done n f e
 
-  run-kept : (said : List Said) (g : Gives) (status : Status) → g ≡ gives_of command said →
-      status ≡ Done → IsRun words g before after status → GivesSuperblanks g before after
-  run-kept said (Streams stages) status g e r =
-      came-kept stages r.1.meanings r.1.went.input r.1.went.intake r.1.outcome
-      (sym e ∙ r.1.status_is) (streams-joined command said stages g) r.1.keeps r.1.went.taken
-      r.1.went.came
-  run-kept said (Lists text) status g e r = tt
-  run-kept said (Stores out making) status g e r = tt
-  run-kept said Nothing status g e r = tt
+  stream-kept : (stages : List Stage) (status : Status) → status ≡ Done →
+      FlowsOrStops stages before.source after.source before.sink after.sink status →
+      StreamsSuperblanks stages before after
+  stream-kept stages status e (inl f) =
+      came-kept stages f.meanings f.went.input f.went.intake f.outcome (sym e ∙ f.status_is)
+      f.mean f.joined f.keeps f.went.taken f.went.came
+  stream-kept stages status e (inr u) = not-memory status e u.memory
+
+  run-kept : (g : Gives) (status : Status) → status ≡ Done → IsRun words g before after status →
+      GivesSuperblanks g before after
+  run-kept (Streams stages) status e r = stream-kept stages status e r.1
+  run-kept (Lists text) status e r = tt
+  run-kept (Stores out making) status e r = tt
+  run-kept Nothing status e r = tt
 
   unrefused : {A : Type 0} (status : Status) → status ≡ Done →
       Refused words before.files after.files (files_of command) status → A
@@ -142,7 +220,7 @@ module _ (words : List (List ℕ)) (command : Command) (before after : Outside) 
         said = p.said;
         opened = p.opened;
         given =
-            run-kept p.said (gives_of command p.said) status refl e p.ran;
+            run-kept (gives_of command p.said) status e p.ran;
       }
   answer-kept status e (inr (inr i)) = not-memory status e i.memory
 

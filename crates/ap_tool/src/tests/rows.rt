@@ -22,7 +22,7 @@ const Q: &str =
     "<dictionary>\n<alphabet>abcdefghijklmnopqrstuvwxyz</alphabet>\n<sdefs><sdef n=\"det\"/></sdefs>\n<section id=\"main\" type=\"postblank\">\n<e><p><l>l'</l><r>el<s n=\"det\"/></r></p></e>\n</section>\n</dictionary>\n";
 
 /// An entry with an empty left side.
-const E: &str =
+pub(super) const E: &str =
     "<dictionary>\n<section id=\"m\" type=\"standard\">\n<e><i>a</i></e>\n<e><p><l></l><r>x</r></p></e>\n</section>\n</dictionary>\n";
 
 /// Two words with other words, one of them empty.
@@ -62,15 +62,21 @@ const MONO: &str =
 const V: &str =
     "<dictionary>\n<sdefs><sdef n=\"n\"/></sdefs>\n<section id=\"main\" type=\"standard\">\n<e><p><l>dog<s n=\"n\"/></l><r>perro<s n=\"n\"/></r></p></e>\n<e><p><l>dog<s n=\"n\"/></l><r>can<s n=\"n\"/></r></p></e>\n</section>\n</dictionary>\n";
 
+/// A dictionary of generation.
+const GEN: &str =
+    "<dictionary>\n<sdefs><sdef n=\"n\"/><sdef n=\"m\"/><sdef n=\"sg\"/><sdef n=\"pl\"/><sdef n=\"det\"/>\n<sdef n=\"adj\"/><sdef n=\"pr\"/><sdef n=\"sent\"/></sdefs>\n<pardefs>\n<pardef n=\"num\"><e><p><l></l><r><s n=\"sg\"/></r></p></e>\n<e><p><l>s</l><r><s n=\"pl\"/></r></p></e></pardef>\n</pardefs>\n<section id=\"main\" type=\"standard\">\n<e><p><l>perro</l><r>perro<s n=\"n\"/><s n=\"m\"/></r></p><par n=\"num\"/></e>\n<e><p><l>gato</l><r>gato<s n=\"n\"/><s n=\"m\"/></r></p><par n=\"num\"/></e>\n<e><p><l>negro</l><r>negro<s n=\"adj\"/><s n=\"m\"/></r></p><par n=\"num\"/></e>\n<e><p><l>el</l><r>el<s n=\"det\"/></r></p></e>\n<e><p><l><a/>de</l><r>de<s n=\"pr\"/></r></p></e>\n<e><p><l>.</l><r>.<s n=\"sent\"/></r></p></e>\n</section>\n</dictionary>\n";
+
 /// A dictionary of post-generation.
 const POST: &str =
     "<dictionary>\n<section id=\"main\" type=\"standard\">\n<e><p><l><a/>de<b/>el</l><r>del</r></p></e>\n</section>\n</dictionary>\n";
 
-/// Rule files: an undefined name, no rules at all, and one fault each.
+/// Rule files: an undefined name, no rules at all, of both forms, and one fault each.
 const FR: &str =
     "<interchunk>\n<section-rules><rule>\n<pattern><pattern-item n=\"nope\"/></pattern>\n<action></action>\n</rule></section-rules>\n</interchunk>\n";
 
 const T2: &str = "<interchunk></interchunk>";
+
+const T3: &str = "<postchunk></postchunk>";
 
 const G1: &str =
     "<interchunk><section-rules><rule><pattern></pattern><action></action></rule></section-rules></interchunk>";
@@ -97,6 +103,13 @@ const TD: &str =
 
 const TL: &str =
     "<transfer default=\"lu\">\n<section-def-cats><def-cat n=\"nom\"><cat-item tags=\"n.*\"/></def-cat></section-def-cats>\n<section-def-attrs><def-attr n=\"num\"><attr-item tags=\"sg\"/><attr-item tags=\"pl\"/></def-attr></section-def-attrs>\n<section-def-macros><def-macro n=\"many\" npar=\"1\">\n<let><clip pos=\"1\" side=\"tl\" part=\"num\"/><lit-tag v=\"pl\"/></let>\n</def-macro></section-def-macros>\n<section-rules><rule>\n<pattern><pattern-item n=\"nom\"/></pattern>\n<action><call-macro n=\"many\"><with-param pos=\"1\"/></call-macro>\n<out><lu><get-case-from pos=\"1\"><clip pos=\"1\" side=\"tl\" part=\"lem\"/></get-case-from>\n<clip pos=\"1\" side=\"tl\" part=\"tags\"/></lu></out></action>\n</rule></section-rules>\n</transfer>\n";
+
+/// Rules of interchunk and of postchunk, each of which lets two change places.
+const T2S: &str =
+    "<interchunk>\n<section-def-cats><def-cat n=\"sn\"><cat-item tags=\"SN.*\"/></def-cat>\n<def-cat n=\"sv\"><cat-item tags=\"SV\"/></def-cat></section-def-cats>\n<section-rules><rule>\n<pattern><pattern-item n=\"sn\"/><pattern-item n=\"sv\"/></pattern>\n<action><out><chunk><clip pos=\"2\" part=\"whole\"/></chunk><b pos=\"1\"/>\n<chunk><clip pos=\"1\" part=\"whole\"/></chunk></out></action>\n</rule></section-rules>\n</interchunk>\n";
+
+const T3S: &str =
+    "<postchunk>\n<section-def-cats><def-cat n=\"swap\"><cat-item name=\"swap\"/></def-cat></section-def-cats>\n<section-rules><rule>\n<pattern><pattern-item n=\"swap\"/></pattern>\n<action><out><lu><clip pos=\"2\" part=\"whole\"/></lu><b pos=\"1\"/>\n<lu><clip pos=\"1\" part=\"whole\"/></lu></out></action>\n</rule></section-rules>\n</postchunk>\n";
 
 /// A compiled file: one word, with its tag.
 const C: &str =
@@ -161,9 +174,13 @@ pub(super) fn files_of(alloc: Global, number: u64) -> Result<MemFiles, Fail> {
         ("BI", BI),
         ("MONO", MONO),
         ("V", V),
+        ("GEN", GEN),
         ("POST", POST),
         ("FR", FR),
         ("T2", T2),
+        ("T3", T3),
+        ("T2S", T2S),
+        ("T3S", T3S),
         ("G1", G1),
         ("G2", G2),
         ("G3", G3),
@@ -197,7 +214,7 @@ pub(super) fn check_over(
     let [_, take, put] = row.failing;
     let input = Vec::from_slice(alloc, row.input.as_bytes())?;
     let mut source = MemSource::new(input, cut.max(1), call_of(alloc, take)?);
-    let mut sink = MemSink::new(alloc, 1000, call_of(alloc, put)?, 0)?;
+    let mut sink = MemSink::new(alloc, 2000, call_of(alloc, put)?, 0)?;
     let mut err = MemSink::new(alloc, 1000, Vec::new(alloc), 0)?;
     let status = apertium(
         alloc,

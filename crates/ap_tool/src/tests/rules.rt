@@ -38,12 +38,6 @@ fn rule_files_are_refused(rt: HostRuntime) -> Result<(), Fail> {
             1,
             "apertium: G3: line 1: rule fault 6 Misplaced\n",
         ),
-        refused(
-            "interchunk T2",
-            13,
-            1,
-            "apertium: T2: line 1: rule fault 13 Unsupported\n",
-        ),
     ] {
         check(&rt, rt.alloc(), &row, 4)?;
     }

@@ -38,6 +38,15 @@ fn other_words_are_no_command(rt: HostRuntime) -> Result<(), Fail> {
         "transfer -b P Q",
         "interchunk P P",
         "postchunk -a",
+        "run MONO BI T1 T2 T3 GEN",
+        "run MONO BI T1 T2 T3 GEN POST POST",
+        "run MONO BI T1 T2 T3 GEN -a",
+        "run -B 0 MONO BI T1 T2 T3 GEN POST",
+        "run -B 08 MONO BI T1 T2 T3 GEN POST",
+        "run -B +8 MONO BI T1 T2 T3 GEN POST",
+        "run -B 1048577 MONO BI T1 T2 T3 GEN POST",
+        "run -B 18446744073709551617 MONO BI T1 T2 T3 GEN POST",
+        "run -B MONO BI T1 T2 T3 GEN POST",
     ] {
         let row = case(words, "saw", NONE, Status::Usage, "", "apertium: usage\n");
         check(&rt, rt.alloc(), &row, 4)?;

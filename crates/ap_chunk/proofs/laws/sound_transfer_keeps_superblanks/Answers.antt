@@ -1,4 +1,4 @@
-use Rattle.ap_chunk.proofs.SoundKept.{sound_gives_written, sound_transfer_keeps}
+use Rattle.ap_chunk.proofs.StagesKept.{sound_gives_written, sound_transfer_keeps}
 use Rattle.ap_chunk.proofs.laws.sound_transfer_keeps_superblanks.Goals as goal
 
 pub returns-clause-gives : goal.returns-clause-gives

@@ -1,4 +1,4 @@
-use Rattle.ap_chunk.proofs.TransferKept.{transfer_keeps}
+use Rattle.ap_chunk.proofs.StagesKept.{transfer_keeps}
 use Rattle.ap_chunk.proofs.laws.transfer_keeps_superblanks.Goals as goal
 
 pub returns : goal.returns

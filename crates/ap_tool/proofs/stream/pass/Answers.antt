@@ -4,9 +4,9 @@ use Rattle.ap_tool.proofs.Flowing.{flows-by, flows-told}
 use Rattle.ap_tool.proofs.stream.pass.Goals as goal
 
 pub returns-clause-flows : goal.returns-clause-flows
-returns-clause-flows g c =
-    λ stages mean keeps. flows-by stages (map any_rest c.args.row) _ _ _ _ c.stream_row.result
-    c.status_of.result mean keeps c.stream_row.ensures c.status_of.ensures
+returns-clause-flows g c = λ stages row.
+    flows-by stages c.args.row _ _ _ _ c.stream_row.result c.status_of.result row
+    c.stream_row.ensures c.status_of.ensures
 
 pub returns-clause-told : goal.returns-clause-told
 returns-clause-told g c =

@@ -1,0 +1,11 @@
+pub mod Least
+pub mod Splitting
+pub mod Walking
+pub mod Steps
+pub mod ListedWords
+pub mod Assembling
+pub mod Plains
+pub mod PartWords
+pub mod Exactly
+pub mod Keeps
+pub mod Unknowns

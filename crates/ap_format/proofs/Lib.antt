@@ -1,0 +1,9 @@
+pub mod Runs
+pub mod Cuts
+pub mod Bare
+pub mod Moving
+pub mod BareBlanks
+pub mod RetTurns
+pub mod Texts
+pub mod ReadBack
+pub mod PlainLaws

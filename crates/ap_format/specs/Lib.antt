@@ -1,0 +1,5 @@
+pub mod Pieces
+pub mod Deformatted
+pub mod Standing
+pub mod Reformatted
+pub mod Laws

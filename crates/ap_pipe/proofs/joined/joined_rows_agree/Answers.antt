@@ -1,0 +1,5 @@
+use Rattle.ap_pipe.proofs.JoinedRows.{joined_rows_agree}
+use Rattle.ap_pipe.proofs.joined.joined_rows_agree.Goals as goal
+
+pub returns : goal.returns
+returns c = joined_rows_agree
