@@ -15,8 +15,6 @@ mod patterns;
 mod postchunk;
 mod search;
 mod tags;
-#[cfg(test)]
-mod tests;
 mod transfer;
 mod unmatched;
 mod words;
