@@ -6,8 +6,11 @@ mod blanks;
 mod copied;
 mod cutter;
 mod deformat;
+mod given;
+mod items;
 mod laws;
 mod reformat;
+mod reformatter;
 #[cfg(test)]
 mod tests;
 

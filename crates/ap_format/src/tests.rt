@@ -1,7 +1,7 @@
 ghost use Rattle.std.specs.Prelude.{◌≡◌, false};
 
-use crate::{Destxt, Retxt};
-use ap_stream::{Finish, MalformedKind, Pipe, Stage, StageFault};
+use crate::{Destxt, Retxt, RetxtWork};
+use ap_stream::{Dialect, Finish, MalformedKind, Pipe, Stage, StageFault, Staged};
 use ap_symbol::Bytes;
 use std::alloc::Global;
 use std::test::Fail;
@@ -102,6 +102,55 @@ fn a_text_comes_back(rt: HostRuntime) -> Result<(), Fail> {
             &mut back,
         )?;
         assert_eq!(rt; back.as_slice(), text.as_bytes());
+    }
+    Ok(())
+}
+
+#[test]
+fn an_item_is_given_in_any_pieces(rt: HostRuntime) -> Result<(), Fail> {
+    let alloc = rt.alloc();
+    let text = "a  b[\n]c\\[x\\] [<b>]\\^d[\\]\\\\]e [] f[\u{E9}]\\\u{1F600}*/ [x]";
+    for size in [1, 2, 3, 5, 64] {
+        let mut back = Bytes::new(alloc);
+        run(
+            alloc,
+            &mut Retxt::new(alloc),
+            text.as_bytes(),
+            size,
+            &mut back,
+        )?;
+        assert_eq!(
+            rt;
+            back.as_slice(),
+            "a  b\nc[x] <b>^d]\\e  f\u{E9}\u{1F600}*/ x".as_bytes()
+        );
+    }
+    Ok(())
+}
+
+#[test]
+fn runs_give_what_single_items_give(rt: HostRuntime) -> Result<(), Fail> {
+    let alloc = rt.alloc();
+    let texts = [
+        b"ab  [x]c d]e".as_slice(),
+        b"a b[\n]c\\".as_slice(),
+        b"ab [x\xFF]".as_slice(),
+        b"ab \xE9\x41".as_slice(),
+        b"[ab]\\[c [\\]d".as_slice(),
+        b"[]{".as_slice(),
+        b"\\\xF0\x9F\x98\x80 \\a\t\r\n[]".as_slice(),
+    ];
+    for text in texts {
+        for size in [1, 2, 3, 5, 64] {
+            let mut made = Bytes::new(alloc);
+            let ends = run(alloc, &mut Retxt::new(alloc), text, size, &mut made);
+            let work = RetxtWork::new(alloc);
+            let mut items = Staged::new(alloc, Dialect::Generated, work);
+            let mut singly = Bytes::new(alloc);
+            let ends_singly = run(alloc, &mut items, text, size, &mut singly);
+            assert_eq!(rt; ends, ends_singly);
+            assert_eq!(rt; made.as_slice(), singly.as_slice());
+        }
     }
     Ok(())
 }
