@@ -1,10 +1,10 @@
 -- What stands at the front of a generated text and gives a text by itself.
-use Rattle.std.specs.Prelude.{◌≡◌, ◌≢◌, ℕ, zero, suc, ◌+◌, ◌<◌, ◌≤◌, List, [], ◌∷◌, ◌++◌, take, drop, length, Bool, true, false, cond, not, ◌||◌, eqb, ltb, Some, refl, encode_utf8, if◌then◌else◌}
+use Rattle.std.specs.Prelude.{◌≡◌, ◌≢◌, ℕ, zero, suc, ◌+◌, ◌<◌, ◌≤◌, List, [], ◌∷◌, ◌++◌, take, drop, length, Bool, true, false, cond, not, ◌&&◌, ◌||◌, eqb, ltb, Some, refl, encode_utf8, if◌then◌else◌}
 use Rattle.std.specs.List.{list_any}
 use Rattle.std.proofs.Common.{arith, ap, sym, subst, ◌∙◌, get_or, append_assoc, length-append}
 use Rattle.std.proofs.lemmas.Bool.{ne_eqb}
 use Rattle.std.proofs.lemmas.Bool.Decides.{nat_tests}
-use Rattle.std.proofs.lemmas.List.{append-nil, length-take-le}
+use Rattle.std.proofs.lemmas.List.{append-nil, length-drop, length-take-le}
 use Rattle.std.proofs.lemmas.Str.{length-encode, len_utf8_bounds}
 use Rattle.std.proofs.Math.Seq.{drop-append_seam, take-add}
 use Rattle.ap_symbol.specs.Coded.{IsCode}
@@ -17,11 +17,11 @@ use Rattle.ap_stream.specs.Dialects.{is_reserved_generated}
 use Rattle.ap_stream.specs.Limits.{item_max, item_max_is}
 use Rattle.ap_stream.specs.Limited.{limited_decided}
 use Rattle.ap_stream.specs.Reading.{Whole, limited, plain, Reads, reads, reads_whole, read_at, followed, counted}
-use Rattle.ap_stream.specs.Stands.{InBlank, Within, begin_white, begin_bracket, begins_on, blank_first, escaped_whole, within_char}
+use Rattle.ap_stream.specs.Stands.{InBlank, Within, begin_white, begin_bracket, blank_first, escaped_whole, within_char}
 use Rattle.ap_stream.specs.Step.{nothing_part}
 use Rattle.ap_stream.specs.Told.{Told, Ending, behind}
 use Rattle.ap_stream.proofs.Cut.{char_size, char_bytes, char_code, char_cut}
-use Rattle.ap_stream.proofs.Fronts.{IsFree, alone, alone_some, free_blank, free_whole}
+use Rattle.ap_stream.proofs.Fronts.{IsFree, IsLow, same_test, alone, alone_some, free_blank, free_whole}
 use Rattle.ap_format.specs.declared.blanks.Spot.TheVariants as spot
 use Rattle.ap_format.specs.Pieces.{white_size}
 use Rattle.ap_format.specs.Reformatted.{bare_blank, bare_item, ret_of}
@@ -30,6 +30,7 @@ use Rattle.ap_format.specs.Standing.{IsWhite}
 use Rattle.ap_format.proofs.BareBlanks.{bare_same}
 use Rattle.ap_format.proofs.Cuts.{behind_behind, counted_on}
 use Rattle.ap_format.proofs.ReadBack.{blank_read}
+use Rattle.ap_format.proofs.RetTurns.{bare_short}
 use Rattle.ap_format.proofs.Runs.{white_parts, white_take}
 
 -- characters
@@ -88,12 +89,16 @@ pub plain_low : (bytes : List ℕ) → 0 < length bytes → get_or bytes 0 0 < 1
 plain_low [] some low bare = absurd (omega (arith, some))
 plain_low (b ∷ bs) some low bare = plain_at (b ∷ bs) b 1 (ascii_at b bs low) bare
 
+pub some_bytes : (bytes : List ℕ) → eqb (length bytes) 0 ≡ false → 0 < length bytes
+some_bytes [] h = absurd (cc)
+some_bytes (b ∷ bs) h = omega arith
+
 -- an escaped one
-pub plain_escaped : (bytes : List ℕ) (c n : ℕ) → 0 < length bytes → get_or bytes 0 0 ≡ 92 →
-    char_at (drop 1 bytes) ≡ Char c n →
+pub plain_escaped : (bytes : List ℕ) (n : ℕ) → 0 < length bytes → get_or bytes 0 0 ≡ 92 →
+    (c : ℕ) × (char_at (drop 1 bytes) ≡ Char c n) →
     IsPlain (take (1 + n) bytes) (unescaped (take (1 + n) bytes))
-plain_escaped [] c n some is h = absurd (omega (arith, some))
-plain_escaped (b ∷ bs) c n some is h =
+plain_escaped [] n some is h = absurd (omega (arith, some))
+plain_escaped (b ∷ bs) n some is (c, h) =
     let same : 92 ∷ encode_utf8 c ≡ take (1 + n) (b ∷ bs) =
     ap (λ (q : List ℕ). 92 ∷ q) (char_bytes bs c n h) ∙ ap (λ a. a ∷ take n bs) (sym is)
     ∙ ap (λ k. take k (b ∷ bs)) (let e : suc n ≡ 1 + n = omega arith in e) in
@@ -171,6 +176,10 @@ blank_gives p q t in_blank short h place x e =
 
 -- blanks
 
+begins_on : (p q : List ℕ) → blank_first p ≡ true → blank_first (p ++ q) ≡ true
+begins_on [] q h = absurd (cc)
+begins_on (b ∷ p) q h = h
+
 pub both_blank : (p q : List ℕ) → InBlank p → InBlank q → InBlank (p ++ q)
 both_blank p q h k = record {
   begins = begins_on p q h.begins;
@@ -213,13 +222,32 @@ char_there bytes c n h =
     ap char_at (sym (append-nil (take n bytes))) ∙ char_cut bytes [] c n h
     ∙ ap (Char c) (sym size)
 
-module _ (bytes : List ℕ) (at : ℕ) (e : Bool) (within : Within e (take at bytes) [])
-    (c n : ℕ) (h : char_at (drop at bytes) ≡ Char c n) where
+-- what a test of ASCII characters says of a character it says of its first byte
+first_test : (test : ℕ → Bool) → IsLow test → (bytes : List ℕ) (c n : ℕ) →
+    char_at bytes ≡ Char c n → test (get_or bytes 0 0) ≡ test c
+first_test test low [] c n h =
+    absurd (let fits = char_size [] c n h in omega (arith, fits.0, fits.1))
+first_test test low (b ∷ bs) c n h = same_test test low b bs c n h
+
+low_by : (v : Bool) (d : ℕ) → d < 128 → IsLow (λ b. not v && eqb b d)
+low_by true d small b high = refl
+low_by false d small b high = ne_eqb b d (λ e. omega (arith, e, small, high))
+
+module _ (bytes : List ℕ) (at : ℕ) (e : Bool) (within : Within e (take at bytes) []) (n : ℕ)
+    (c : ℕ) (h : char_at (drop at bytes) ≡ Char c n) where
   there : char_at (take n (drop at bytes)) ≡ Char c (length (take n (drop at bytes)))
   there = char_there (drop at bytes) c n h
 
-  pub closes_blank : closes e c ≡ true → InBlank (take (at + n) bytes)
-  closes_blank is =
+  closes_same : closes e (get_or (drop at bytes) 0 0) ≡ closes e c
+  closes_same = first_test (closes e) (low_by e 93 (omega arith)) (drop at bytes) c n h
+
+  escapes_same : escapes e c ≡ escapes e (get_or (drop at bytes) 0 0)
+  escapes_same =
+      sym (first_test (escapes e) (low_by e 92 (omega arith)) (drop at bytes) c n h)
+
+  pub closes_blank : closes e (get_or (drop at bytes) 0 0) ≡ true → InBlank (take (at + n) bytes)
+  closes_blank first =
+      let is : closes e c ≡ true = sym closes_same ∙ first in
       subst InBlank (sym (take-add at n bytes))
       (record {
         begins = begins_on (take at bytes) (take n (drop at bytes)) within.begins;
@@ -227,15 +255,19 @@ module _ (bytes : List ℕ) (at : ℕ) (e : Bool) (within : Within e (take at by
             ∙ rw is refl;
       })
 
-  pub goes_within : closes e c ≡ false → Within (escapes e c) (take (at + n) bytes) []
-  goes_within is =
-      subst (λ (q : List ℕ). Within (escapes e c) q []) (sym (take-add at n bytes))
-      (record {
+  pub goes_within : closes e (get_or (drop at bytes) 0 0) ≡ false →
+      Within (escapes e (get_or (drop at bytes) 0 0)) (take (at + n) bytes) []
+  goes_within first =
+      let is : closes e c ≡ false = sym closes_same ∙ first in
+      let on : Within (escapes e c) (take at bytes ++ take n (drop at bytes)) [] =
+      record {
         begins = begins_on (take at bytes) (take n (drop at bytes)) within.begins;
         part_is = nothing_part;
         on = λ x. within_char e (take at bytes) (take n (drop at bytes)) c [] within there x
             ∙ rw is refl;
-      })
+      } in
+      subst (λ v. Within v (take (at + n) bytes) []) escapes_same
+      (subst (λ (q : List ℕ). Within (escapes e c) q []) (sym (take-add at n bytes)) on)
 
 -- the bracket at the front
 pub bracket_within : (bytes : List ℕ) → 0 < length bytes → get_or bytes 0 0 ≡ 91 →
@@ -311,3 +343,28 @@ item_wrote bytes (suc k) n before after text in_blank within short h e = record 
       (blank_gives (take (suc k) bytes) (take n (drop (suc k) bytes)) text
       (in_blank (omega arith)) (omega (arith, size, within, short)) h);
 }
+
+unescaped_short : (bytes : List ℕ) → length (unescaped bytes) ≤ length bytes
+unescaped_short [] = omega arith
+unescaped_short (b ∷ bs) = by (eqb b 92)
+  where
+    by : (v : Bool) → length (if v then bs else b ∷ bs) ≤ length (b ∷ bs)
+    by true = omega arith
+    by false = omega arith
+
+pub item_short : (bytes : List ℕ) (blank n : ℕ) (before after : List ℕ) → blank ≤ length bytes →
+    n ≤ length (drop blank bytes) →
+    after ≡ (before ++ bare_blank spot.Outside (take blank bytes))
+    ++ unescaped (take n (drop blank bytes)) → length after ≤ length before + length bytes
+item_short bytes blank n before after within fits e =
+    let front = take blank bytes in
+    let letter = take n (drop blank bytes) in
+    let all = ap length e
+    ∙ length-append (before ++ bare_blank spot.Outside front) (unescaped letter) in
+    let first = length-append before (bare_blank spot.Outside front) in
+    let a = bare_short spot.Outside front in
+    let b = unescaped_short letter in
+    let f = length-take-le blank bytes within in
+    let l = length-take-le n (drop blank bytes) fits in
+    let rest = length-drop blank bytes in
+    omega (arith, all, first, a, b, f, l, rest, within, fits)

@@ -6,15 +6,19 @@ use Rattle.ap_stream.specs.declared.dialect.Dialect.{Dialect}
 use Rattle.ap_stream.specs.declared.dialect.Dialect.TheVariants.{Generated}
 use Rattle.ap_stream.specs.declared.item.Read.{Read}
 use Rattle.ap_stream.specs.declared.fault.StreamFault.{StreamFault}
+use Rattle.ap_stream.specs.declared.fault.StreamFault.TheVariants.{Memory}
 use Rattle.ap_stream.specs.Begun.{Begun}
 use Rattle.ap_stream.specs.Given.{Feeds, Shows, Ends}
 use Rattle.ap_stream.specs.Limits.{unit_max}
 use Rattle.ap_stream.specs.Reading.{Reads, reads, counted, followed, stopped, nothing, IsRead}
 use Rattle.ap_stream.specs.Told.{Told, Ending, Clean, silent, behind, ends_in}
-use Rattle.ap_format.specs.Reformatted.{bare_item}
+use Rattle.ap_stream.specs.Rest.{rest_of}
+use Rattle.ap_stream.specs.Seat.{Seat}
+use Rattle.ap_stream.proofs.Stop.{rest_at_give}
+use Rattle.ap_format.specs.Reformatted.{Reformatting, bare_item, ret_work}
 use Rattle.ap_format.specs.Giving.{ret_from, GiveText, Wrote, Unread, StopsAt, IsSound, Takes, Closes, weight, moved_fault}
 use Rattle.ap_format.proofs.Cuts.{behind_behind, counted_on}
-use Rattle.ap_format.proofs.Moved.{IsSeen, seen_moved, moved_next, moved_none, moved_seen, moved_nothing}
+use Rattle.ap_format.proofs.Moved.{IsSeen, seen_moved, moved_next, moved_none, moved_stops, moved_seen, moved_nothing}
 
 -- nothing was taken
 pub takes_none : (unread : Unread) (out : List ℕ) → Takes unread [] out out unread
@@ -167,6 +171,58 @@ module _ (passed : ℕ) (old new : Begun) (before after : Option StreamFault)
     fewer = λ more. absurd (omega (arith, more));
   }
 
+pub nil_of : (bytes : List ℕ) → length bytes ≡ 0 → bytes ≡ []
+nil_of [] h = refl
+nil_of (b ∷ bs) h = absurd (omega (arith, h))
+
+-- bytes went past it, and it holds nothing
+past_place : (passed place n : ℕ) → counted (counted (passed + n) + place)
+    ≡ counted (counted (passed + place) + n)
+past_place passed place n = omega arith
+
+pub takes_past : (passed further : ℕ) (begun : Begun) (before after : Option StreamFault)
+    (piece : List ℕ) (n : ℕ) (out into : List ℕ) → length begun.held ≡ 0 → 0 < n →
+    n ≤ length piece → Wrote (take n piece) out into → further ≡ counted (passed + n) →
+    Takes (seen_as passed begun before) (take n piece) out into (seen_as further begun after)
+takes_past passed further begun before after piece n out into empty some fits wrote is =
+    let size = length-take-le n piece fits in
+    takes_given (seen_as passed begun before) (seen_as further begun after) (take n piece) out into
+    (nil_of begun.held empty) (nil_of begun.held empty) wrote (omega (arith, size, some))
+    (ap (λ k. counted (k + begun.place)) is ∙ past_place passed begun.place n
+    ∙ ap (λ k. counted (counted (passed + begun.place) + k)) (sym size))
+
+-- the fault that a text stops at, and no other, stops it
+pub sound_stop : (unread : Unread) (given fault : StreamFault) → given ≡ fault →
+    StopsAt unread fault → unread.stop ≡ Some given → IsSound unread
+sound_stop unread given fault same stops is g there =
+    let e : Some fault ≡ Some g = ap Some (sym same) ∙ sym is ∙ there in
+    let k : fault ≡ g = cc in
+    subst (λ f. StopsAt unread f) k stops
+
+-- what stops a text stops it where it ends
+pub stops_now : (unread : Unread) (fault : StreamFault) → IsSound unread →
+    unread.stop ≡ Some fault → ret_from unread.place unread.bytes Clean ≡ ends_in [] fault
+stops_now unread fault sound is =
+    ap (λ (s : List ℕ). ret_from unread.place s Clean) (sym (append-nil unread.bytes))
+    ∙ (sound fault is).stops [] Clean
+
+pub stops_end : (passed : ℕ) (old new : Begun) (fault : StreamFault) → old.dialect ≡ Generated →
+    new.dialect ≡ old.dialect → new.held ≡ old.held → new.place ≡ old.place →
+    reads new.dialect new.place new.held ≡ stopped fault →
+    ret_from (counted (passed + old.place)) old.held Clean ≡ ends_in [] (moved_fault passed fault)
+stops_end passed old new fault is same held place stops =
+    moved_stops passed old.place old.held fault Clean (rw (same, is, held, place) at stops) refl
+
+pub over_end : (passed : ℕ) (old new : Begun) → old.dialect ≡ Generated →
+    new.dialect ≡ old.dialect → reads new.dialect new.place new.held ≡ nothing →
+    ret_from (counted (passed + new.place)) new.held Clean ≡ silent
+over_end passed old new is same none =
+    moved_nothing passed new.place new.held (rw (same, is) at none)
+
+pub not_memory : (passed : ℕ) (fault : StreamFault) → moved_fault passed fault ≢ Memory →
+    fault ≢ Memory
+not_memory passed fault differs is = differs (ap (moved_fault passed) is)
+
 -- it stopped
 module _ (passed : ℕ) (old new : Begun) (piece : List ℕ) (fault : StreamFault)
     (is : old.dialect ≡ Generated) (shows : Shows fault old piece new) where
@@ -206,3 +262,46 @@ module _ (passed : ℕ) (old new : Begun) (piece : List ℕ) (fault : StreamFaul
             omega (arith, size);
         fewer = λ more. absurd (omega (arith, more));
       }
+
+  pub stop_fits : (n : ℕ) → n ≡ length new.held - length old.held → n ≤ length piece
+  stop_fits n e = let used = used_is n e in omega (arith, used, shows.within)
+
+  pub stop_falls : (before : Option StreamFault) (given : StreamFault) (n : ℕ) → before ≡ None →
+      n ≡ length new.held - length old.held →
+      weight (seen_as passed new (Some given)) (length piece - n)
+      < weight (seen_as passed old before) (length piece)
+  stop_falls before given n none e =
+      let used = used_is n e in
+      let size = ap length shows.held ∙ length-append old.held (take shows.used piece) in
+      let taken = length-take-le shows.used piece shows.within in
+      rw none (omega (arith, used, size, taken, shows.within))
+
+-- the stage
+
+module _ (now : Seat Reformatting) (work : Reformatting) (bytes : List ℕ) (place : ℕ)
+    (out : List ℕ) (from : ℕ) (ended : Bool) (fault : Option StreamFault)
+    (view : record {
+      handler = work;
+      dialect = Generated;
+      begun = bytes;
+      place = place;
+      pending = drop from out;
+      ended = ended;
+      fault = fault;
+    } ≡ now) where
+  pub ret_at_give : (n : ℕ) (x : List ℕ) (e : Ending) →
+      behind (take n now.pending)
+      (rest_of ret_work (record {
+        handler = work;
+        dialect = Generated;
+        begun = bytes;
+        place = place;
+        pending = drop (from + n) out;
+        ended = ended;
+        fault = fault;
+      }) x e)
+      ≡ rest_of ret_work now x e
+  ret_at_give n x e =
+      rest_at_give (λ h. false) (λ h. 0) (λ h. Generated) ret_work now work
+      (record { dialect = Generated; held = bytes; place = place; looked = true; fault = None })
+      out from ended fault view n x e

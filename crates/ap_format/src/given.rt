@@ -1,5 +1,6 @@
-ghost use Rattle.std.specs.Prelude.{◌≡◌, ◌+◌, ◌++◌, ◌<◌, ◌≤◌, take, length, get_or, IfOk, OnOk};
+ghost use Rattle.std.specs.Prelude.{◌≡◌, ℕ, ◌+◌, ◌++◌, ◌<◌, ◌≤◌, take, length, get_or, IfOk, OnOk};
 ghost use Rattle.ap_stream.specs.Blanks.{closes as closes_test, escapes as escapes_test};
+ghost use Rattle.ap_stream.specs.Chars.{Char, char_at};
 ghost use Rattle.ap_stream.specs.Stands.{InBlank};
 ghost use Rattle.ap_stream.specs.declared.TheConstants.{UNIT_MAX};
 ghost use Rattle.ap_format.specs.Giving.{stands_bare, unescaped, IsPlain, GiveText, Wrote};
@@ -103,18 +104,29 @@ fn given_size(bytes: &[u8]) -> usize
     at
 }
 
-/// Whether the character ends a superblank.
-fn closes(escaped: bool, letter: char) -> bool
-    ensures { result ≡ closes_test escaped letter }
+/// How many bytes the character at the front has, if it is whole; otherwise none.
+fn whole_size(bytes: &[u8]) -> usize
+    ensures whole { 0 < result → (c : ℕ) × (char_at bytes.now ≡ Char c result) }
+    ensures within { result ≤ length bytes.now }
 {
-    !escaped && letter == ']'
+    match decode(bytes) {
+        Decoded::Char { letter: _, size } => size,
+        Decoded::Part | Decoded::NotChar => 0,
+    }
+}
+
+/// Whether the character that begins with this byte ends a superblank.
+fn closes(escaped: bool, byte: u8) -> bool
+    ensures { result ≡ closes_test escaped byte }
+{
+    !escaped && byte == b']'
 }
 
 /// Whether it escapes the next character.
-fn escapes(escaped: bool, letter: char) -> bool
-    ensures { result ≡ escapes_test escaped letter }
+fn escapes(escaped: bool, byte: u8) -> bool
+    ensures { result ≡ escapes_test escaped byte }
 {
-    !escaped && letter == '\\'
+    !escaped && byte == b'\\'
 }
 
 /// How many bytes the superblank at the front has, if it is whole; otherwise none.
@@ -127,16 +139,16 @@ fn superblank_size(bytes: &[u8]) -> usize
     let mut at = 1;
     let mut escaped = false;
     while at < bytes.len() {
-        match decode(&bytes[at..]) {
-            Decoded::Char { letter, size } => {
-                if closes(escaped, letter) {
-                    return at + size;
-                }
-                at += size;
-                escaped = escapes(escaped, letter);
-            }
-            Decoded::Part | Decoded::NotChar => return 0,
+        let behind = &bytes[at..];
+        let size = whole_size(behind);
+        if size == 0 {
+            return 0;
         }
+        if closes(escaped, behind[0]) {
+            return at + size;
+        }
+        at += size;
+        escaped = escapes(escaped, behind[0]);
     }
     0
 }
@@ -172,8 +184,8 @@ fn blank_size(bytes: &[u8]) -> usize
     at
 }
 
-/// How many bytes the character at the front has, with its escape or bare, if it is whole;
-/// otherwise none.
+/// How many bytes the plain character at the front has, escaped or bare, if it is whole; otherwise
+/// none.
 fn plain_size(bytes: &[u8]) -> usize
     ensures plain { 0 < result →
         IsPlain (take result bytes.now) (unescaped (take result bytes.now)) }
@@ -185,10 +197,11 @@ fn plain_size(bytes: &[u8]) -> usize
     if bytes[0] != b'\\' {
         return bare_size(bytes);
     }
-    match decode(&bytes[1..]) {
-        Decoded::Char { letter: _, size } => 1 + size,
-        Decoded::Part | Decoded::NotChar => 0,
+    let size = whole_size(&bytes[1..]);
+    if size == 0 {
+        return 0;
     }
+    1 + size
 }
 
 /// Appends a character without its escape.
@@ -211,12 +224,13 @@ fn give_item(bytes: &[u8], text: &mut Vec<u8>, into: &mut Bytes) -> Result<usize
     ensures short { OnOk result (length into.new ≤ length into.old + length bytes.now) }
 {
     let blank = blank_size(bytes);
-    let size = plain_size(&bytes[blank..]);
+    let behind = &bytes[blank..];
+    let size = plain_size(behind);
     if size == 0 {
         return Ok(0);
     }
     write_blank(&bytes[..blank], text, into)?;
-    write_plain(&bytes[blank..blank + size], into)?;
+    write_plain(&behind[..size], into)?;
     Ok(blank + size)
 }
 

@@ -98,16 +98,13 @@ impl Reformatter {
     {
         let before = self.reader.begun();
         match self.reader.feed(piece) {
-            Ok(Fed { used, item: None }) => Ok(used),
-            Ok(
-                Fed {
-                    used,
-                    item: Some(read),
+            Ok(Fed { used, item }) => match item {
+                None => Ok(used),
+                Some(read) => match write_bare(&read.item, &mut self.text, out) {
+                    Ok(()) => Ok(used),
+                    Err(Memory) => Err(Memory),
                 },
-            ) => {
-                write_bare(&read.item, &mut self.text, out)?;
-                Ok(used)
-            }
+            },
             Err(fault) => {
                 self.stop = Some(moved(fault, self.passed));
                 match fault {
