@@ -119,8 +119,7 @@ fn an_item_is_given_in_any_pieces(rt: HostRuntime) -> Result<(), Fail> {
             size,
             &mut back,
         )?;
-        assert_eq!(
-            rt;
+        assert_eq!(rt;
             back.as_slice(),
             "a  b\nc[x] <b>^d]\\e  f\u{E9}\u{1F600}*/ x".as_bytes()
         );
