@@ -1,17 +1,15 @@
 -- A text behind so many bytes more gives the same, and its places are so many bytes more.
-use Rattle.std.specs.Prelude.{◌≡◌, ◌≢◌, ℕ, zero, suc, ◌+◌, ◌<◌, ◌≤◌, pred, List, [], ◌∷◌, ◌++◌, length, Option, Some, None, refl}
+use Rattle.std.specs.Prelude.{◌≡◌, ◌≢◌, ℕ, zero, suc, ◌+◌, pred, List, [], ◌∷◌, Option, Some, None, refl}
 use Rattle.std.proofs.Common.{arith, ap, sym, subst, ◌∙◌}
 use Rattle.ap_stream.specs.declared.dialect.Dialect.TheVariants.{Generated}
-use Rattle.ap_stream.specs.declared.item.Item.{Item}
 use Rattle.ap_stream.specs.declared.item.Read.{Read}
 use Rattle.ap_stream.specs.declared.fault.StreamFault.{StreamFault}
 use Rattle.ap_stream.specs.declared.fault.StreamFault.TheVariants.{Malformed, Limit, Memory}
-use Rattle.ap_stream.specs.declared.fault.MalformedKind.{MalformedKind}
 use Rattle.ap_stream.specs.declared.fault.MalformedKind.TheVariants.{Unfinished, NotUtf8, Stray, BadTag, EmptyWord}
 use Rattle.ap_stream.specs.Limits.{item_max}
 use Rattle.ap_stream.specs.Reading.{First, Needs, Whole, Faulty, Last, Complete, Broken, Kind, Bad, Past, Reads, reads, walk, walked, at_end, last, limited, read_at, followed, stopped, nothing, counted, fault_at}
-use Rattle.ap_stream.specs.Told.{Told, Ending, Clean, Cut, behind, ends_in, or_else, stop_at, silent}
-use Rattle.ap_format.specs.Reformatted.{bare_item, bare_items, ret_of}
+use Rattle.ap_stream.specs.Told.{Ending, Clean, Cut, behind, ends_in, stop_at, silent}
+use Rattle.ap_format.specs.Reformatted.{bare_item, bare_items}
 use Rattle.ap_format.specs.Giving.{ret_from, moved_fault}
 
 abbrev pub moved_stop : ℕ → Option StreamFault → Option StreamFault
@@ -93,12 +91,6 @@ seen_stops Memory Cut seen = refl
 
 -- a text and what is behind its first item, so far behind the start
 module _ (by place at : ℕ) (bytes rest : List ℕ) where
-  near : Reads
-  near = reads Generated place bytes
-
-  more : Reads
-  more = reads Generated at rest
-
   pub moved_next : (read : Read) → reads Generated place bytes
       ≡ followed (Some read) (reads Generated at rest) → (e : Ending) →
       ret_from (counted (by + place)) bytes e

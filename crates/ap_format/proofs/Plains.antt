@@ -1,5 +1,5 @@
 -- What stands at the front of a generated text and gives a text by itself.
-use Rattle.std.specs.Prelude.{◌≡◌, ◌≢◌, ℕ, zero, suc, ◌+◌, ◌<◌, ◌≤◌, List, [], ◌∷◌, ◌++◌, take, drop, length, Bool, true, false, cond, not, ◌&&◌, ◌||◌, eqb, ltb, Some, refl, encode_utf8, if◌then◌else◌}
+use Rattle.std.specs.Prelude.{◌≡◌, ◌≢◌, ℕ, zero, suc, ◌+◌, ◌<◌, ◌≤◌, List, [], ◌∷◌, ◌++◌, take, drop, length, Bool, true, false, not, ◌&&◌, ◌||◌, eqb, ltb, Some, refl, encode_utf8, if◌then◌else◌}
 use Rattle.std.specs.List.{list_any}
 use Rattle.std.proofs.Common.{arith, ap, sym, subst, ◌∙◌, get_or, append_assoc, length-append}
 use Rattle.std.proofs.lemmas.Bool.{ne_eqb}
@@ -16,10 +16,10 @@ use Rattle.ap_stream.specs.Chars.{Char, char_at}
 use Rattle.ap_stream.specs.Dialects.{is_reserved_generated}
 use Rattle.ap_stream.specs.Limits.{item_max, item_max_is}
 use Rattle.ap_stream.specs.Limited.{limited_decided}
-use Rattle.ap_stream.specs.Reading.{Whole, limited, plain, Reads, reads, reads_whole, read_at, followed, counted}
+use Rattle.ap_stream.specs.Reading.{Whole, plain, Reads, reads, reads_whole, read_at, followed, counted}
 use Rattle.ap_stream.specs.Stands.{InBlank, Within, begin_white, begin_bracket, blank_first, escaped_whole, within_char}
 use Rattle.ap_stream.specs.Step.{nothing_part}
-use Rattle.ap_stream.specs.Told.{Told, Ending, behind}
+use Rattle.ap_stream.specs.Told.{Ending, behind}
 use Rattle.ap_stream.proofs.Cut.{char_size, char_bytes, char_code, char_cut}
 use Rattle.ap_stream.proofs.Fronts.{IsFree, IsLow, same_test, alone, alone_some, free_blank, free_whole}
 use Rattle.ap_format.specs.declared.blanks.Spot.TheVariants as spot

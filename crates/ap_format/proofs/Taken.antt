@@ -1,24 +1,22 @@
 -- What taking more bytes of a generated text means.
-use Rattle.std.specs.Prelude.{◌≡◌, ◌≢◌, ℕ, zero, suc, ◌+◌, ◌*◌, ◌-◌, ◌<◌, ◌≤◌, List, [], ◌∷◌, ◌++◌, take, drop, length, Bool, true, false, Option, Some, None, refl}
+use Rattle.std.specs.Prelude.{◌≡◌, ◌≢◌, ℕ, zero, suc, ◌+◌, ◌-◌, ◌<◌, ◌≤◌, List, [], ◌∷◌, ◌++◌, take, drop, length, Bool, true, false, Option, Some, None, refl}
 use Rattle.std.proofs.Common.{arith, ap, sym, subst, ◌∙◌, append_assoc, length-append}
 use Rattle.std.proofs.lemmas.List.{append-nil, length-take-le}
-use Rattle.ap_stream.specs.declared.dialect.Dialect.{Dialect}
 use Rattle.ap_stream.specs.declared.dialect.Dialect.TheVariants.{Generated}
 use Rattle.ap_stream.specs.declared.item.Read.{Read}
 use Rattle.ap_stream.specs.declared.fault.StreamFault.{StreamFault}
 use Rattle.ap_stream.specs.declared.fault.StreamFault.TheVariants.{Memory}
 use Rattle.ap_stream.specs.Begun.{Begun}
 use Rattle.ap_stream.specs.Given.{Feeds, Shows, Ends}
-use Rattle.ap_stream.specs.Limits.{unit_max}
-use Rattle.ap_stream.specs.Reading.{Reads, reads, counted, followed, stopped, nothing, IsRead}
-use Rattle.ap_stream.specs.Told.{Told, Ending, Clean, silent, behind, ends_in}
+use Rattle.ap_stream.specs.Reading.{reads, counted, stopped, nothing}
+use Rattle.ap_stream.specs.Told.{Ending, Clean, silent, behind, ends_in}
 use Rattle.ap_stream.specs.Rest.{rest_of}
 use Rattle.ap_stream.specs.Seat.{Seat}
 use Rattle.ap_stream.proofs.Stop.{rest_at_give}
 use Rattle.ap_format.specs.Reformatted.{Reformatting, bare_item, ret_work}
-use Rattle.ap_format.specs.Giving.{ret_from, GiveText, Wrote, Unread, StopsAt, IsSound, Takes, Closes, weight, moved_fault}
-use Rattle.ap_format.proofs.Cuts.{behind_behind, counted_on}
-use Rattle.ap_format.proofs.Moved.{IsSeen, seen_moved, moved_next, moved_none, moved_stops, moved_seen, moved_nothing}
+use Rattle.ap_format.specs.Giving.{ret_from, Wrote, Unread, StopsAt, IsSound, Takes, Closes, weight, moved_fault}
+use Rattle.ap_format.proofs.Cuts.{behind_behind}
+use Rattle.ap_format.proofs.Moved.{seen_moved, moved_next, moved_none, moved_stops, moved_seen, moved_nothing}
 
 -- nothing was taken
 pub takes_none : (unread : Unread) (out : List ℕ) → Takes unread [] out out unread

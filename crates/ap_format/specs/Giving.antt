@@ -5,7 +5,7 @@ use Rattle.ap_stream.specs.Dialects.{is_reserved_generated}
 use Rattle.ap_stream.specs.Limits.{item_max}
 use Rattle.ap_stream.specs.Reading.{Whole, reads, counted, plain}
 use Rattle.ap_stream.specs.Stands.{Always, blank_first}
-use Rattle.ap_stream.specs.Told.{Told, Ending, Clean, silent, behind, ends_in}
+use Rattle.ap_stream.specs.Told.{Told, Ending, Clean, behind, ends_in}
 use Rattle.ap_stream.specs.declared.dialect.Dialect.TheVariants.{Generated}
 use Rattle.ap_stream.specs.declared.fault.StreamFault.{StreamFault}
 use Rattle.ap_stream.specs.declared.fault.StreamFault.TheVariants.{Malformed, Limit, Memory}

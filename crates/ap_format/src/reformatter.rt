@@ -217,8 +217,8 @@ impl Reformatter {
 const WRITTEN_AT_ONCE: usize = 65_536;
 
 /// Goes over a piece of the text, up to its end or until many bytes are written, and answers how
-/// many bytes were taken. A fault is answered once nothing is written before it; `Memory` means want
-/// of memory.
+/// many bytes were taken. A fault is answered once nothing is written before it; `Memory` means
+/// want of memory.
 pub(crate) fn give_piece(
     reformatter: &mut Reformatter,
     piece: &[u8],

@@ -1,4 +1,4 @@
-use Rattle.std.proofs.Common.{arith, sym, ◌∙◌, ap, length, eqb}
+use Rattle.std.proofs.Common.{arith, sym, ◌∙◌}
 use Rattle.std.proofs.lemmas.List.{take_rest}
 use Rattle.ap_format.proofs.Plains.{plain_bare, plain_escaped, some_bytes}
 use Rattle.ap_format.proofs.given.plain_size.Goals as goal

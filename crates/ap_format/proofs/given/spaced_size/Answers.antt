@@ -1,4 +1,4 @@
-use Rattle.std.proofs.Common.{arith, sym, ◌∙◌}
+use Rattle.std.proofs.Common.{arith}
 use Rattle.std.proofs.lemmas.List.{take_rest}
 use Rattle.ap_stream.specs.Limits.{item_max_is}
 use Rattle.ap_format.proofs.Plains.{spaced_gives}

@@ -1,4 +1,4 @@
-use Rattle.std.proofs.Common.{ap, arith, length, length-append, refl, sym, ◌≡◌, ◌∙◌, None, Ok}
+use Rattle.std.proofs.Common.{ap, arith, length, length-append, refl, sym, ◌∙◌, Ok}
 use Rattle.ap_stream.specs.Reading.{IsRead}
 use Rattle.ap_stream.specs.declared.dialect.Dialect.TheVariants.{Generated}
 use Rattle.ap_format.specs.Giving.{Unread}

@@ -1,4 +1,4 @@
-use Rattle.std.proofs.Common.{ap, arith, length, length-append, refl, sym, take, ◌≡◌, ◌∙◌, ◌-◌, None}
+use Rattle.std.proofs.Common.{ap, arith, length, length-append, refl, ◌≡◌, ◌∙◌, ◌-◌, None}
 use Rattle.ap_stream.specs.Given.{Shows}
 use Rattle.ap_stream.specs.Reading.{IsRead}
 use Rattle.ap_stream.specs.declared.dialect.Dialect.TheVariants.{Generated}
