@@ -7,3 +7,6 @@ pub mod RetTurns
 pub mod Texts
 pub mod ReadBack
 pub mod PlainLaws
+pub mod Plains
+pub mod Moved
+pub mod Taken

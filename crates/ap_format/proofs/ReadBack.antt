@@ -226,7 +226,7 @@ blank_limited dialect p h short b x dark =
         (ap (first dialect) (sym (append-nil (p ++ b ∷ []))) ∙ always [])
         ∙ at_whole (length p) (item.Blank p) short
 
-blank_read : (dialect : Dialect) (place : ℕ) (p rest : List ℕ) → InBlank p → length p ≤ item_max →
+pub blank_read : (dialect : Dialect) (place : ℕ) (p rest : List ℕ) → InBlank p → length p ≤ item_max →
     blank_first rest ≡ false → reads dialect place (p ++ rest)
     ≡ followed (Some (read_at place (item.Blank p) (length p)))
     (reads dialect (counted (place + length p)) rest)

@@ -3,3 +3,4 @@ pub mod Deformatted
 pub mod Standing
 pub mod Reformatted
 pub mod Laws
+pub mod Giving

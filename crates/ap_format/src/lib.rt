@@ -6,8 +6,11 @@ mod blanks;
 mod copied;
 mod cutter;
 mod deformat;
+mod given;
+mod items;
 mod laws;
 mod reformat;
+mod reformatter;
 
 pub use deformat::Destxt;
 pub use laws::{destxt_is_read, plain_text_comes_back};

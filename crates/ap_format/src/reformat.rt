@@ -1,48 +1,16 @@
-ghost use Rattle.std.specs.Prelude.{◌≡◌, ℕ, ◌++◌, List, [], length, false, None, OnOk, OnErr, encode_utf8};
+ghost use Rattle.std.specs.Prelude.{◌≡◌, ℕ, ◌<◌, List, [], length, true, false, None};
 ghost use Rattle.ap_stream.specs.Each.{held_items, held_size, none_held};
 ghost use Rattle.ap_stream.specs.Told.{Ending};
 ghost use Rattle.ap_stream.specs.Rest.{rest_of, held_of, rest_at_fault, rest_at_cut, rest_pending_first};
 ghost use Rattle.ap_stream.specs.declared.dialect.Dialect.TheVariants.{Generated};
-ghost use Rattle.ap_format.specs.declared.blanks.Spot.TheVariants.{Outside};
-ghost use Rattle.ap_format.specs.Reformatted.{bare_blank, bare_item, ret_text, ret_work};
+ghost use Rattle.ap_format.specs.Reformatted.{ret_text, ret_work};
 
-use crate::blanks::{has_bracket, push_bare};
-use ap_stream::{Dialect, Finish, Handler, Item, Pipe, Read, Stage, StageFault, Staged, Turn};
+use crate::items::write_bare;
+use crate::reformatter::{Reformatter, give_piece};
+use ap_stream::{Finish, Handler, Pipe, Read, Stage, StageFault, StreamFault, Turn};
 use ap_symbol::{Bytes, Memory};
 use std::alloc::Global;
 use std::marker::Model;
-
-fn write_letter(letter: char, into: &mut Bytes) -> Result<(), Memory>
-    ensures ok { OnOk result (into.new ≡ into.old ++ encode_utf8 letter) }
-    ensures err { OnErr result (into.new ≡ into.old) }
-{
-    let mut buffer = [0; 4];
-    into.extend(letter.encode_utf8(&mut buffer).as_bytes())
-}
-
-fn write_blank(bytes: &[u8], text: &mut Vec<u8>, into: &mut Bytes) -> Result<(), Memory>
-    ensures ok { OnOk result (into.new ≡ into.old ++ bare_blank Outside bytes.now) }
-    ensures err { OnErr result (into.new ≡ into.old) }
-{
-    if !has_bracket(bytes) {
-        return into.extend(bytes);
-    }
-    text.clear();
-    push_bare(bytes, text)?;
-    into.extend(text.as_slice())
-}
-
-/// Appends what an item gives. After a refusal nothing is appended.
-fn write_bare(item: &Item, text: &mut Vec<u8>, into: &mut Bytes) -> Result<(), Memory>
-    ensures ok { OnOk result (into.new ≡ into.old ++ bare_item item.now) }
-    ensures err { OnErr result (into.new ≡ into.old) }
-{
-    match item {
-        Item::Plain(character) => write_letter(character.letter, into),
-        Item::Blank(blank) => write_blank(blank.as_slice(), text, into),
-        Item::Unit(_) | Item::Chunk(_) => Ok(()),
-    }
-}
 
 /// Lets the held item go.
 fn let_go(item: &mut Option<Read>)
@@ -51,7 +19,8 @@ fn let_go(item: &mut Option<Read>)
     *item = None;
 }
 
-/// The characters and blanks of a generated text as a plain text: a `Handler` over its items.
+/// The characters and blanks of a generated text as a plain text: a `Handler` over its items, which
+/// gives with `Staged` what `Retxt` gives.
 #[derive(Drop)]
 pub struct RetxtWork {
     item: Option<Read>,
@@ -133,19 +102,40 @@ impl Handler for RetxtWork {
 
 /// A generated text as a plain text: a `Stage` over bytes. A plain character is written without its
 /// escape. A blank is written without the first `[` and the last `]` of each superblank, and each
-/// `\` and character in one as the character.
+/// `\` and character in one as the character. What gives itself is copied by runs.
 #[derive(Drop)]
 pub struct Retxt {
-    stage: Staged<RetxtWork>,
+    reformatter: Reformatter,
+    out: Bytes,
+    /// The bytes of `out` before it are given.
+    from: usize,
+    ended: bool,
+    fault: Option<StreamFault>,
 }
 
 impl Model for Retxt {
+    ghost use Rattle.std.specs.Prelude.{◌≡◌, ◌≤◌, drop, length, false, None};
+    ghost use Rattle.ap_stream.specs.Limits.{begun_max, stage_max};
     ghost use Rattle.ap_stream.specs.Seat.{Seat};
+    ghost use Rattle.ap_stream.specs.declared.dialect.Dialect.TheVariants.{Generated};
+    ghost use Rattle.ap_format.specs.Giving.{IsSound};
     ghost use Rattle.ap_format.specs.Reformatted.{Reformatting};
 
     ghost Value = { Seat Reformatting };
 
-    ghost view = { λ r. r.stage };
+    ghost view = { λ r. record {
+      handler = record { item = None; finished = false };
+      dialect = Generated;
+      begun = r.reformatter.bytes;
+      place = r.reformatter.place;
+      pending = drop r.from r.out;
+      ended = r.ended;
+      fault = r.fault;
+    } };
+
+    ghost invariant = { λ r. (r.fault ≡ None → IsSound r.reformatter)
+        × (length r.reformatter.bytes ≤ begun_max) × (r.from ≤ length r.out)
+        × (length r.out ≤ stage_max) };
 }
 
 impl Retxt {
@@ -157,8 +147,20 @@ impl Retxt {
         ensures fault { result.fault ≡ None }
     {
         Retxt {
-            stage: Staged::new(alloc, Dialect::Generated, RetxtWork::new(alloc)),
+            reformatter: Reformatter::new(alloc),
+            out: Bytes::new(alloc),
+            from: 0,
+            ended: false,
+            fault: None,
         }
+    }
+
+    /// Nothing is pending.
+    fn is_idle(&self) -> bool
+        ensures idle { result ≡ true → self.now.pending ≡ [] }
+        ensures busy { result ≡ false → 0 < length self.now.pending }
+    {
+        self.from == self.out.as_slice().len()
     }
 }
 
@@ -174,19 +176,59 @@ impl Stage for Retxt {
     ghost fault = { λ s. s.fault };
 
     fn take(&mut self, piece: &[u8]) -> Result<usize, StageFault> {
-        self.stage.take(piece)
+        match self.fault {
+            Some(fault) => return Err(fault),
+            None => {}
+        }
+        if !self.is_idle() {
+            return Ok(0);
+        }
+        self.out.clear();
+        self.from = 0;
+        match give_piece(&mut self.reformatter, piece, &mut self.out) {
+            Ok(count) => Ok(count),
+            Err(fault) => {
+                self.out.clear();
+                self.fault = Some(fault);
+                Err(fault)
+            }
+        }
     }
 
     fn end(&mut self) -> Result<Finish, StageFault> {
-        self.stage.end()
+        match self.fault {
+            Some(fault) => return Err(fault),
+            None => {}
+        }
+        self.ended = true;
+        if !self.is_idle() {
+            return Ok(Finish::More);
+        }
+        self.out.clear();
+        self.from = 0;
+        match self.reformatter.finish(&mut self.out) {
+            Ok(()) => {
+                if self.out.as_slice().is_empty() {
+                    return Ok(Finish::Over);
+                }
+                Ok(Finish::More)
+            }
+            Err(fault) => {
+                self.out.clear();
+                self.fault = Some(fault);
+                Err(fault)
+            }
+        }
     }
 
     fn give(&mut self, into: &mut Pipe) -> usize {
-        self.stage.give(into)
+        let count = into.fill(&self.out.as_slice()[self.from..]);
+        self.from += count;
+        count
     }
 
     fn pending(&self) -> usize {
-        self.stage.pending()
+        self.out.as_slice().len() - self.from
     }
 
     ghost at_fault = { λ s f x e h. rest_at_fault ret_work s f x e h };

@@ -1,6 +1,6 @@
 use Rattle.std.proofs.Common.{sym, ◌∙◌}
 use Rattle.ap_format.proofs.BareBlanks.{bare_same}
-use Rattle.ap_format.proofs.reformat.write_blank.Goals as goal
+use Rattle.ap_format.proofs.items.write_blank.Goals as goal
 
 pub returns-then-not-has_bracket-clause-ok : goal.returns-then-not-has_bracket-clause-ok
 returns-then-not-has_bracket-clause-ok c =
