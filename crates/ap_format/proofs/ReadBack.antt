@@ -226,8 +226,8 @@ blank_limited dialect p h short b x dark =
         (ap (first dialect) (sym (append-nil (p ++ b ∷ []))) ∙ always [])
         ∙ at_whole (length p) (item.Blank p) short
 
-pub blank_read : (dialect : Dialect) (place : ℕ) (p rest : List ℕ) → InBlank p → length p ≤ item_max →
-    blank_first rest ≡ false → reads dialect place (p ++ rest)
+pub blank_read : (dialect : Dialect) (place : ℕ) (p rest : List ℕ) → InBlank p →
+    length p ≤ item_max → blank_first rest ≡ false → reads dialect place (p ++ rest)
     ≡ followed (Some (read_at place (item.Blank p) (length p)))
     (reads dialect (counted (place + length p)) rest)
 blank_read dialect place p [] h short dark =
