@@ -30,8 +30,8 @@ kept_pushed (Err x) given xs new entry e is all =
 
 -- the row of these bytes is found
 pub told_there : (given : List Symbol → List Bool) (entries : List KeptRow) (at : ℕ) (entry : KeptRow)
-    (key : List ℕ) (row : List Bool) → at < length entries → entry ≡ get_or entries at entry → entry.key.items ≡ key →
-    row ≡ entry.row.items → AreKept given entries → IsTold given key row
+    (key : List ℕ) (row : List Bool) → at < length entries → entry ≡ get_or entries at entry →
+    entry.key.items ≡ key → row ≡ entry.row.items → AreKept given entries → IsTold given key row
 told_there given entries at entry key row lt is k t all word proper e =
     let kept : IsKept given entry = all_at (IsKept given) entries at entry lt is all in
     t ∙ kept word proper (e ∙ sym k)

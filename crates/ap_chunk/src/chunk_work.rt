@@ -155,7 +155,10 @@ impl ChunkWork {
             length self.old.items ≤ span self.old.rules (self.old.items ++ xs) }
     {
         let reads = self.items.as_slice();
-        match self.search.look(&self.rules, reads, self.finished, &mut self.rows)? {
+        match self
+            .search
+            .look(&self.rules, reads, self.finished, &mut self.rows)?
+        {
             None => Ok(None),
             Some(front) => {
                 let text = take_room(self.alloc, &mut self.text);

@@ -81,11 +81,7 @@ fn push_items<'a>(
 }
 
 /// The units of transfer or interchunk that a rule is run on, where these items are the match.
-fn units_of<'a>(
-    alloc: Global,
-    reads: &'a [Read],
-    room: &mut Room,
-) -> Result<Vec<Lent<'a>>, Memory>
+fn units_of<'a>(alloc: Global, reads: &'a [Read], room: &mut Room) -> Result<Vec<Lent<'a>>, Memory>
     ensures { IfOk result (λ made. made.items ≡ map shown (matched_items reads.now)) }
 {
     let mut units = Vec::with_capacity(alloc, reads.len())?;
@@ -130,11 +126,7 @@ fn first_name<'a>(alloc: Global, reads: &'a [Read]) -> Lent<'a>
 }
 
 /// Appends words of a chunk in postchunk, as a rule is run on them.
-fn push_words<'a>(
-    alloc: Global,
-    words: &'a [Word],
-    into: &mut Vec<Lent<'a>>,
-) -> Result<(), Memory>
+fn push_words<'a>(alloc: Global, words: &'a [Word], into: &mut Vec<Lent<'a>>) -> Result<(), Memory>
     ensures { OnOk result (into.new.items ≡ into.old.items ++ map shown_word words.now) }
 {
     for word in words {

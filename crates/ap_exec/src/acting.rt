@@ -104,7 +104,8 @@ pub fn act(
     ensures refused { OnErr result (vars.new ≡ vars.old) }
 {
     let units = units_of(alloc, matched)?;
-    let given = run_rule(alloc, rules, rule, matched.chunk.is_some(), units, vars.as_slice())?;
+    let chunk = matched.chunk.is_some();
+    let given = run_rule(alloc, rules, rule, chunk, units, vars.as_slice())?;
     let Given { pieces, fresh } = given;
     let template = own_template(alloc, pieces.as_slice())?;
     vars.put(fresh);

@@ -4,9 +4,9 @@ ghost use Rattle.std.specs.List.{flat_map};
 ghost use Rattle.ap_exec.specs.Results.{Gives};
 ghost use Rattle.ap_exec.specs.Filling.{text, gap, word_marks, unit_marks, atom_marks, atoms_marks, chunk_marks, piece_marks, marks, left_over, fill_of, within_span, Appends, Writes};
 
-use crate::refusal::ExecRefusal;
 use crate::lending::lend_template;
 use crate::lent_template::{AtomHeld, LentAtom, LentPiece, LentTemplate, LentWord, PieceHeld};
+use crate::refusal::ExecRefusal;
 use crate::template::{Blanks, Template};
 use ap_stream::{Blank, Item, SPAN_MAX, push_superblanks};
 use ap_symbol::{Bytes, Memory};

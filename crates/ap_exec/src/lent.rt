@@ -56,12 +56,7 @@ impl<'a> Model for Lent<'a> {
 
 impl<'a> Lent<'a> {
     /// A unit whose target's head has so many symbols.
-    pub fn new(
-        source: Held<'a>,
-        target: Held<'a>,
-        border: usize,
-        content: &'a [Inner],
-    ) -> Lent<'a>
+    pub fn new(source: Held<'a>, target: Held<'a>, border: usize, content: &'a [Inner]) -> Lent<'a>
         requires { border ≤ length (word_in target) }
         ensures { result ≡ record {
           source = word_in source.entry;

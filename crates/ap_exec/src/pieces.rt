@@ -198,11 +198,7 @@ fn atom_in<'u>(alloc: Global, part: &'u Inner) -> Result<LentAtom<'u>, Memory>
     }
 }
 
-fn push_parts<'u>(
-    alloc: Global,
-    parts: &'u [Inner],
-    into: &mut LentAtoms<'u>,
-) -> Result<(), Memory>
+fn push_parts<'u>(alloc: Global, parts: &'u [Inner], into: &mut LentAtoms<'u>) -> Result<(), Memory>
     ensures { OnOk result (into.new ≡ into.old ++ map atom_in parts.now) }
 {
     'parts: for part in parts {

@@ -10,4 +10,4 @@ returns-then-is_same c = λ given all.
     (sym c.is_same.ensures ∙ c.if-is_same.true) in
     told_there given c.args.rows.now c.args.at c.index-rows-at.result c.args.key.now
     c.as_slice-then-is_same.result.now (omega (arith, c.if-at-rows.false))
-    c.index-rows-at.is (sym c.as_slice.ensures ∙ same) c.as_slice-then-is_same.ensures all
+    c.index-rows-at.is (sym c.as_slice.ensures.value ∙ same) c.as_slice-then-is_same.ensures.value all
