@@ -11,8 +11,6 @@ mod laws;
 mod numbers;
 mod reading;
 mod sentence;
-#[cfg(test)]
-mod tests;
 
 pub use choose::Choose;
 pub use choose_work::ChooseWork;

@@ -16,8 +16,6 @@ mod patterns;
 mod postchunk;
 mod search;
 mod tags;
-#[cfg(test)]
-mod tests;
 mod transfer;
 mod unmatched;
 mod words;

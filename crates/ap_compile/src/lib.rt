@@ -12,8 +12,6 @@ mod paradigms;
 mod places;
 mod sections;
 mod small;
-#[cfg(test)]
-mod tests;
 
 pub use compiling::{CompileRefusal, compile};
 pub use laws::{compiled_is_least, same_strings_same_compiled};

@@ -14,8 +14,6 @@ mod place;
 mod reading;
 mod rows;
 mod tags;
-#[cfg(test)]
-mod tests;
 mod unknown;
 
 pub use compounds::Compounds;

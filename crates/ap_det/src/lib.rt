@@ -8,8 +8,6 @@ mod ends;
 mod groups;
 mod places;
 mod sets;
-#[cfg(test)]
-mod tests;
 
 pub use determinising::determinise;
 pub use dfst::Dfst;

@@ -8,8 +8,6 @@ mod cutter;
 mod deformat;
 mod laws;
 mod reformat;
-#[cfg(test)]
-mod tests;
 
 pub use deformat::Destxt;
 pub use laws::{destxt_is_read, plain_text_comes_back};

@@ -9,8 +9,6 @@ mod parts;
 mod places;
 mod pretransfer;
 mod splitting;
-#[cfg(test)]
-mod tests;
 mod units;
 
 pub use first::{First, FirstWork};

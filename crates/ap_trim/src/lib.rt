@@ -9,8 +9,6 @@ mod reading;
 mod sets;
 mod states;
 mod stepping;
-#[cfg(test)]
-mod tests;
 mod trimming;
 mod union;
 mod watch;

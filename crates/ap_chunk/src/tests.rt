@@ -1,3 +1,0 @@
-mod choice;
-mod chunks;
-mod transfer;
