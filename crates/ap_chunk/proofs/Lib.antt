@@ -15,6 +15,8 @@ mod Fronts
 mod Turns
 mod UnitWords
 mod Firsts
+mod Shown
+mod Keepings
 mod ChunkWords
 mod FilledKept
 mod WordsWritten

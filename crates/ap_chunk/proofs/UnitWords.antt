@@ -1,7 +1,12 @@
 -- The word at a place of a unit.
-use Rattle.std.specs.Prelude.{◌≡◌, ℕ, suc, zero, Bool, true, false, List, [], ◌∷◌, Some, None, slice_get, refl}
+use Rattle.std.specs.Prelude.{◌≡◌, ℕ, suc, zero, Bool, true, false, List, [], ◌∷◌, Option, Some, None, Result, Ok, Err, IfOk, IfSome, slice_get, refl}
+use Rattle.std.proofs.Common.{sym, ◌∙◌}
+use Rattle.ap_symbol.specs.Rendering.{rendering}
+use Rattle.ap_symbol.specs.Words.{AreProper}
 use Rattle.ap_symbol.specs.declared.symbol.Symbol.{Symbol}
 use Rattle.ap_stream.specs.UnitBytes.{IsAt}
+use Rattle.ap_stream.specs.PlainBytes.{IsRendered}
+use Rattle.ap_chunk.specs.Kept.{IsOf}
 use Rattle.ap_chunk.specs.Parts.{word_of}
 
 there : (words : List (List Symbol)) (at : ℕ) (word : List Symbol) →
@@ -24,3 +29,21 @@ pub word_nowhere : (words : List (List Symbol)) (at : ℕ) (found : Bool) (word 
     found ≡ false → IsAt words at found word → [] ≡ word_of at words
 word_nowhere words at true word e is = absurd (cc)
 word_nowhere words at false word e is = nowhere words at is
+
+pub word_stands : (words : List (List Symbol)) (at : ℕ) (bytes : List ℕ) →
+    (is : IsRendered words at bytes) → is.word ≡ word_of at words
+word_stands words at bytes is = there words at is.word is.stands
+
+abbrev OneRendering : Type 0
+OneRendering = (a b : List Symbol) → AreProper a → AreProper b → rendering a ≡ rendering b → a ≡ b
+
+-- what was found by the bytes of a word of a unit is that word
+pub found_word : OneRendering → {W E : Type 0} (seen : W → List Symbol)
+    (words : List (List Symbol)) (at : ℕ) (bytes : List ℕ) → IsRendered words at bytes →
+    (r : Result (Option W) E) → IfOk r (λ found. IfSome found (λ w. IsOf bytes (seen w))) →
+    IfOk r (λ found. IfSome found (λ w. seen w ≡ word_of at words))
+found_word law seen words at bytes is (Ok (Some w)) of =
+    law (seen w) is.word of.proper is.proper (sym of.bytes ∙ is.rendered)
+    ∙ there words at is.word is.stands
+found_word law seen words at bytes is (Ok None) of = tt
+found_word law seen words at bytes is (Err e) of = tt

@@ -13,5 +13,6 @@ pub mod Matches
 pub mod Unmatched
 pub mod Stages
 pub mod Searching
+pub mod Kept
 pub mod Working
 pub mod Laws

@@ -11,6 +11,8 @@ use Rattle.ap_rules.specs.declared.rules.Form.{Form}
 use Rattle.ap_rules.specs.declared.rules.Form.TheVariants.{Transfer, Interchunk, Postchunk}
 use Rattle.ap_exec.specs.declared.matched.Matched.{Matched}
 use Rattle.ap_exec.specs.declared.matched.MatchedUnit.{MatchedUnit}
+use Rattle.ap_exec.specs.Acting.{shown}
+use Rattle.ap_exec.specs.Units.{Shown}
 use Rattle.ap_chunk.specs.Chunks.{first_words}
 use Rattle.ap_chunk.specs.Parts.{word_of}
 
@@ -40,6 +42,13 @@ matched_item (Chunk c) = named c.name c.content ∷ []
 
 abbrev pub matched_items : List Read → List MatchedUnit
 matched_items reads = flat_map (λ read. matched_item read.item) reads
+
+-- the same, each as a rule reads it
+abbrev pub shown_items : List Read → List Shown
+shown_items reads = flat_map (λ read. map shown (matched_item read.item)) reads
+
+abbrev pub shown_word : List Symbol → Shown
+shown_word word = shown (worded word)
 
 -- the name of a chunk, with its tags
 abbrev pub item_name : Item → List Symbol

@@ -6,6 +6,7 @@ ghost use Rattle.ap_exec.specs.Starting.{start_of};
 ghost use Rattle.ap_chunk.specs.Stages.{span, dialect_of};
 ghost use Rattle.ap_chunk.specs.Working.{chunk_work, IsFirstStep, IsFirstPlace, none_fits};
 
+use crate::kept::KeptRows;
 use crate::search::Search;
 use crate::writing::{Written, first_step};
 use ap_exec::Vars;
@@ -28,6 +29,7 @@ pub struct ChunkWork {
     vars: Vars,
     items: Queue,
     search: Search,
+    rows: KeptRows,
     finished: bool,
     text: Bytes,
 }
@@ -46,6 +48,8 @@ impl Model for ChunkWork {
     ghost use Rattle.ap_stream.specs.Reading.{IsRead};
     ghost use Rattle.ap_chunk.specs.Stages.{dialect_of};
     ghost use Rattle.ap_chunk.specs.Searching.{IsKnown};
+    ghost use Rattle.ap_chunk.specs.Kept.{AreKept};
+    ghost use Rattle.ap_chunk.specs.Tests.{row_of};
     ghost use Rattle.std.specs.Coded.{codes};
     ghost use Rattle.ap_rules.specs.contracts.statement.Statement as statement;
     ghost use Rattle.ap_chunk.specs.Working.{Working};
@@ -62,7 +66,7 @@ impl Model for ChunkWork {
     } };
 
     ghost invariant = { λ w. AllByRecursion (IsRead (dialect_of w.rules.form)) w.items
-        × IsKnown w.rules w.items w.search };
+        × (IsKnown w.rules w.items w.search × AreKept (row_of w.rules) w.rows.rows.items) };
 }
 
 impl ChunkWork {
@@ -85,6 +89,7 @@ impl ChunkWork {
             vars,
             items: Queue::new(alloc),
             search,
+            rows: KeptRows::new(alloc),
             finished: false,
             text: Bytes::new(alloc),
         })
@@ -150,7 +155,10 @@ impl ChunkWork {
             length self.old.items ≤ span self.old.rules (self.old.items ++ xs) }
     {
         let reads = self.items.as_slice();
-        match self.search.look(&self.rules, reads, self.finished)? {
+        match self
+            .search
+            .look(&self.rules, reads, self.finished, &mut self.rows)?
+        {
             None => Ok(None),
             Some(front) => {
                 let text = take_room(self.alloc, &mut self.text);

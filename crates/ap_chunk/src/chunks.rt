@@ -98,7 +98,7 @@ fn push_symbol(alloc: Global, tags: &Word, symbol: &Symbol, into: &mut Word) -> 
 fn fill_word(alloc: Global, tags: &Word, word: &Word) -> Result<Word, Memory>
     ensures { IfOk result (λ made. made ≡ fill_word tags.now word.now) }
 {
-    let mut made = Word::new(alloc);
+    let mut made = Word::with_capacity(alloc, word.len(), word.rendered().len())?;
     for symbol in word.symbols() {
         push_symbol(alloc, tags, symbol, &mut made)?;
     }

@@ -8,6 +8,7 @@ mod chunk_work;
 mod chunks;
 mod interchunk;
 mod keeping;
+mod kept;
 mod laws;
 mod matches;
 mod parts;

@@ -1,186 +1,181 @@
 //! What a match gives to a rule.
-ghost use Rattle.std.specs.Prelude.{◌≡◌, ◌++◌, ◌∷◌, [], map, IfOk, OnOk};
+ghost use Rattle.std.specs.Prelude.{◌≡◌, ◌++◌, ◌∷◌, [], List, length, map, is_some, IfOk, OnOk};
 ghost use Rattle.std.specs.List.{flat_map};
+ghost use Rattle.ap_stream.specs.declared.item.Read.{Read as ReadIs};
+ghost use Rattle.ap_exec.specs.Acting.{shown, shown_chunk, units_in};
+ghost use Rattle.ap_exec.specs.Held.{word_in};
 ghost use Rattle.ap_chunk.specs.Chunks.{first_words};
-ghost use Rattle.ap_chunk.specs.Parts.{word_of};
-ghost use Rattle.ap_chunk.specs.Matches.{translated, worded, named, item_name, first_name, matched_item, matched_items, matched_of, inner_blanks, item_blanks, blanks_of};
+ghost use Rattle.ap_chunk.specs.Matches.{translated, worded, named, item_name, first_name, matched_item, matched_items, shown_items, shown_word, matched_of, inner_blanks, item_blanks, blanks_of};
 
-use crate::parts::put_word;
-use ap_exec::{Blanks, Matched, MatchedUnit, MatchedUnits};
+use crate::parts::{Room, shared_at};
+use ap_exec::{Blanks, Held, Lent};
 use ap_rules::Form;
-use ap_stream::{Blank, Chunk, Content, Inner, Item, Names, Read, Unit};
+use ap_stream::{Blank, Chunk, Inner, Item, Read, Unit};
 use ap_symbol::{Memory, Sequence, Word};
 use std::alloc::Global;
 
-/// Appends copies of words to a unit.
-fn push_words(alloc: Global, words: &[Word], unit: &mut Unit) -> Result<(), Memory>
-    ensures { OnOk result (unit.new ≡ unit.old ++ words.now) }
+/// A unit with this target alone, all of which is head, and this content.
+fn lone<'a>(alloc: Global, target: &'a Word, content: &'a [Inner]) -> Lent<'a>
+    ensures { result ≡ shown (named target.now content.now) }
 {
-    for word in words {
-        unit.push(word.copy(alloc)?)?;
-    }
-    Ok(())
+    Lent::new(
+        Held::Made(Word::new(alloc)),
+        Held::Lent(target),
+        target.len(),
+        content,
+    )
 }
 
-/// A copy of a unit.
-fn copy_of_unit(alloc: Global, unit: &Unit, names: &mut Names) -> Result<Unit, Memory>
-    ensures { IfOk result (λ made. made ≡ unit.now) }
+/// A chunk of interchunk, as a rule is run on it.
+fn named<'a>(alloc: Global, chunk: &'a Chunk) -> Lent<'a>
+    ensures { result ≡ shown (named chunk.now.name chunk.now.content) }
 {
-    let mut first = Word::new(alloc);
-    unit.first(names, &mut first)?;
-    let words = unit.words(names)?;
-    let mut made = Unit::new(alloc, first)?;
-    push_words(alloc, &words.as_slice()[1..], &mut made)?;
-    Ok(made)
+    lone(alloc, &chunk.name, chunk.content.as_slice())
 }
 
-/// A copy of a part of a chunk.
-fn copy_of_inner(alloc: Global, part: &Inner, names: &mut Names) -> Result<Inner, Memory>
-    ensures { IfOk result (λ made. made ≡ part.now) }
+/// A unit of transfer, as a rule is run on it.
+fn translated<'a>(unit: &Unit, room: &mut Room) -> Result<Lent<'a>, Memory>
+    ensures { IfOk result (λ made. made ≡ shown (translated unit.now)) }
 {
-    match part {
-        Inner::Unit(unit) => Ok(Inner::Unit(copy_of_unit(alloc, unit, names)?)),
-        Inner::Blank(blank) => {
-            let copied = Vec::from_slice(alloc, blank.as_slice())?;
-            Ok(Inner::Blank(Blank::from_vec(copied)))
+    let source = shared_at(unit, 0, room)?;
+    let head = shared_at(unit, 1, room)?;
+    let border = head.len();
+    Ok(Lent::new(Held::Shared(source), Held::Shared(head), border, &[]))
+}
+
+/// Appends what an item gives to a rule.
+fn push_matched<'a>(
+    alloc: Global,
+    item: &'a Item,
+    room: &mut Room,
+    into: &mut Vec<Lent<'a>>,
+) -> Result<(), Memory>
+    ensures { OnOk result (into.new.items ≡ into.old.items ++ map shown (matched_item item.now)) }
+{
+    match item {
+        Item::Plain(_) | Item::Blank(_) => Ok(()),
+        Item::Unit(unit) => {
+            into.push(translated(unit, room)?)?;
+            Ok(())
+        }
+        Item::Chunk(chunk) => {
+            into.push(named(alloc, chunk))?;
+            Ok(())
         }
     }
 }
 
-/// A copy of what a chunk holds.
-fn copy_of_content(alloc: Global, parts: &[Inner], names: &mut Names) -> Result<Content, Memory>
-    ensures { IfOk result (λ made. made ≡ parts.now) }
-{
-    let mut made = Content::new(alloc);
-    for part in parts {
-        made.push(copy_of_inner(alloc, part, names)?)?;
-    }
-    Ok(made)
-}
-
-/// A chunk of interchunk, as a rule is run on it.
-fn named(alloc: Global, chunk: &Chunk, names: &mut Names) -> Result<MatchedUnit, Memory>
-    ensures { IfOk result (λ made. made ≡ named chunk.now.name chunk.now.content) }
-{
-    Ok(MatchedUnit {
-        source: Word::new(alloc),
-        head: chunk.name.copy(alloc)?,
-        queue: Word::new(alloc),
-        content: copy_of_content(alloc, chunk.content.as_slice(), names)?,
-    })
-}
-
-/// The word at a place of a unit; the empty one where there is none.
-fn word_at(alloc: Global, unit: &Unit, names: &mut Names, at: usize) -> Result<Word, Memory>
-    ensures { IfOk result (λ made. made ≡ word_of at unit.now) }
-{
-    let mut word = Word::new(alloc);
-    put_word(unit, names, at, &mut word)?;
-    Ok(word)
-}
-
-/// A unit of transfer, as a rule is run on it.
-fn translated(alloc: Global, unit: &Unit, names: &mut Names) -> Result<MatchedUnit, Memory>
-    ensures { IfOk result (λ made. made ≡ translated unit.now) }
-{
-    Ok(MatchedUnit {
-        source: word_at(alloc, unit, names, 0)?,
-        head: word_at(alloc, unit, names, 1)?,
-        queue: Word::new(alloc),
-        content: Content::new(alloc),
-    })
-}
-
-/// Appends what an item gives to a rule.
-fn push_matched(
+/// Appends what items give to a rule.
+fn push_items<'a>(
     alloc: Global,
-    item: &Item,
-    names: &mut Names,
-    into: &mut MatchedUnits,
+    reads: &'a [Read],
+    room: &mut Room,
+    into: &mut Vec<Lent<'a>>,
 ) -> Result<(), Memory>
-    ensures { OnOk result (into.new ≡ into.old ++ matched_item item.now) }
+    ensures { OnOk result (into.new.items ≡ into.old.items ++ shown_items reads.now) }
 {
-    match item {
-        Item::Plain(_) | Item::Blank(_) => Ok(()),
-        Item::Unit(unit) => into.push(translated(alloc, unit, names)?),
-        Item::Chunk(chunk) => into.push(named(alloc, chunk, names)?),
+    for read in reads {
+        push_matched(alloc, &read.item, room, into)?;
     }
+    Ok(())
 }
 
 /// The units of transfer or interchunk that a rule is run on, where these items are the match.
-fn units_of(alloc: Global, reads: &[Read], names: &mut Names) -> Result<MatchedUnits, Memory>
-    ensures { IfOk result (λ made. made ≡ matched_items reads.now) }
+fn units_of<'a>(alloc: Global, reads: &'a [Read], room: &mut Room) -> Result<Vec<Lent<'a>>, Memory>
+    ensures { IfOk result (λ made. made.items ≡ map shown (matched_items reads.now)) }
 {
-    let mut units = Sequence::new(alloc);
-    for read in reads {
-        push_matched(alloc, &read.item, names, &mut units)?;
-    }
+    let mut units = Vec::with_capacity(alloc, reads.len())?;
+    push_items(alloc, reads, room, &mut units)?;
     Ok(units)
 }
 
 /// A word of a chunk in postchunk, as a rule is run on it.
-fn worded(alloc: Global, word: &Word) -> Result<MatchedUnit, Memory>
-    ensures { IfOk result (λ made. made ≡ worded word.now) }
+fn worded<'a>(alloc: Global, word: &'a Word) -> Lent<'a>
+    ensures { result ≡ shown (worded word.now) }
 {
-    Ok(MatchedUnit {
-        source: Word::new(alloc),
-        head: word.copy(alloc)?,
-        queue: Word::new(alloc),
-        content: Content::new(alloc),
-    })
+    lone(alloc, word, &[])
 }
 
-/// The units of postchunk that a rule is run on.
-fn words_of(alloc: Global, words: &[Word]) -> Result<MatchedUnits, Memory>
-    ensures { IfOk result (λ made. made ≡ map worded words.now) }
+/// A chunk's name as a unit.
+fn chunk_name<'a>(alloc: Global, name: Held<'a>, size: usize) -> Lent<'a>
+    requires { size ≡ length (word_in name) }
+    ensures { result ≡ shown_chunk (word_in name.entry) }
 {
-    let mut units = Sequence::new(alloc);
-    for word in words {
-        units.push(worded(alloc, word)?)?;
-    }
-    Ok(units)
+    Lent::new(Held::Made(Word::new(alloc)), name, size, &[])
 }
 
-/// The name of an item that is a chunk, with its tags.
-fn item_name(alloc: Global, item: &Item) -> Result<Word, Memory>
-    ensures { IfOk result (λ made. made ≡ item_name item.now) }
+/// The name of an item that is a chunk, with its tags, as a unit.
+fn item_name<'a>(alloc: Global, item: &'a Item) -> Lent<'a>
+    ensures { result ≡ shown_chunk (item_name item.now) }
 {
     match item {
-        Item::Plain(_) | Item::Blank(_) | Item::Unit(_) => Ok(Word::new(alloc)),
-        Item::Chunk(chunk) => chunk.name.copy(alloc),
+        Item::Plain(_) | Item::Blank(_) | Item::Unit(_) => {
+            chunk_name(alloc, Held::Made(Word::new(alloc)), 0)
+        }
+        Item::Chunk(chunk) => chunk_name(alloc, Held::Lent(&chunk.name), chunk.name.len()),
     }
 }
 
-fn first_name(alloc: Global, reads: &[Read]) -> Result<Word, Memory>
-    ensures { IfOk result (λ made. made ≡ first_name reads.now) }
+fn first_name<'a>(alloc: Global, reads: &'a [Read]) -> Lent<'a>
+    ensures { result ≡ shown_chunk (first_name reads.now) }
 {
     match reads {
-        [] => Ok(Word::new(alloc)),
+        [] => chunk_name(alloc, Held::Made(Word::new(alloc)), 0),
         [first, ..] => item_name(alloc, &first.item),
     }
 }
 
-/// What a rule is run on, where these items are the match. In postchunk the words of its chunk are
-/// those.
-pub(crate) fn matched_of(
+/// Appends words of a chunk in postchunk, as a rule is run on them.
+fn push_words<'a>(alloc: Global, words: &'a [Word], into: &mut Vec<Lent<'a>>) -> Result<(), Memory>
+    ensures { OnOk result (into.new.items ≡ into.old.items ++ map shown_word words.now) }
+{
+    for word in words {
+        into.push(worded(alloc, word))?;
+    }
+    Ok(())
+}
+
+/// The units of postchunk that a rule is run on, behind the name of the chunk.
+fn words_of<'a>(
     alloc: Global,
-    form: Form,
-    reads: &[Read],
-    words: &[Word],
-    names: &mut Names,
-) -> Result<Matched, Memory>
-    requires { words.now ≡ first_words form reads.now }
-    ensures { IfOk result (λ made. made ≡ matched_of form reads.now) }
+    reads: &'a [Read],
+    words: &'a [Word],
+) -> Result<Vec<Lent<'a>>, Memory>
+    ensures { IfOk result (λ made. made.items
+        ≡ shown_chunk (first_name reads.now) ∷ map shown (map worded words.now)) }
+{
+    let mut units = Vec::new(alloc);
+    units.push(first_name(alloc, reads))?;
+    push_words(alloc, words, &mut units)?;
+    Ok(units)
+}
+
+/// Whether a chunk stands before the units that a rule is run on.
+pub(crate) fn has_chunk(form: Form) -> bool
+    ensures { (reads : List ReadIs) → result ≡ is_some (matched_of form reads).chunk }
 {
     match form {
-        Form::Transfer | Form::Interchunk => Ok(Matched {
-            chunk: None,
-            units: units_of(alloc, reads, names)?,
-        }),
-        Form::Postchunk => Ok(Matched {
-            chunk: Some(first_name(alloc, reads)?),
-            units: words_of(alloc, words)?,
-        }),
+        Form::Transfer | Form::Interchunk => false,
+        Form::Postchunk => true,
+    }
+}
+
+/// What a rule is run on, by number, where these items are the match. In postchunk the words of its
+/// chunk are those.
+pub(crate) fn lent_of<'a>(
+    alloc: Global,
+    form: Form,
+    reads: &'a [Read],
+    words: &'a [Word],
+    room: &mut Room,
+) -> Result<Vec<Lent<'a>>, Memory>
+    requires { words.now ≡ first_words form reads.now }
+    ensures { IfOk result (λ made. made.items
+        ≡ units_in (matched_of form reads.now).chunk (matched_of form reads.now).units) }
+{
+    match form {
+        Form::Transfer | Form::Interchunk => units_of(alloc, reads, room),
+        Form::Postchunk => words_of(alloc, reads, words),
     }
 }
 
@@ -188,7 +183,7 @@ pub(crate) fn matched_of(
 fn push_blank(alloc: Global, blank: &Blank, into: &mut Blanks) -> Result<(), Memory>
     ensures { OnOk result (into.new ≡ into.old ++ blank.now ∷ []) }
 {
-    into.push(Blank::from_vec(Vec::from_slice(alloc, blank.as_slice())?))
+    into.push(Blank::from_slice(alloc, blank.as_slice())?)
 }
 
 /// Appends the blanks in a chunk.

@@ -3,14 +3,17 @@ ghost use Rattle.std.specs.Prelude.{◌≡◌, ◌≢◌, ◌⊎◌, ◌+◌, �
 ghost use Rattle.ap_rules.specs.declared.rules.Rules.{Rules};
 ghost use Rattle.ap_stream.specs.declared.item.Read.{Read};
 ghost use Rattle.ap_chunk.specs.Choice.{unit_of};
+ghost use Rattle.ap_chunk.specs.Kept.{AreKept};
 ghost use Rattle.ap_chunk.specs.Live.{SomeLive};
 ghost use Rattle.ap_chunk.specs.Parts.{Part, unit, gap, wall, parts_of};
 ghost use Rattle.ap_chunk.specs.Patterns.{patterns_of};
 ghost use Rattle.ap_chunk.specs.Stages.{span};
+ghost use Rattle.ap_chunk.specs.Tests.{row_of};
 ghost use Rattle.ap_chunk.specs.Searching.{IsNext, IsWalk, IsLiveWalk, IsEnd, IsKnown, IsFront};
 
 use crate::choice::Choice;
 use crate::choosing::Choosing;
+use crate::kept::KeptRows;
 use crate::parts::{Kind, Room, look};
 use ap_rules::Rules;
 use ap_stream::Read;
@@ -119,15 +122,23 @@ impl Walk {
     }
 
     /// Looks at the next item, and answers whether it is seen together with those before it.
-    fn step(&mut self, rules: &Rules, reads: &[Read], room: &mut Room) -> Result<bool, Memory>
+    fn step(
+        &mut self,
+        rules: &Rules,
+        reads: &[Read],
+        rows: &mut KeptRows,
+        room: &mut Room,
+    ) -> Result<bool, Memory>
+        requires rows { AreKept (row_of rules.now) rows.old.rows.items }
         requires walk { IsLiveWalk (parts_of rules.now reads.now) self.old }
         requires more { self.old.seen < length reads.now }
         ensures patterns { self.new.choosing.patterns ≡ self.old.choosing.patterns }
         ensures on { result ≡ Ok true → IsWalk (parts_of rules.now reads.now) self.new }
         ensures further { result ≡ Ok true → self.new.seen ≡ self.old.seen + 1 }
         ensures ends { result ≡ Ok false → IsEnd false (parts_of rules.now reads.now) self.new }
+        ensures rows { AreKept (row_of rules.now) rows.new.rows.items }
     {
-        match look(rules, &reads[self.seen].item, room)? {
+        match look(rules, &reads[self.seen].item, rows, room)? {
             Kind::Other => Ok(false),
             Kind::Blank => Ok(self.step_blank()),
             Kind::Unit => self.step_unit(room.row.as_slice()),
@@ -146,18 +157,26 @@ impl Walk {
 
     /// Looks at items while they are seen together, and answers whether it is known that no further
     /// one is.
-    fn step_on(&mut self, rules: &Rules, reads: &[Read], room: &mut Room) -> Result<bool, Memory>
-        requires { IsWalk (parts_of rules.now reads.now) self.old }
+    fn step_on(
+        &mut self,
+        rules: &Rules,
+        reads: &[Read],
+        rows: &mut KeptRows,
+        room: &mut Room,
+    ) -> Result<bool, Memory>
+        requires walk { IsWalk (parts_of rules.now reads.now) self.old }
+        requires rows { AreKept (row_of rules.now) rows.old.rows.items }
         ensures patterns { self.new.choosing.patterns ≡ self.old.choosing.patterns }
         ensures ends { result ≡ Ok true → IsEnd false (parts_of rules.now reads.now) self.new }
         ensures all { result ≡ Ok false → IsWalk (parts_of rules.now reads.now) self.new }
         ensures at { result ≡ Ok false → self.new.seen ≡ length reads.now }
+        ensures rows { AreKept (row_of rules.now) rows.new.rows.items }
     {
         while self.is_live() {
             if self.seen == reads.len() {
                 return Ok(false);
             }
-            let on = self.step(rules, reads, room)?;
+            let on = self.step(rules, reads, rows, room)?;
             if !on {
                 return Ok(true);
             }
@@ -215,17 +234,20 @@ impl Search {
         rules: &Rules,
         reads: &[Read],
         finished: bool,
+        rows: &mut KeptRows,
     ) -> Result<Option<Front>, Memory>
-        requires { IsKnown rules.now reads.now self.old }
+        requires known { IsKnown rules.now reads.now self.old }
+        requires rows { AreKept (row_of rules.now) rows.old.rows.items }
         ensures known { IsKnown rules.now reads.now self.new }
         ensures found { IfOk result (λ look. IfSome look (IsFront finished rules.now reads.now)) }
         ensures waits { result ≡ Ok None → finished ≡ false }
         ensures all { result ≡ Ok None → span rules.now reads.now ≡ length reads.now }
         ensures grows { result ≡ Ok None → (xs : List Read) →
             length reads.now ≤ span rules.now (reads.now ++ xs) }
+        ensures rows { AreKept (row_of rules.now) rows.new.rows.items }
     {
         self.set_out();
-        let ends = self.walk.step_on(rules, reads, &mut self.room)?;
+        let ends = self.walk.step_on(rules, reads, rows, &mut self.room)?;
         if !ends && !finished {
             self.lost = false;
             return Ok(None);

@@ -13,11 +13,11 @@ ghost use Rattle.ap_chunk.specs.Working.{meant, Gave, IsRefused};
 ghost use Rattle.ap_chunk.specs.Searching.{IsTaken, IsFront};
 
 use crate::chunks::{first_words, is_overfull};
-use crate::matches::{blanks_of, matched_of};
+use crate::matches::{blanks_of, has_chunk, lent_of};
 use crate::parts::Room;
 use crate::search::Front;
 use crate::unmatched::write_unmatched;
-use ap_exec::{ExecRefusal, Template, Vars, act, fill};
+use ap_exec::{ExecRefusal, LentTemplate, Vars, act_lent, fill_lent};
 use ap_rules::Rules;
 use ap_stream::{LimitKind, Queue, Read, UNIT_MAX};
 use ap_symbol::{Bytes, Memory, Word};
@@ -31,32 +31,39 @@ pub(crate) enum Written {
 }
 
 /// The template that a rule gives for these items. Variables are left as the rule leaves them.
-fn run(
+fn run<'a>(
     alloc: Global,
     rules: &Rules,
     rule: usize,
-    reads: &[Read],
-    words: &[Word],
+    reads: &'a [Read],
+    words: &'a [Word],
     room: &mut Room,
     vars: &mut Vars,
-) -> Result<Template, ExecRefusal>
+) -> Result<LentTemplate<'a>, ExecRefusal>
     requires { words.now ≡ first_words rules.now.form reads.now }
     ensures { Ran (λ pieces. record { pieces = pieces; vars = vars.new }) result
         (act_of (plain_rules rules.now) rule (matched_of rules.now.form reads.now) vars.old) }
 {
-    let matched = matched_of(alloc, rules.form, reads, words, &mut room.names)?;
-    act(alloc, rules, rule, &matched, vars)
+    let units = lent_of(alloc, rules.form, reads, words, room)?;
+    act_lent(alloc, rules, rule, has_chunk(rules.form), units, vars)
 }
 
-/// The text of a template, filled with the blanks of these items.
-fn filled(alloc: Global, template: &Template, reads: &[Read]) -> Result<Bytes, ExecRefusal>
+/// The text of a template, filled with the blanks of these items, in the room of `text`.
+fn filled(
+    alloc: Global,
+    template: &LentTemplate<'_>,
+    reads: &[Read],
+    text: Bytes,
+) -> Result<Bytes, ExecRefusal>
+    requires { text ≡ [] }
     ensures { Ran (λ b. b) result (fill_of template.now (blanks_of reads.now)) }
 {
     let blanks = blanks_of(alloc, reads)?;
-    fill(alloc, template, &blanks)
+    fill_lent(alloc, template, &blanks, text)
 }
 
-/// What a rule gives for these items. Variables are left as the rule leaves them.
+/// What a rule gives for these items, in the room of `text`. Variables are left as the rule leaves
+/// them.
 fn output(
     alloc: Global,
     rules: &Rules,
@@ -65,13 +72,15 @@ fn output(
     words: &[Word],
     room: &mut Room,
     vars: &mut Vars,
+    text: Bytes,
 ) -> Result<Bytes, ExecRefusal>
-    requires { words.now ≡ first_words rules.now.form reads.now }
+    requires words { words.now ≡ first_words rules.now.form reads.now }
+    requires empty { text ≡ [] }
     ensures { Gave result vars.new (length reads.now)
         (rule_step rules.now rule vars.old reads.now) }
 {
     let template = run(alloc, rules, rule, reads, words, room, vars)?;
-    filled(alloc, &template, reads)
+    filled(alloc, &template, reads, text)
 }
 
 /// A step that a rule refuses.
@@ -98,12 +107,14 @@ pub(crate) fn rule_step(
     words: &[Word],
     room: &mut Room,
     vars: &mut Vars,
+    text: Bytes,
 ) -> Result<Written, Memory>
-    requires { words.now ≡ first_words rules.now.form reads.now }
+    requires words { words.now ≡ first_words rules.now.form reads.now }
+    requires empty { text ≡ [] }
     ensures { IfOk result
         (λ made. meant made vars.new ≡ rule_step rules.now rule vars.old reads.now) }
 {
-    match output(alloc, rules, rule, reads, words, room, vars) {
+    match output(alloc, rules, rule, reads, words, room, vars, text) {
         Ok(text) => {
             let count = reads.len();
             Ok(Written::Gives { count, text })
@@ -162,7 +173,7 @@ fn chosen_step(
                 return unmatched_step(alloc, rules, reads, words, room, text);
             }
             let taken = &reads[..front.taken];
-            rule_step(alloc, rules, choice.rule, taken, words, room, vars)
+            rule_step(alloc, rules, choice.rule, taken, words, room, vars, text)
         }
     }
 }

@@ -19,3 +19,4 @@ pub mod Worded
 pub mod RunningKeeps
 pub mod RunningGives
 pub mod Borderless
+pub mod Lendings

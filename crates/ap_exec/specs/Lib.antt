@@ -23,3 +23,6 @@ pub mod Beginning
 pub mod FillingLaws
 pub mod RunningLaws
 pub mod Borderless
+pub mod Wordings
+pub mod LentAtoms
+pub mod LentPieces

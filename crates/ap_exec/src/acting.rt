@@ -1,11 +1,15 @@
 //! Running a rule on a match.
-ghost use Rattle.std.specs.Prelude.{◌≡◌, length, OnErr};
+ghost use Rattle.std.specs.Prelude.{◌≡◌, OnErr, is_some};
 ghost use Rattle.ap_rules.specs.Views.{plain_rules};
-ghost use Rattle.ap_exec.specs.Acting.{act_of};
+ghost use Rattle.ap_exec.specs.Acting.{act_of, units_in};
 ghost use Rattle.ap_exec.specs.Results.{Gives};
 ghost use Rattle.ap_exec.specs.States.{overlaid};
+ghost use Rattle.ap_exec.specs.declared.matched.Matched.{Matched};
 
 use crate::beginning::{action_of, positions_of, units_of, world_of};
+use crate::lending::own_template;
+use crate::lent::Lent;
+use crate::lent_template::LentTemplate;
 use crate::matched::Matched;
 use crate::refusal::ExecRefusal;
 use crate::running::run_body;
@@ -19,25 +23,27 @@ use std::alloc::Global;
 
 /// What a run gives: its pieces, and the new values of variables.
 #[derive(Drop)]
-struct Given {
-    pieces: Template,
+struct Given<'a> {
+    pieces: LentTemplate<'a>,
     fresh: Vec<Option<Word>>,
 }
 
-/// Runs a rule, with new values beside those of the variables.
-fn run_rule(
+/// Runs a rule on these units, with the chunk before them or without, with new values beside those
+/// of the variables.
+fn run_rule<'a>(
     alloc: Global,
     rules: &Rules,
     rule: usize,
-    matched: &Matched,
+    has_chunk: bool,
+    units: Vec<Lent<'a>>,
     vars: &[Word],
-) -> Result<Given, ExecRefusal>
-    ensures { Gives (λ g. record { pieces = g.pieces; vars = overlaid vars.now g.fresh.items })
-        result (act_of (plain_rules rules.now) rule matched.now vars.now) }
+) -> Result<Given<'a>, ExecRefusal>
+    ensures { (m : Matched) → units.entry.items ≡ units_in m.chunk m.units → has_chunk ≡ is_some m.chunk →
+        Gives (λ g. record { pieces = g.pieces; vars = overlaid vars.now g.fresh.items })
+        result (act_of (plain_rules rules.now) rule m vars.now) }
 {
     let world = world_of(rules, vars);
-    let units = units_of(alloc, matched)?;
-    let here = positions_of(alloc, matched.chunk.is_some(), units.len())?;
+    let here = positions_of(alloc, has_chunk, units.len())?;
     let mut state = State {
         units,
         fresh: Vec::new(alloc),
@@ -52,6 +58,29 @@ fn run_rule(
         room: _,
     } = state;
     Ok(Given { pieces, fresh })
+}
+
+/// What a rule does to a match, as `act` says it, where the units of the match by number are these
+/// lent ones: the chunk first, where there is one. The template keeps words of the match as they
+/// stand there.
+pub fn act_lent<'a>(
+    alloc: Global,
+    rules: &Rules,
+    rule: usize,
+    has_chunk: bool,
+    units: Vec<Lent<'a>>,
+    vars: &mut Vars,
+) -> Result<LentTemplate<'a>, ExecRefusal>
+    ensures gives { (m : Matched) → units.entry.items ≡ units_in m.chunk m.units →
+        has_chunk ≡ is_some m.chunk →
+        Gives (λ pieces. record { pieces = pieces; vars = vars.new }) result
+        (act_of (plain_rules rules.now) rule m vars.old) }
+    ensures refused { OnErr result (vars.new ≡ vars.old) }
+{
+    let given = run_rule(alloc, rules, rule, has_chunk, units, vars.as_slice())?;
+    let Given { pieces, fresh } = given;
+    vars.put(fresh);
+    Ok(pieces)
 }
 
 /// What a rule does to a match: the template that it gives, and new values of the variables. Its
@@ -74,8 +103,11 @@ pub fn act(
         (act_of (plain_rules rules.now) rule matched.now vars.old) }
     ensures refused { OnErr result (vars.new ≡ vars.old) }
 {
-    let given = run_rule(alloc, rules, rule, matched, vars.as_slice())?;
+    let units = units_of(alloc, matched)?;
+    let chunk = matched.chunk.is_some();
+    let given = run_rule(alloc, rules, rule, chunk, units, vars.as_slice())?;
     let Given { pieces, fresh } = given;
+    let template = own_template(alloc, pieces.as_slice())?;
     vars.put(fresh);
-    Ok(pieces)
+    Ok(template)
 }

@@ -9,10 +9,10 @@ ghost use Rattle.ap_exec.specs.Running.{sight_of, with_var, with_part, with_plac
 ghost use Rattle.ap_exec.specs.States.{overlaid, sight, still, now};
 
 use crate::clips::{number_at, part_at};
+use crate::lent_template::{AtomHeld, LentAtom, LentPiece, LentWord, PieceHeld};
 use crate::pieces::piece_of;
 use crate::refusal::ExecRefusal;
 use crate::state::{State, View, World};
-use crate::template::{Atom, Piece};
 use crate::values::{append as append_symbols, append_to, push_value, var_at};
 use crate::writing::write_part;
 use ap_rules::{Append, Clip, Let, ModifyCase, Out, Piece as StatedPiece, Place};
@@ -191,7 +191,7 @@ fn less(room: usize, size: usize) -> Option<usize>
     }
 }
 
-fn unit_size(word: &Word) -> usize
+fn unit_size(word: &LentWord<'_>) -> usize
     ensures { result ≡ unit_size word.now }
 {
     if word.is_empty() {
@@ -201,18 +201,18 @@ fn unit_size(word: &Word) -> usize
     }
 }
 
-fn atom_size(atom: &Atom) -> usize
+fn atom_size(atom: &LentAtom<'_>) -> usize
     ensures { result ≡ atom_size atom.now }
 {
-    match atom {
-        Atom::Unit(word) => unit_size(word),
-        Atom::Slot => 0,
-        Atom::Space => 1,
+    match &atom.held {
+        AtomHeld::Unit(word) => unit_size(word),
+        AtomHeld::Slot => 0,
+        AtomHeld::Space => 1,
     }
 }
 
 /// What is left after the atoms, if that is enough.
-fn less_atoms(room: usize, atoms: &[Atom]) -> Option<usize>
+fn less_atoms(room: usize, atoms: &[LentAtom<'_>]) -> Option<usize>
     ensures { result ≡ (if nat_le (atoms_size atoms.now) room
         then something (room - atoms_size atoms.now) else nothing) }
 {
@@ -227,13 +227,13 @@ fn less_atoms(room: usize, atoms: &[Atom]) -> Option<usize>
 }
 
 /// What is left after a piece, if that is enough.
-fn less_piece(room: usize, piece: &Piece) -> Option<usize>
+fn less_piece(room: usize, piece: &LentPiece<'_>) -> Option<usize>
     ensures { result ≡ (if nat_le (piece_size piece.now) room
         then something (room - piece_size piece.now) else nothing) }
 {
-    match piece {
-        Piece::Atom(atom) => less(room, atom_size(atom)),
-        Piece::Chunk(name, atoms) => match less(room, name.rendered().len() + 4) {
+    match &piece.held {
+        PieceHeld::Atom(atom) => less(room, atom_size(atom)),
+        PieceHeld::Chunk(name, atoms) => match less(room, name.rendered().len() + 4) {
             None => None,
             Some(rest) => less_atoms(rest, atoms.as_slice()),
         },
@@ -242,9 +242,13 @@ fn less_piece(room: usize, piece: &Piece) -> Option<usize>
 
 /// Adds a piece to the output.
 #[tactic(auto, unfolding(crate::specs::Running::placed))]
-fn place(world: World<'_>, piece: Piece, state: &mut State<'_>) -> Result<(), ExecRefusal>
+fn place<'u>(
+    world: World<'_>,
+    piece: LentPiece<'u>,
+    state: &mut State<'u>,
+) -> Result<(), ExecRefusal>
     ensures { Gives (λ _. now world.entry state.new) result
-        (placed piece (now world.entry state.old)) }
+        (placed piece.entry (now world.entry state.old)) }
 {
     let _world = world;
     match less_piece(state.room, &piece) {

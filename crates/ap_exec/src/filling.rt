@@ -4,10 +4,12 @@ ghost use Rattle.std.specs.List.{flat_map};
 ghost use Rattle.ap_exec.specs.Results.{Gives};
 ghost use Rattle.ap_exec.specs.Filling.{text, gap, word_marks, unit_marks, atom_marks, atoms_marks, chunk_marks, piece_marks, marks, left_over, fill_of, within_span, Appends, Writes};
 
+use crate::lending::lend_template;
+use crate::lent_template::{AtomHeld, LentAtom, LentPiece, LentTemplate, LentWord, PieceHeld};
 use crate::refusal::ExecRefusal;
-use crate::template::{Atom, Blanks, Piece, Template};
+use crate::template::{Blanks, Template};
 use ap_stream::{Blank, Item, SPAN_MAX, push_superblanks};
-use ap_symbol::{Bytes, Memory, Word};
+use ap_symbol::{Bytes, Memory};
 use std::alloc::Global;
 
 /// The blanks that are left, and what is written.
@@ -57,7 +59,7 @@ fn put_slot(state: &mut Filling<'_>) -> Result<(), ExecRefusal>
     }
 }
 
-fn put_word(word: &Word, state: &mut Filling<'_>) -> Result<(), ExecRefusal>
+fn put_word(word: &LentWord<'_>, state: &mut Filling<'_>) -> Result<(), ExecRefusal>
     ensures { Writes result state.old state.new (word_marks word.now) }
 {
     put_text(b"^", state)?;
@@ -65,7 +67,7 @@ fn put_word(word: &Word, state: &mut Filling<'_>) -> Result<(), ExecRefusal>
     put_text(b"$", state)
 }
 
-fn put_unit(word: &Word, state: &mut Filling<'_>) -> Result<(), ExecRefusal>
+fn put_unit(word: &LentWord<'_>, state: &mut Filling<'_>) -> Result<(), ExecRefusal>
     ensures { Writes result state.old state.new (unit_marks word.now) }
 {
     if word.is_empty() {
@@ -75,17 +77,17 @@ fn put_unit(word: &Word, state: &mut Filling<'_>) -> Result<(), ExecRefusal>
     }
 }
 
-fn put_atom(atom: &Atom, state: &mut Filling<'_>) -> Result<(), ExecRefusal>
+fn put_atom(atom: &LentAtom<'_>, state: &mut Filling<'_>) -> Result<(), ExecRefusal>
     ensures { Writes result state.old state.new (atom_marks atom.now) }
 {
-    match atom {
-        Atom::Unit(word) => put_unit(word, state),
-        Atom::Slot => put_slot(state),
-        Atom::Space => put_text(b" ", state),
+    match &atom.held {
+        AtomHeld::Unit(word) => put_unit(word, state),
+        AtomHeld::Slot => put_slot(state),
+        AtomHeld::Space => put_text(b" ", state),
     }
 }
 
-fn put_atoms(atoms: &[Atom], state: &mut Filling<'_>) -> Result<(), ExecRefusal>
+fn put_atoms(atoms: &[LentAtom<'_>], state: &mut Filling<'_>) -> Result<(), ExecRefusal>
     ensures { Writes result state.old state.new (atoms_marks atoms.now) }
 {
     'atoms: for atom in atoms {
@@ -94,7 +96,11 @@ fn put_atoms(atoms: &[Atom], state: &mut Filling<'_>) -> Result<(), ExecRefusal>
     Ok(())
 }
 
-fn put_chunk(name: &Word, atoms: &[Atom], state: &mut Filling<'_>) -> Result<(), ExecRefusal>
+fn put_chunk(
+    name: &LentWord<'_>,
+    atoms: &[LentAtom<'_>],
+    state: &mut Filling<'_>,
+) -> Result<(), ExecRefusal>
     ensures { Writes result state.old state.new (chunk_marks name.now atoms.now) }
 {
     put_text(b"^", state)?;
@@ -104,16 +110,16 @@ fn put_chunk(name: &Word, atoms: &[Atom], state: &mut Filling<'_>) -> Result<(),
     put_text(b"}$", state)
 }
 
-fn put_piece(piece: &Piece, state: &mut Filling<'_>) -> Result<(), ExecRefusal>
+fn put_piece(piece: &LentPiece<'_>, state: &mut Filling<'_>) -> Result<(), ExecRefusal>
     ensures { Writes result state.old state.new (piece_marks piece.now) }
 {
-    match piece {
-        Piece::Atom(atom) => put_atom(atom, state),
-        Piece::Chunk(name, atoms) => put_chunk(name, atoms.as_slice(), state),
+    match &piece.held {
+        PieceHeld::Atom(atom) => put_atom(atom, state),
+        PieceHeld::Chunk(name, atoms) => put_chunk(name, atoms.as_slice(), state),
     }
 }
 
-fn put_pieces(pieces: &[Piece], state: &mut Filling<'_>) -> Result<(), ExecRefusal>
+fn put_pieces(pieces: &[LentPiece<'_>], state: &mut Filling<'_>) -> Result<(), ExecRefusal>
     ensures { Writes result state.old state.new (marks pieces.now) }
 {
     'pieces: for piece in pieces {
@@ -126,8 +132,8 @@ fn put_pieces(pieces: &[Piece], state: &mut Filling<'_>) -> Result<(), ExecRefus
 fn push_left_over(alloc: Global, blank: &Blank, into: &mut Bytes) -> Result<(), Memory>
     ensures { OnOk result (into.new ≡ into.old ++ left_over blank.now) }
 {
-    let copied = Vec::from_slice(alloc, blank.as_slice())?;
-    push_superblanks(&Item::Blank(Blank::from_vec(copied)), into)
+    let copied = Blank::from_slice(alloc, blank.as_slice())?;
+    push_superblanks(&Item::Blank(copied), into)
 }
 
 /// Appends the superblanks of the blanks.
@@ -159,9 +165,23 @@ fn bounded(out: Bytes) -> Result<Bytes, ExecRefusal>
 pub fn fill(alloc: Global, template: &Template, blanks: &Blanks) -> Result<Bytes, ExecRefusal>
     ensures { Gives (λ b. b) result (fill_of template.now blanks.now) }
 {
+    let lent = lend_template(alloc, template.as_slice())?;
+    fill_lent(alloc, &lent, blanks, Bytes::new(alloc))
+}
+
+/// The text of a lent template, as `fill` gives it, in the room of `out`, which is empty.
+pub fn fill_lent(
+    alloc: Global,
+    template: &LentTemplate<'_>,
+    blanks: &Blanks,
+    out: Bytes,
+) -> Result<Bytes, ExecRefusal>
+    requires { out ≡ [] }
+    ensures { Gives (λ b. b) result (fill_of template.now blanks.now) }
+{
     let mut state = Filling {
         blanks: blanks.as_slice(),
-        out: Bytes::new(alloc),
+        out,
     };
     put_pieces(template.as_slice(), &mut state)?;
     let Filling { blanks, mut out } = state;

@@ -4,11 +4,13 @@ ghost use Rattle.ap_exec.specs.Held.{word_in};
 use ap_stream::Inner;
 use ap_symbol::Word;
 use std::marker::Model;
+use std::rc::Rc;
 
-/// A word of the match, or one that a rule made in its place.
+/// A word of the match, or one that was made in its place.
 #[derive(Drop)]
-pub(crate) enum Held<'a> {
+pub enum Held<'a> {
     Lent(&'a Word),
+    Shared(Rc<Word>),
     Made(Word),
 }
 
@@ -18,6 +20,7 @@ impl<'a> Held<'a> {
     {
         match self {
             Held::Lent(word) => word,
+            Held::Shared(word) => word,
             Held::Made(word) => word,
         }
     }
@@ -26,7 +29,7 @@ impl<'a> Held<'a> {
 /// A unit that a rule reads and may write to: its source, its target with the border between head
 /// and queue, and its content. Nothing of the match is copied before a part is written to.
 #[derive(Drop)]
-pub(crate) struct Lent<'a> {
+pub struct Lent<'a> {
     source: Held<'a>,
     target: Held<'a>,
     border: usize,
@@ -53,12 +56,7 @@ impl<'a> Model for Lent<'a> {
 
 impl<'a> Lent<'a> {
     /// A unit whose target's head has so many symbols.
-    pub(crate) fn new(
-        source: Held<'a>,
-        target: Held<'a>,
-        border: usize,
-        content: &'a [Inner],
-    ) -> Lent<'a>
+    pub fn new(source: Held<'a>, target: Held<'a>, border: usize, content: &'a [Inner]) -> Lent<'a>
         requires { border ≤ length (word_in target) }
         ensures { result ≡ record {
           source = word_in source.entry;
@@ -97,7 +95,7 @@ impl<'a> Lent<'a> {
     }
 
     /// The units and blanks of a chunk.
-    pub(crate) fn content(&self) -> &[Inner]
+    pub(crate) fn content(&self) -> &'a [Inner]
         ensures { result.now ≡ self.now.content }
     {
         self.content

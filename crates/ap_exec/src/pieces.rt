@@ -4,25 +4,30 @@ ghost use Rattle.ap_symbol.specs.Words.{AreProper};
 ghost use Rattle.ap_rules.specs.Plain.{chunk, value_chunk};
 ghost use Rattle.ap_rules.specs.Views.{plain_value, plain_values, plain_chunk_piece, plain_chunk, plain_piece};
 ghost use Rattle.ap_exec.specs.Compounds.{joined_to, all_joined, values_in, tag_in};
-ghost use Rattle.ap_exec.specs.Pieces.{unit_of, units_of, compound, blank_atom, chunk_piece_of, chunk_pieces_of, tags_of, held_by, stated, name_of, first_word, atom_in, gives_content, content_of, contents_of, piece_of};
+ghost use Rattle.ap_exec.specs.Pieces.{unit_of, units_of, compound, blank_atom, chunk_piece_of, chunk_pieces_of, tags_of, held_by, stated, name_of, atom_in, gives_content, content_of, contents_of, piece_of};
 ghost use Rattle.ap_exec.specs.Results.{Gives, seen};
 ghost use Rattle.ap_exec.specs.States.{sight};
 
 use crate::clips::unit_at;
+use crate::lent_template::{LentAtom, LentAtoms, LentPiece, LentWord};
 use crate::refusal::ExecRefusal;
 use crate::state::View;
-use crate::template::{Atom, Atoms, Piece};
 use crate::values::{append, push_values, var_at};
 use ap_rules::{Chunk, ChunkPiece, ClipPart, Lu, Piece as StatedPiece, Tag, Value, ValueChunk};
-use ap_stream::{Inner, Names, Unit};
+use ap_stream::Inner;
 use ap_symbol::{Memory, Sequence, Symbol, Word, case_of_symbols, recase};
 use std::alloc::Global;
+
+/// The symbols, and the bytes, of a word for which room is made at once.
+const WORD_ROOM: usize = 16;
+
+const BYTES_ROOM: usize = 64;
 
 /// The word of a unit: its values in order.
 fn word_of(alloc: Global, view: View<'_, '_>, values: &[Value]) -> Result<Word, ExecRefusal>
     ensures { Gives (λ w. w) result (unit_of (sight view.entry) (plain_values values.now)) }
 {
-    let mut word = Word::new(alloc);
+    let mut word = Word::with_capacity(alloc, WORD_ROOM, BYTES_ROOM)?;
     push_values(alloc, view, values, &mut word)?;
     Ok(word)
 }
@@ -69,35 +74,41 @@ fn compound_of(alloc: Global, view: View<'_, '_>, units: &[Lu]) -> Result<Word, 
 }
 
 /// A slot where the blank has a position, else a space.
-fn blank_atom(pos: Option<usize>) -> Atom
+fn blank_atom<'u>(pos: Option<usize>) -> LentAtom<'u>
     ensures { result ≡ blank_atom pos }
 {
     match pos {
-        None => Atom::Space,
-        Some(_) => Atom::Slot,
+        None => LentAtom::space(),
+        Some(_) => LentAtom::slot(),
     }
 }
 
-fn chunk_piece_of(
+fn chunk_piece_of<'u>(
     alloc: Global,
-    view: View<'_, '_>,
+    view: View<'_, 'u>,
     piece: &ChunkPiece,
-) -> Result<Atom, ExecRefusal>
+) -> Result<LentAtom<'u>, ExecRefusal>
     ensures { Gives (λ a. a) result
         (chunk_piece_of (sight view.entry) (plain_chunk_piece piece.now)) }
 {
     match piece {
-        ChunkPiece::Lu(held) => Ok(Atom::Unit(word_of(alloc, view, &held.values)?)),
-        ChunkPiece::Mlu(held) => Ok(Atom::Unit(compound_of(alloc, view, &held.units)?)),
+        ChunkPiece::Lu(held) => {
+            let word = word_of(alloc, view, &held.values)?;
+            Ok(LentAtom::unit(LentWord::made(word)))
+        }
+        ChunkPiece::Mlu(held) => {
+            let word = compound_of(alloc, view, &held.units)?;
+            Ok(LentAtom::unit(LentWord::made(word)))
+        }
         ChunkPiece::B(space) => Ok(blank_atom(space.pos)),
     }
 }
 
-fn chunk_pieces_of(
+fn chunk_pieces_of<'u>(
     alloc: Global,
-    view: View<'_, '_>,
+    view: View<'_, 'u>,
     pieces: &[ChunkPiece],
-) -> Result<Atoms, ExecRefusal>
+) -> Result<LentAtoms<'u>, ExecRefusal>
     ensures { Gives (λ a. a) result
         (chunk_pieces_of (sight view.entry) (map plain_chunk_piece pieces.now)) }
 {
@@ -149,7 +160,7 @@ fn stated<'a>(view: View<'a, '_>, name: &'a Option<Word>, from: Option<usize>) -
 fn name_of(alloc: Global, view: View<'_, '_>, held: &Chunk) -> Result<Word, Memory>
     ensures { IfOk result (λ name. name ≡ name_of (sight view.entry).vars (plain_chunk held.now)) }
 {
-    let mut name = Word::new(alloc);
+    let mut name = Word::with_capacity(alloc, WORD_ROOM, BYTES_ROOM)?;
     append(alloc, stated(view, &held.name, held.namefrom), &mut name)?;
     match held.case {
         None => Ok(name),
@@ -161,40 +172,37 @@ fn name_of(alloc: Global, view: View<'_, '_>, held: &Chunk) -> Result<Word, Memo
 }
 
 /// A chunk as transfer makes it.
-fn chunk_of(alloc: Global, view: View<'_, '_>, held: &Chunk) -> Result<Piece, ExecRefusal>
+fn chunk_of<'u>(
+    alloc: Global,
+    view: View<'_, 'u>,
+    held: &Chunk,
+) -> Result<LentPiece<'u>, ExecRefusal>
     ensures { Gives (λ p. p) result (piece_of (sight view.entry) (chunk (plain_chunk held.now))) }
 {
     let mut name = name_of(alloc, view, held)?;
     push_tags(alloc, view, &held.tags, &mut name)?;
     let atoms = chunk_pieces_of(alloc, view, &held.pieces)?;
-    Ok(Piece::Chunk(name, atoms))
+    Ok(LentPiece::chunk(LentWord::made(name), atoms))
 }
 
-/// The first word of a unit, newly made.
-fn first_word(alloc: Global, names: &mut Names, unit: &Unit) -> Result<Word, Memory>
-    ensures { IfOk result (λ word. word ≡ first_word unit.now) }
-{
-    let mut word = Word::new(alloc);
-    unit.first(names, &mut word)?;
-    Ok(word)
-}
-
-/// The atom that stands for a part of a chunk.
-fn atom_in(alloc: Global, names: &mut Names, part: &Inner) -> Result<Atom, Memory>
+/// The atom that stands for a part of a chunk, with its word as it stands there.
+fn atom_in<'u>(alloc: Global, part: &'u Inner) -> Result<LentAtom<'u>, Memory>
     ensures { IfOk result (λ a. a ≡ atom_in part.now) }
 {
     match part {
-        Inner::Unit(unit) => Ok(Atom::Unit(first_word(alloc, names, unit)?)),
-        Inner::Blank(_) => Ok(Atom::Slot),
+        Inner::Unit(unit) => {
+            let word = LentWord::first(alloc, unit)?;
+            Ok(LentAtom::unit(word))
+        }
+        Inner::Blank(_) => Ok(LentAtom::slot()),
     }
 }
 
-fn push_parts(alloc: Global, parts: &[Inner], into: &mut Atoms) -> Result<(), Memory>
+fn push_parts<'u>(alloc: Global, parts: &'u [Inner], into: &mut LentAtoms<'u>) -> Result<(), Memory>
     ensures { OnOk result (into.new ≡ into.old ++ map atom_in parts.now) }
 {
-    let mut names = Names::new(alloc);
     'parts: for part in parts {
-        into.push(atom_in(alloc, &mut names, part)?)?;
+        into.push(atom_in(alloc, part)?)?;
     }
     Ok(())
 }
@@ -212,11 +220,11 @@ fn gives_content(part: ClipPart, link: &Option<Word>) -> bool
 
 /// Appends the content that a value of a chunk gives.
 #[tactic(auto, using(crate::proofs::Trees::views))]
-fn push_content(
+fn push_content<'u>(
     alloc: Global,
-    view: View<'_, '_>,
+    view: View<'_, 'u>,
     value: &Value,
-    into: &mut Atoms,
+    into: &mut LentAtoms<'u>,
 ) -> Result<(), Memory>
     ensures { OnOk result (into.new ≡ into.old
         ++ content_of (sight view.entry) (plain_value value.now)) }
@@ -236,11 +244,11 @@ fn push_content(
     }
 }
 
-fn push_contents(
+fn push_contents<'u>(
     alloc: Global,
-    view: View<'_, '_>,
+    view: View<'_, 'u>,
     values: &[Value],
-    into: &mut Atoms,
+    into: &mut LentAtoms<'u>,
 ) -> Result<(), Memory>
     ensures { OnOk result (into.new ≡ into.old
         ++ contents_of (sight view.entry) (plain_values values.now)) }
@@ -252,37 +260,37 @@ fn push_contents(
 }
 
 /// A chunk as interchunk makes it.
-fn value_chunk_of(
+fn value_chunk_of<'u>(
     alloc: Global,
-    view: View<'_, '_>,
+    view: View<'_, 'u>,
     held: &ValueChunk,
-) -> Result<Piece, ExecRefusal>
+) -> Result<LentPiece<'u>, ExecRefusal>
     ensures { Gives (λ p. p) result
         (piece_of (sight view.entry) (value_chunk (plain_values held.now.values.items))) }
 {
     let name = word_of(alloc, view, &held.values)?;
     let mut atoms = Sequence::new(alloc);
     push_contents(alloc, view, &held.values, &mut atoms)?;
-    Ok(Piece::Chunk(name, atoms))
+    Ok(LentPiece::chunk(LentWord::made(name), atoms))
 }
 
 /// A piece of the output.
-pub(crate) fn piece_of(
+pub(crate) fn piece_of<'u>(
     alloc: Global,
-    view: View<'_, '_>,
+    view: View<'_, 'u>,
     piece: &StatedPiece,
-) -> Result<Piece, ExecRefusal>
+) -> Result<LentPiece<'u>, ExecRefusal>
     ensures { Gives (λ p. p) result (piece_of (sight view.entry) (plain_piece piece.now)) }
 {
     match piece {
-        StatedPiece::B(space) => Ok(Piece::Atom(blank_atom(space.pos))),
+        StatedPiece::B(space) => Ok(LentPiece::atom(blank_atom(space.pos))),
         StatedPiece::Lu(held) => {
             let word = word_of(alloc, view, &held.values)?;
-            Ok(Piece::Atom(Atom::Unit(word)))
+            Ok(LentPiece::atom(LentAtom::unit(LentWord::made(word))))
         }
         StatedPiece::Mlu(held) => {
             let word = compound_of(alloc, view, &held.units)?;
-            Ok(Piece::Atom(Atom::Unit(word)))
+            Ok(LentPiece::atom(LentAtom::unit(LentWord::made(word))))
         }
         StatedPiece::Chunk(held) => chunk_of(alloc, view, held),
         StatedPiece::ValueChunk(held) => value_chunk_of(alloc, view, held),

@@ -1,5 +1,5 @@
 use crate::lent::Lent;
-use crate::template::Template;
+use crate::lent_template::LentTemplate;
 use ap_rules::{DefAttr, DefList, DefMacro, Form};
 use ap_symbol::Word;
 
@@ -20,7 +20,7 @@ pub(crate) struct World<'a> {
 pub(crate) struct State<'a> {
     pub(crate) units: Vec<Lent<'a>>,
     pub(crate) fresh: Vec<Option<Word>>,
-    pub(crate) pieces: Template,
+    pub(crate) pieces: LentTemplate<'a>,
     pub(crate) room: usize,
 }
 

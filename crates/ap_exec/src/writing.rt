@@ -19,7 +19,8 @@ fn spliced(alloc: Global, range: Range, value: &Word, word: &Word) -> Result<Wor
     ensures grown { IfOk result (λ made. length made + range.count
         ≡ length word.now + length value.now) }
 {
-    let mut made = Word::new(alloc);
+    let bytes = word.rendered().len().saturating_add(value.rendered().len());
+    let mut made = Word::with_capacity(alloc, word.len().saturating_add(value.len()), bytes)?;
     let symbols = word.symbols();
     append(alloc, &symbols[..range.start], &mut made)?;
     append(alloc, value.symbols(), &mut made)?;

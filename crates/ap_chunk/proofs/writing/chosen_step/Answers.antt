@@ -7,8 +7,8 @@ use Rattle.ap_chunk.proofs.Firsts.{some_taken, rule_chosen, words_taken}
 use Rattle.ap_chunk.proofs.Lives.{if_ok}
 use Rattle.ap_chunk.proofs.writing.chosen_step.Goals as goal
 
-pub rule_step-requires : goal.rule_step-requires
-rule_step-requires c =
+pub rule_step-requires-clause-words : goal.rule_step-requires-clause-words
+rule_step-requires-clause-words c =
     words_taken c.args.rules.now.form c.args.reads.now c.args.front.taken c.args.words.now
     (some_taken c.args.rules.now c.args.vars.now c.args.reads.now c.args.front.choice
     c.args.front.taken c.requires.taken c.in-Some.choice c.in-Some.is

@@ -14,14 +14,13 @@ use Rattle.ap_exec.proofs.Begins.{act_is, now_is, here_is, length_macros, ends_b
 use Rattle.ap_exec.proofs.acting.run_rule.Goals as goal
 
 pub returns-in_err-run_body : goal.returns-in_err-run_body
-returns-in_err-run_body c =
+returns-in_err-run_body c = λ m units_are chunk_is.
     let p = err_from_is_err_and c.from_residual-in_err-run_body.result
     c.from_residual-in_err-run_body.ensures.1 in
     let r = plain_rules c.args.rules.now in
-    let m = c.args.matched.now in
     let w = c.world_of-world.result in
     let s = now w (record {
-      units = c.in_ok-units.units;
+      units = c.args.units;
       fresh = c.new.result;
       pieces =
           c.new-2.result;
@@ -31,14 +30,13 @@ returns-in_err-run_body c =
     ap (λ (ms : List DefMacro). length ms) c.world_of-world.ensures.macros
     ∙ length_macros c.args.rules.now.macros.items in
     let count : c.len.result ≡ length (units_in m.chunk m.units) =
-    c.len.ensures ∙ c.in_ok-units.units.ok.0
-    ∙ ap (λ (us : List Shown). length us) c.in_ok-units.ensures in
+    c.len.ensures ∙ c.args.units.ok.0 ∙ ap (λ (us : List Shown). length us) units_are in
     let here : c.in_ok-here.here.items ≡ here_in m.chunk (length m.units) =
-    c.in_ok-here.ensures ∙ ap (λ (b : Bool). lead_in b ++ from_first c.len.result) c.is_some.ensures
+    c.in_ok-here.ensures ∙ ap (λ (b : Bool). lead_in b ++ from_first c.len.result) chunk_is
     ∙ ap (λ (n : ℕ). lead_in (is_some m.chunk) ++ from_first n) count
     ∙ here_is m.chunk m.units in
-    let start = now_is m c.args.vars.now w.vars.now c.in_ok-units.units.items c.new.result.items
-    c.new-2.result c.in_ok-units.ensures c.world_of-world.ensures.vars c.new.ensures.items
+    let start = now_is m c.args.vars.now w.vars.now c.args.units.items c.new.result.items
+    c.new-2.result units_are c.world_of-world.ensures.vars c.new.ensures.items
     c.new-2.ensures in
     let whole = act_is r c.args.rule m c.args.vars.now (still w) (length w.macros.now)
     c.in_ok-here.here.items (body_of c.action_of.result.now) s c.world_of-world.ensures.still
@@ -49,12 +47,11 @@ returns-in_err-run_body c =
     c.in_err-run_body.ensures)
 
 pub returns : goal.returns
-returns c =
+returns c = λ m units_are chunk_is.
     let r = plain_rules c.args.rules.now in
-    let m = c.args.matched.now in
     let w = c.world_of-world.result in
     let s = now w (record {
-      units = c.in_ok-units.units;
+      units = c.args.units;
       fresh = c.new.result;
       pieces =
           c.new-2.result;
@@ -64,14 +61,13 @@ returns c =
     ap (λ (ms : List DefMacro). length ms) c.world_of-world.ensures.macros
     ∙ length_macros c.args.rules.now.macros.items in
     let count : c.len.result ≡ length (units_in m.chunk m.units) =
-    c.len.ensures ∙ c.in_ok-units.units.ok.0
-    ∙ ap (λ (us : List Shown). length us) c.in_ok-units.ensures in
+    c.len.ensures ∙ c.args.units.ok.0 ∙ ap (λ (us : List Shown). length us) units_are in
     let here : c.in_ok-here.here.items ≡ here_in m.chunk (length m.units) =
-    c.in_ok-here.ensures ∙ ap (λ (b : Bool). lead_in b ++ from_first c.len.result) c.is_some.ensures
+    c.in_ok-here.ensures ∙ ap (λ (b : Bool). lead_in b ++ from_first c.len.result) chunk_is
     ∙ ap (λ (n : ℕ). lead_in (is_some m.chunk) ++ from_first n) count
     ∙ here_is m.chunk m.units in
-    let start = now_is m c.args.vars.now w.vars.now c.in_ok-units.units.items c.new.result.items
-    c.new-2.result c.in_ok-units.ensures c.world_of-world.ensures.vars c.new.ensures.items
+    let start = now_is m c.args.vars.now w.vars.now c.args.units.items c.new.result.items
+    c.new-2.result units_are c.world_of-world.ensures.vars c.new.ensures.items
     c.new-2.ensures in
     let whole = act_is r c.args.rule m c.args.vars.now (still w) (length w.macros.now)
     c.in_ok-here.here.items (body_of c.action_of.result.now) s c.world_of-world.ensures.still

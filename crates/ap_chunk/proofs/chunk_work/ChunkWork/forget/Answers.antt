@@ -12,5 +12,9 @@ invariant_of-self c = (
       (sym c.forget.ensures)
       (all_left (IsRead (dialect_of c.self.inside.rules.form)) c.self.inside.items c.args.count
       c.self.invariant.0),
-  c.restart.ensures c.self.inside.rules c.self.inside.items c.forget.new.self c.self.invariant.1,
+  (
+    c.restart.ensures c.self.inside.rules c.self.inside.items c.forget.new.self
+        c.self.invariant.1.0,
+    c.self.invariant.1.1,
+  ),
 )

@@ -7,20 +7,20 @@ pub returns-then-not-finished-clause-all : goal.returns-then-not-finished-clause
 returns-then-not-finished-clause-all c = λ e.
     waits_all c.args.rules.now c.args.reads.now c.step_on.new.self (c.step_on.ensures.patterns
     ∙ c.set_out.ensures.patterns
-    ∙ c.requires.patterns) (c.in_ok-ends.ensures.all (ap Ok c.if-not-ends.true))
+    ∙ c.requires.known.patterns) (c.in_ok-ends.ensures.all (ap Ok c.if-not-ends.true))
     (c.in_ok-ends.ensures.at (ap Ok c.if-not-ends.true))
 
 pub returns-then-not-finished-clause-grows : goal.returns-then-not-finished-clause-grows
 returns-then-not-finished-clause-grows c = λ e.
     waits_grows c.args.rules.now c.args.reads.now c.step_on.new.self (c.step_on.ensures.patterns
     ∙ c.set_out.ensures.patterns
-    ∙ c.requires.patterns) (c.in_ok-ends.ensures.all (ap Ok c.if-not-ends.true))
+    ∙ c.requires.known.patterns) (c.in_ok-ends.ensures.all (ap Ok c.if-not-ends.true))
     (c.in_ok-ends.ensures.at (ap Ok c.if-not-ends.true))
 
 pub returns-clause-found : goal.returns-clause-found
 returns-clause-found c =
     look_found c.args.rules.now c.args.reads.now c.step_on.new.self (c.step_on.ensures.patterns
-    ∙ c.set_out.ensures.patterns ∙ c.requires.patterns) c.in_ok-ends.ends c.args.finished
+    ∙ c.set_out.ensures.patterns ∙ c.requires.known.patterns) c.in_ok-ends.ends c.args.finished
     (λ e. c.in_ok-ends.ensures.ends (ap Ok e)) (λ e. c.in_ok-ends.ensures.all (ap Ok e))
     (λ e. c.in_ok-ends.ensures.at (ap Ok e))
     (elim c.else-not-ends.branch [

@@ -1,0 +1,43 @@
+-- What a match gives to a rule, as the rule reads it.
+use Rattle.std.specs.Prelude.{◌≡◌, List, [], ◌∷◌, ◌++◌, length, map, refl}
+use Rattle.std.specs.List.{flat_map}
+use Rattle.std.proofs.Common.{ap, sym, ◌∙◌}
+use Rattle.std.proofs.lemmas.List.{append-nil, map-append}
+use Rattle.std.proofs.lemmas.List.Concat.{flat_map-cons}
+use Rattle.ap_symbol.specs.declared.symbol.Symbol.{Symbol}
+use Rattle.ap_stream.specs.declared.item.Inner.{Inner}
+use Rattle.ap_stream.specs.declared.item.Read.{Read}
+use Rattle.ap_exec.specs.Acting.{shown}
+use Rattle.ap_exec.specs.Units.{Shown}
+use Rattle.ap_exec.specs.declared.matched.MatchedUnit.{MatchedUnit}
+use Rattle.ap_chunk.specs.Matches.{named, worded, matched_item, matched_items, shown_items, shown_word}
+
+-- all of a word is its head
+pub lone_shown : (source target : List Symbol) (content : List Inner)
+    → (let s : Shown = record {
+      source = source;
+      target = target;
+      border = length target;
+      content = content;
+    } in s) ≡ (let s : Shown = record {
+      source = source;
+      target = target ++ [];
+      border = length target;
+      content = content;
+    } in s)
+lone_shown source target content = ap (λ (t : List Symbol). let s : Shown =
+    record { source = source; target = t; border = length target; content = content } in s)
+    (sym (append-nil target))
+
+pub items_shown : (reads : List Read) → shown_items reads ≡ map shown (matched_items reads)
+items_shown [] = refl
+items_shown (read ∷ reads) =
+    flat_map-cons (λ (r : Read). map shown (matched_item r.item)) read reads
+    ∙ ap (λ (us : List Shown). map shown (matched_item read.item) ++ us) (items_shown reads)
+    ∙ sym (map-append shown (matched_item read.item) (matched_items reads))
+    ∙ ap (map shown) (sym (flat_map-cons (λ (r : Read). matched_item r.item) read reads))
+
+pub words_shown : (words : List (List Symbol)) → map shown_word words
+    ≡ map shown (map worded words)
+words_shown [] = refl
+words_shown (word ∷ words) = ap (λ (us : List Shown). shown_word word ∷ us) (words_shown words)

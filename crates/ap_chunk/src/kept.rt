@@ -1,0 +1,227 @@
+//! Words that were met before, and their rows. What is kept is a hint alone: what is found is
+//! compared with the bytes of the word that is sought.
+ghost use Rattle.std.specs.Prelude.{◌≡◌, [], bytes_eq, List, Bool, true, IfOk, IfSome};
+ghost use Rattle.ap_symbol.specs.Rendering.{rendering};
+ghost use Rattle.ap_symbol.specs.Words.{AreProper};
+ghost use Rattle.ap_symbol.specs.declared.symbol.Symbol.{Symbol};
+ghost use Rattle.ap_chunk.specs.Kept.{IsOf, IsTold, IsKept, AreKept};
+
+use ap_symbol::{Memory, Word, one_rendering};
+use std::alloc::Global;
+use std::rc::Rc;
+
+/// The number of places for words, and for rows; so many are kept at most.
+const PLACES: usize = 8192;
+
+/// No row has this number.
+const NO_ROW: u32 = 4294967295;
+
+/// The place of a word.
+fn place_of(key: &[u8]) -> usize {
+    let mut hash: u32 = 2166136261;
+    for b in key {
+        hash = (hash ^ u32::from(*b)).wrapping_mul(16777619);
+    }
+    (hash ^ (hash >> 15)) as usize % PLACES
+}
+
+/// Whether two lists of bytes are equal.
+fn is_same(a: &[u8], b: &[u8]) -> bool
+    ensures { result ≡ bytes_eq a.now b.now }
+{
+    a == b
+}
+
+/// The words that were made last, each at a place that its bytes tell. A word that is found is
+/// shared, and takes no memory.
+#[derive(Drop)]
+pub(crate) struct KeptWords {
+    places: Vec<Option<Rc<Word>>>,
+}
+
+/// Whether these are the bytes of the word.
+fn is_word(word: &Word, key: &[u8]) -> bool
+    ensures bytes { result ≡ true → key.now ≡ rendering word.now }
+    ensures proper { AreProper word.now }
+{
+    let _ = word.symbols();
+    is_same(word.rendered(), key)
+}
+
+impl KeptWords {
+    /// No words, which takes no memory.
+    pub(crate) fn new(alloc: Global) -> KeptWords {
+        KeptWords {
+            places: Vec::new(alloc),
+        }
+    }
+
+    /// The kept word with these bytes.
+    pub(crate) fn find(&self, key: &[u8]) -> Result<Option<Rc<Word>>, Memory>
+        ensures { IfOk result (λ found. IfSome found (λ word. IsOf key.now word.value)) }
+    {
+        match self.places.get(place_of(key)) {
+            None => Ok(None),
+            Some(None) => Ok(None),
+            Some(Some(word)) => {
+                if is_word(word, key) {
+                    return Ok(Some(word.clone()?));
+                }
+                Ok(None)
+            }
+        }
+    }
+
+    /// Makes the places, where there are none.
+    fn set_out(&mut self) -> Result<(), Memory> {
+        if self.places.is_empty() {
+            for _ in 0..PLACES {
+                self.places.push(None)?;
+            }
+        }
+        Ok(())
+    }
+
+    /// Keeps a word at its place.
+    fn put(&mut self, word: &Rc<Word>) -> Result<(), Memory> {
+        self.set_out()?;
+        let at = place_of(word.rendered());
+        if at < self.places.len() {
+            self.places[at] = Some(word.clone()?);
+        }
+        Ok(())
+    }
+
+    /// Keeps a word, if there is memory for it.
+    pub(crate) fn keep(&mut self, word: &Rc<Word>) {
+        let _ = self.put(word);
+    }
+}
+
+/// The bytes of a word, and its row.
+#[derive(Drop)]
+pub(crate) struct KeptRow {
+    pub(crate) key: Vec<u8>,
+    pub(crate) row: Vec<bool>,
+}
+
+/// The rows of words that were met. When there are too many, all are forgotten.
+#[derive(Drop)]
+pub(crate) struct KeptRows {
+    pub(crate) rows: Vec<KeptRow>,
+    places: Vec<u32>,
+}
+
+/// The row at a number, if it is of the word with these bytes.
+fn told_at<'a>(rows: &'a [KeptRow], at: usize, key: &[u8]) -> Option<&'a [bool]>
+    ensures { (given : List Symbol → List Bool) → AreKept given rows.now →
+        IfSome result (λ row. IsTold given key.now row.now) }
+{
+    if at >= rows.len() {
+        return None;
+    }
+    let kept = &rows[at];
+    if is_same(kept.key.as_slice(), key) {
+        return Some(kept.row.as_slice());
+    }
+    None
+}
+
+fn copy_of_key(alloc: Global, key: &[u8]) -> Result<Vec<u8>, Memory>
+    ensures { IfOk result (λ copy. copy.items ≡ key.now) }
+{
+    Ok(Vec::from_slice(alloc, key)?)
+}
+
+fn copy_of_row(alloc: Global, row: &[bool]) -> Result<Vec<bool>, Memory>
+    ensures { IfOk result (λ copy. copy.items ≡ row.now) }
+{
+    Ok(Vec::from_slice(alloc, row)?)
+}
+
+/// Frees all places.
+fn free_places(places: &mut Vec<u32>) -> Result<(), Memory> {
+    places.clear();
+    for _ in 0..PLACES {
+        places.push(NO_ROW)?;
+    }
+    Ok(())
+}
+
+/// Writes the number of the row of the word with these bytes.
+fn set_place(places: &mut [u32], key: &[u8], number: u32) {
+    let at = place_of(key);
+    if at < places.len() {
+        places[at] = number;
+    }
+}
+
+impl KeptRows {
+    /// No rows, which takes no memory.
+    pub(crate) fn new(alloc: Global) -> KeptRows
+        ensures { result.rows.items ≡ [] }
+    {
+        KeptRows {
+            rows: Vec::new(alloc),
+            places: Vec::new(alloc),
+        }
+    }
+
+    /// The row of the word with these bytes, if it is kept.
+    pub(crate) fn find(&self, key: &[u8]) -> Option<&[bool]>
+        ensures { (given : List Symbol → List Bool) → AreKept given self.now.rows.items →
+            IfSome result (λ row. IsTold given key.now row.now) }
+    {
+        match self.places.get(place_of(key)) {
+            None => None,
+            Some(at) => told_at(self.rows.as_slice(), *at as usize, key),
+        }
+    }
+
+    /// Forgets all, where there are no places yet or as many rows as places.
+    fn make_room(&mut self) -> Result<(), Memory>
+        ensures { (given : List Symbol → List Bool) → AreKept given self.old.rows.items →
+            AreKept given self.new.rows.items }
+    {
+        if self.places.len() == PLACES && self.rows.len() < PLACES {
+            return Ok(());
+        }
+        self.rows.clear();
+        free_places(&mut self.places)
+    }
+
+    /// Adds a row.
+    fn add(&mut self, kept: KeptRow) -> Result<(), Memory>
+        ensures { (given : List Symbol → List Bool) → IsKept given kept →
+            AreKept given self.old.rows.items → AreKept given self.new.rows.items }
+    {
+        self.make_room()?;
+        let held = self.rows.len();
+        if held >= PLACES {
+            return Ok(());
+        }
+        set_place(&mut self.places, kept.key.as_slice(), held as u32);
+        self.rows.push(kept)?;
+        Ok(())
+    }
+
+    /// Keeps a copy of a row.
+    fn keep_copy(&mut self, alloc: Global, key: &[u8], row: &[bool]) -> Result<(), Memory>
+        ensures { (given : List Symbol → List Bool) → IsTold given key.now row.now →
+            AreKept given self.old.rows.items → AreKept given self.new.rows.items }
+    {
+        let key = copy_of_key(alloc, key)?;
+        let row = copy_of_row(alloc, row)?;
+        self.add(KeptRow { key, row })
+    }
+
+    /// Keeps the row of a word, if there is memory for it.
+    pub(crate) fn keep(&mut self, alloc: Global, word: &Word, row: &[bool])
+        ensures { (given : List Symbol → List Bool) → row.now ≡ given word.now →
+            AreKept given self.old.rows.items → AreKept given self.new.rows.items }
+    {
+        let _ = word.symbols();
+        one_rendering();
+        let _ = self.keep_copy(alloc, word.rendered(), row);
+    }
+}
