@@ -2,10 +2,12 @@
 use Rattle.std.proofs.Common.{◌≡◌, ℕ, zero, suc, ◌+◌, ◌-◌, ◌*◌, ◌<◌, ◌≤◌, Bool, true, false, List, [], ◌∷◌, ◌++◌, length, take, drop, arith, sym, ap, ◌∙◌, subst, refl, append_assoc, length-append}
 use Rattle.std.specs.Prelude.{◌%◌, ◌==◌, decimal, codes, if◌then◌else◌}
 use Rattle.std.proofs.Math.Seq.{drop-length, take-append-add}
+use Rattle.std.proofs.lemmas.Fmt.{length-decimal-le}
 use Rattle.std.proofs.lemmas.List.{take-append-le, take_all, length-take, length-drop}
 use Rattle.ap_outside.proofs.Pieces.{piece-rest}
 use Rattle.ap_tool.specs.declared.made.Part.{Part}
 use Rattle.ap_tool.specs.declared.made.Part.TheVariants.{Head, Number, Tail}
+use Rattle.ap_tool.specs.Words.{work_max}
 use Rattle.ap_tool.specs.Working.{head, tail, part_text, behind_part, sentence, sentences_from, made_text, left_of}
 
 -- at the start of a sentence all of it is left
@@ -106,6 +108,20 @@ one-more number (suc more) size h =
     ap (λ n. length (sentences_from n (suc more - 1))) same
     ∙ ap (λ n. length (sentences_from (suc number) n)) less in
     omega (arith, counts, length-append (sentence number) (sentences_from (suc number) more),
+    length-append (head number) (decimal number ++ tail number),
+    length-append (decimal number) (tail number))
+
+-- so many sentences are within any limit
+pub made-short : (number more : ℕ) → number + more ≤ work_max →
+    length (sentences_from number more) ≤ 40 * more
+unfolding sentences_from
+made-short number zero h = omega arith
+made-short number (suc more) h =
+    let digits : length (decimal number) ≤ 7 = length-decimal-le 7 number (omega arith)
+    (omega (arith, h)) (omega (arith, h)) in
+    omega (arith, digits, head-short number, tail-short number,
+    made-short (suc number) more (omega (arith, h)),
+    length-append (sentence number) (sentences_from (suc number) more),
     length-append (head number) (decimal number ++ tail number),
     length-append (decimal number) (tail number))
 

@@ -1,5 +1,5 @@
 -- What the workload finds, what it counts, and what it answers.
-use Rattle.std.proofs.Common.{◌≡◌, ℕ, List, [], ap, sym, ◌∙◌, subst, refl, inl, inr, Option, Some}
+use Rattle.std.proofs.Common.{◌≡◌, ℕ, ◌≤◌, List, [], ap, sym, ◌∙◌, subst, refl, inl, inr, Option, Some}
 use Rattle.ap_stream.specs.Pieces.{HasSuperblanks}
 use Rattle.ap_stream.specs.declared.dialect.Dialect.TheVariants.{Raw, Generated}
 use Rattle.ap_pipe.specs.Standing.{Standing, standing}
@@ -8,7 +8,7 @@ use Rattle.ap_tool.specs.declared.status.Status.TheVariants.{Done}
 use Rattle.ap_tool.specs.Outside.{Outside}
 use Rattle.ap_tool.specs.Rows.{Stage, StreamText, HaveSame, row_reads, row_writes}
 use Rattle.ap_tool.specs.Gives.{Streams, Nothing}
-use Rattle.ap_tool.specs.Words.{room_lem}
+use Rattle.ap_tool.specs.Words.{room_lem, work_max}
 use Rattle.ap_tool.specs.Working.{run_words, work_run, before_work, over_built_in, made_text, of_built_in}
 use Rattle.ap_tool.specs.Answer.{IsStreamAnswer, bytes_of, IsReported, IsWorked}
 use Rattle.ap_tool.specs.Account.{IsBuiltInRow}
@@ -38,10 +38,12 @@ module _ (sentences : ℕ) (source sink source' sink' : Standing)
   work-ran = subst (λ (b : Outside). IsStreamAnswer run_words b (over_built_in source' sink') ended
       work_run) (work-begins sentences source sink left calm empty fresh) ran
 
-  pub worked-so : (old new : Standing) (text : List ℕ) (status : Status) → source'.faults ≡ 0 →
+  pub worked-so : (old new : Standing) (text : List ℕ) (status : Status) →
+      sentences ≤ work_max → source'.faults ≡ 0 →
       bytes_of sink'.bytes ≡ text → IsReported sentences old new text ended status →
       IsWorked sentences old new status
-  worked-so old new text status takes is h = record {
+  worked-so old new text status few takes is h = record {
+    few = few;
     after = over_built_in source' sink';
     ended = ended;
     ran = work-ran;

@@ -15,5 +15,5 @@ pub returns-in-Done-clause-worked : goal.returns-in-Done-clause-worked
 returns-in-Done-clause-worked g c =
     worked-so c.args.sentences _ _ _ _ c.new-source.ensures.left c.new-source.ensures.faults
     c.new-kept.ensures.written c.new-kept.ensures.faults Done c.in-Done.ensures.answer _ _
-    c.written.result.now c.report.result refl (sym (ap bytes_of c.written.ensures))
+    c.written.result.now c.report.result c.requires refl (sym (ap bytes_of c.written.ensures))
     c.report.ensures.listed
