@@ -1,15 +1,16 @@
 -- What the workload finds, what it counts, and what it answers.
-use Rattle.std.proofs.Common.{◌≡◌, ℕ, ◌≤◌, List, [], ap, sym, ◌∙◌, subst, refl, inl, inr, Option, Some}
+use Rattle.std.proofs.Common.{◌≡◌, ℕ, zero, suc, ◌<◌, ◌≤◌, List, [], ap, sym, ◌∙◌, subst, refl, inl, inr, arith, Option, Some}
 use Rattle.ap_stream.specs.Pieces.{HasSuperblanks}
 use Rattle.ap_stream.specs.declared.dialect.Dialect.TheVariants.{Raw, Generated}
 use Rattle.ap_pipe.specs.Standing.{Standing, standing}
 use Rattle.ap_tool.specs.declared.status.Status.{Status}
-use Rattle.ap_tool.specs.declared.status.Status.TheVariants.{Done}
+use Rattle.ap_tool.specs.declared.status.Status.TheVariants.{Done, FileFault, BadDictionary, BadRules, BadCompiled, Malformed, Limit}
 use Rattle.ap_tool.specs.Outside.{Outside}
 use Rattle.ap_tool.specs.Rows.{Stage, StreamText, HaveSame, row_reads, row_writes}
 use Rattle.ap_tool.specs.Gives.{Streams, Nothing}
+use Rattle.ap_tool.specs.Messages.{IsTold, IsLimitTold}
 use Rattle.ap_tool.specs.Words.{room_lem, work_max}
-use Rattle.ap_tool.specs.Working.{run_words, work_run, before_work, over_built_in, made_text, of_built_in}
+use Rattle.ap_tool.specs.Working.{run_words, work_run, before_work, over_built_in, made_text, of_built_in, limit_place}
 use Rattle.ap_tool.specs.Answer.{IsStreamAnswer, bytes_of, IsReported, IsWorked}
 use Rattle.ap_tool.specs.Account.{IsBuiltInRow}
 use Rattle.ap_tool.proofs.Fitting.{run-gives}
@@ -86,3 +87,23 @@ pub unreported : (sentences : ℕ) (old new : Standing) (text : List ℕ) (ended
     IsReported sentences old new text ended status
 unreported sentences old new text Done status n e f = absurd (n refl)
 unreported sentences old new text ended status n e f = (e, f)
+
+-- and it has a message, where there are words
+limit-built-in : (words kind place : ℕ) → IsLimitTold 0 kind place 8 → 0 < words →
+    IsLimitTold 0 kind (limit_place kind place) words
+limit-built-in words kind place (inl h) w =
+    let first : limit_place kind place ≡ 0 = ap (λ k. limit_place k place) h.1 in
+    inl (refl, h.1, omega (arith, first, w))
+limit-built-in words kind place (inr h) w = inr h
+
+pub built-in-told : (s : Status) (words : ℕ) → IsTold s 8 → 0 < words → IsTold (of_built_in s) words
+built-in-told (FileFault file) words h w = w
+built-in-told (BadDictionary file fault line) words h w = (w, h.1, h.2)
+built-in-told (BadRules file fault line) words h w = (w, h.1, h.2)
+built-in-told (BadCompiled file fault line) words h w = (w, h.1, h.2)
+built-in-told (Malformed stage kind place) words h w = h
+built-in-told (Limit zero kind place) words h w = limit-built-in words kind place h w
+built-in-told (Limit (suc stage) kind place) words (inl h) w = absurd (omega (arith, h.0))
+built-in-told (Limit (suc stage) kind place) words (inr (inl h)) w = absurd (omega (arith, h.0))
+built-in-told (Limit (suc stage) kind place) words (inr (inr h)) w = inr (inr h)
+built-in-told s words h w = tt
