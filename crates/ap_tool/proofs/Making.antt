@@ -107,9 +107,13 @@ one-more number (suc more) size h =
     ≡ length (sentences_from (suc number) more) =
     ap (λ n. length (sentences_from n (suc more - 1))) same
     ∙ ap (λ n. length (sentences_from (suc number) n)) less in
-    omega (arith, counts, length-append (sentence number) (sentences_from (suc number) more),
-    length-append (head number) (decimal number ++ tail number),
-    length-append (decimal number) (tail number))
+    omega (
+      arith,
+      counts,
+      length-append (sentence number) (sentences_from (suc number) more),
+      length-append (head number) (decimal number ++ tail number),
+      length-append (decimal number) (tail number),
+    )
 
 -- so many sentences are within any limit
 pub made-short : (number more : ℕ) → number + more ≤ work_max →
@@ -119,11 +123,16 @@ made-short number zero h = omega arith
 made-short number (suc more) h =
     let digits : length (decimal number) ≤ 7 = length-decimal-le 7 number (omega arith)
     (omega (arith, h)) (omega (arith, h)) in
-    omega (arith, digits, head-short number, tail-short number,
-    made-short (suc number) more (omega (arith, h)),
-    length-append (sentence number) (sentences_from (suc number) more),
-    length-append (head number) (decimal number ++ tail number),
-    length-append (decimal number) (tail number))
+    omega (
+      arith,
+      digits,
+      head-short number,
+      tail-short number,
+      made-short (suc number) more (omega (arith, h)),
+      length-append (sentence number) (sentences_from (suc number) more),
+      length-append (head number) (decimal number ++ tail number),
+      length-append (decimal number) (tail number),
+    )
 
 pub no-more-bytes : (number more size whole : ℕ) → more ≡ 0 →
     size + length (sentences_from number more) ≡ whole → size ≡ whole
@@ -135,8 +144,14 @@ no-more-bytes number (suc more) size whole e h = absurd (omega arith)
 pub placed : (into piece behind : List ℕ) (at count : ℕ) → at ≤ length into →
     count ≤ length piece → at + count ≤ length (take at into ++ (piece ++ behind))
 placed into piece behind at count h k =
-    omega (arith, h, k, length-take at into, length-append (take at into) (piece ++ behind),
-    length-append piece behind)
+    omega (
+      arith,
+      h,
+      k,
+      length-take at into,
+      length-append (take at into) (piece ++ behind),
+      length-append piece behind,
+    )
 
 -- all that is left of a slice
 pub rest-all : (xs : List ℕ) (at : ℕ) → take (length xs - at) (drop at xs) ≡ drop at xs

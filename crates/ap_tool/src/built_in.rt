@@ -19,12 +19,10 @@ pub(crate) const T1: &str =
     "<transfer default=\"chunk\">\n<section-def-cats><def-cat n=\"adj\"><cat-item tags=\"adj\"/></def-cat>\n<def-cat n=\"nom\"><cat-item tags=\"n.*\"/></def-cat></section-def-cats>\n<section-def-attrs>\n<def-attr n=\"gen\"><attr-item tags=\"m\"/><attr-item tags=\"f\"/></def-attr>\n<def-attr n=\"num\"><attr-item tags=\"sg\"/><attr-item tags=\"pl\"/></def-attr>\n</section-def-attrs>\n<section-rules><rule>\n<pattern><pattern-item n=\"adj\"/><pattern-item n=\"nom\"/></pattern>\n<action><out><chunk name=\"nom_adj\">\n<tags><tag><lit-tag v=\"SN\"/></tag>\n<tag><clip pos=\"2\" side=\"tl\" part=\"gen\"/></tag>\n<tag><clip pos=\"2\" side=\"tl\" part=\"num\"/></tag></tags>\n<lu><clip pos=\"2\" side=\"tl\" part=\"lem\"/><lit-tag v=\"n\"/>\n<clip pos=\"2\" side=\"tl\" part=\"gen\" link-to=\"2\"/>\n<clip pos=\"2\" side=\"tl\" part=\"num\" link-to=\"3\"/></lu>\n<b pos=\"1\"/>\n<lu><clip pos=\"1\" side=\"tl\" part=\"lem\"/><lit-tag v=\"adj\"/>\n<clip pos=\"2\" side=\"tl\" part=\"gen\" link-to=\"2\"/>\n<clip pos=\"2\" side=\"tl\" part=\"num\" link-to=\"3\"/></lu>\n</chunk></out></action>\n</rule></section-rules>\n</transfer>\n";
 
 /// No rules of interchunk.
-pub(crate) const T2: &str =
-    "<interchunk></interchunk>";
+pub(crate) const T2: &str = "<interchunk></interchunk>";
 
 /// No rules of postchunk.
-pub(crate) const T3: &str =
-    "<postchunk></postchunk>";
+pub(crate) const T3: &str = "<postchunk></postchunk>";
 
 /// A dictionary of generation.
 pub(crate) const GEN: &str =

@@ -122,11 +122,7 @@ impl WorkSource {
             (self.new.sentences - self.new.next) }
     {
         let mut buffer = Buffer::new();
-        let text = part_text(
-            self.part,
-            self.next,
-            buffer.format(self.next).as_bytes(),
-        );
+        let text = part_text(self.part, self.next, buffer.format(self.next).as_bytes());
         let rest = &text[self.at..];
         let count = rest.len().min(into.len());
         into[..count].copy_from_slice(&rest[..count]);

@@ -22,7 +22,8 @@ fn a_made_text_is_translated_and_counted(rt: HostRuntime) -> Result<(), Fail> {
 
 #[test]
 fn sentences_are_made_in_any_pieces(rt: HostRuntime) -> Result<(), Fail> {
-    let text = "The black dog[<0>] of the cat.\nblack cats[<1>] sleep.\nThe black dog[<2>] of the cat.\n";
+    let text =
+        "The black dog[<0>] of the cat.\nblack cats[<1>] sleep.\nThe black dog[<2>] of the cat.\n";
     for cut in [1, 7, 100] {
         let mut source = WorkSource::new(3);
         let mut made = Vec::new(rt.alloc());

@@ -11,10 +11,24 @@ loop-number-preserved c =
     let more = one-more n m c.loop-number.size (omega (arith, c.loop-number-test.true)) in
     let behind = ap (λ k. length (sentences_from (n + 1) k)) less in
     record {
-      whole = omega (arith, c.loop-number.invariant.whole, more, behind,
-      ap length c.head.ensures, ap length c.format.ensures.text, ap length c.tail.ensures);
-      bound = omega (arith, c.loop-number.invariant.bound, head-short n, tail-short n,
-      ap length c.head.ensures, c.format.ensures.short, ap length c.tail.ensures);
+      whole = omega (
+        arith,
+        c.loop-number.invariant.whole,
+        more,
+        behind,
+        ap length c.head.ensures,
+        ap length c.format.ensures.text,
+        ap length c.tail.ensures,
+      );
+      bound = omega (
+        arith,
+        c.loop-number.invariant.bound,
+        head-short n,
+        tail-short n,
+        ap length c.head.ensures,
+        c.format.ensures.short,
+        ap length c.tail.ensures,
+      );
       within = omega (arith, c.loop-number-test.true);
     }
 

@@ -33,8 +33,7 @@ returns-clause-flows g c =
     λ at said kept.
     let s = seven-said c.args.room at said f.analyser f.bilingual f.transfer f.interchunk
     f.postchunk f.generator f.post_generator
-    (subst (λ x. AreKeptAs (translation_files at) said x) c.next_translation-files.ensures kept) in
-    (
+    (subst (λ x. AreKeptAs (translation_files at) said x) c.next_translation-files.ensures kept) in (
       translation s.m s.b (plain_rules f.transfer) (plain_rules f.interchunk)
           (plain_rules f.postchunk) s.g s.p,
       ap (gives_of (Run c.args.room at)) s.is,

@@ -22,36 +22,60 @@ loop-byte-preserved c =
     c.loop-byte-test.true l.invariant.whole in
     elim c.if-escaped.branch [
       | then-escaped w ↦ record {
-        whole = on (omega (arith, w.count-is, by-slashed l.inside l.escaped c.if-escaped.inside
-        c.if-escaped.escaped b bs w.if-escaped.true w.inside-is w.escaped-is));
+        whole = on (omega (
+          arith,
+          w.count-is,
+          by-slashed l.inside l.escaped c.if-escaped.inside
+              c.if-escaped.escaped b bs w.if-escaped.true w.inside-is w.escaped-is,
+        ));
         bound = omega (arith, w.count-is, l.invariant.bound);
       }
       | else-escaped+then-byte-eq92 w ↦ record {
-        whole = on (omega (arith, w.count-is, by-slash l.inside l.escaped c.if-escaped.inside
-        c.if-escaped.escaped b bs w.if-escaped.false w.if-byte-eq92.true w.inside-is w.escaped-is));
+        whole = on (omega (
+          arith,
+          w.count-is,
+          by-slash l.inside l.escaped c.if-escaped.inside
+              c.if-escaped.escaped b bs w.if-escaped.false w.if-byte-eq92.true w.inside-is w.escaped-is,
+        ));
         bound = omega (arith, w.count-is, l.invariant.bound);
       }
       | else-escaped+else-byte-eq92+then-byte-eq93 w ↦ record {
-        whole = on (omega (arith, w.count-is, by-closing l.inside l.escaped c.if-escaped.inside
-        c.if-escaped.escaped b bs w.if-escaped.false w.if-byte-eq93.true w.inside-is w.escaped-is));
+        whole = on (omega (
+          arith,
+          w.count-is,
+          by-closing l.inside l.escaped c.if-escaped.inside
+              c.if-escaped.escaped b bs w.if-escaped.false w.if-byte-eq93.true w.inside-is w.escaped-is,
+        ));
         bound = omega (arith, w.count-is, l.invariant.bound);
       }
       | else-escaped+else-byte-eq92+else-byte-eq93+then-byte-eq91+then-not-inside w ↦ record {
-        whole = on (omega (arith, w.count-is, by-opening l.inside l.escaped c.if-escaped.inside
-        c.if-escaped.escaped b bs w.if-escaped.false w.if-byte-eq91.true w.if-not-inside.true
-        w.inside-is w.escaped-is));
+        whole = on (omega (
+          arith,
+          w.count-is,
+          by-opening l.inside l.escaped c.if-escaped.inside
+              c.if-escaped.escaped b bs w.if-escaped.false w.if-byte-eq91.true w.if-not-inside.true
+              w.inside-is w.escaped-is,
+        ));
         bound = omega (arith, w.count-is, l.invariant.bound);
       }
       | else-escaped+else-byte-eq92+else-byte-eq93+else-byte-eq91 w ↦ record {
         whole = elim w.else-byte-eq91.branch [
           | else-byte-eq91-via-then-byte-eq91+else-not-inside x ↦
-              on (omega (arith, w.count-is, by-inner l.inside l.escaped c.if-escaped.inside
-              c.if-escaped.escaped b bs w.if-escaped.false x.if-byte-eq91.true x.if-not-inside.false
-              w.inside-is w.escaped-is))
+              on (omega (
+                arith,
+                w.count-is,
+                by-inner l.inside l.escaped c.if-escaped.inside
+                    c.if-escaped.escaped b bs w.if-escaped.false x.if-byte-eq91.true x.if-not-inside.false
+                    w.inside-is w.escaped-is,
+              ))
           | else-byte-eq91-via-else-byte-eq91 x ↦
-              on (omega (arith, w.count-is, by-other l.inside l.escaped c.if-escaped.inside
-              c.if-escaped.escaped b bs w.if-escaped.false w.if-byte-eq92.false w.if-byte-eq93.false
-              x.if-byte-eq91.false w.inside-is w.escaped-is))
+              on (omega (
+                arith,
+                w.count-is,
+                by-other l.inside l.escaped c.if-escaped.inside
+                    c.if-escaped.escaped b bs w.if-escaped.false w.if-byte-eq92.false w.if-byte-eq93.false
+                    x.if-byte-eq91.false w.inside-is w.escaped-is,
+              ))
         ];
         bound = omega (arith, w.count-is, l.invariant.bound);
       }

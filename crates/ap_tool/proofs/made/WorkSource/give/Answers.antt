@@ -12,8 +12,14 @@ returns-then-count-rest-clause-given c =
     (omega (arith, c.requires.more))
     (c.copy_from_slice.ensures.after ∙ ap (take c.min-count.result) (rest-all text s.at)
     ∙ ap (λ t. take c.min-count.result (drop s.at t)) c.part_text-text.ensures)
-    (omega (arith, c.if-count-rest.true, s.inside, ap length c.part_text-text.ensures,
-    ap length (rest-all text s.at), length-drop s.at text))
+    (omega (
+      arith,
+      c.if-count-rest.true,
+      s.inside,
+      ap length c.part_text-text.ensures,
+      ap length (rest-all text s.at),
+      length-drop s.at text,
+    ))
 
 pub returns-else-count-rest-clause-given : goal.returns-else-count-rest-clause-given
 returns-else-count-rest-clause-given c =
@@ -21,8 +27,15 @@ returns-else-count-rest-clause-given c =
     let text = c.part_text-text.result.now in
     let n = c.min-count.result in
     let all : s.at + n ≡ length (part_text s.part s.next) =
-    omega (arith, c.if-count-rest.false, c.min-count.ensures, s.inside,
-    ap length c.part_text-text.ensures, ap length (rest-all text s.at), length-drop s.at text) in
+    omega (
+      arith,
+      c.if-count-rest.false,
+      c.min-count.ensures,
+      s.inside,
+      ap length c.part_text-text.ensures,
+      ap length (rest-all text s.at),
+      length-drop s.at text,
+    ) in
     part-given s.part s.next s.at n (s.sentences - s.next)
     c.copy_from_slice.new.self (drop n c.args.into.now)
     (omega (arith, c.requires.more))
