@@ -11,7 +11,7 @@ pub const WORK_MAX: u64 = 1_000_000;
 
 /// What of a sentence stands before its number, its number, and what stands behind it.
 #[derive(Clone, Copy, Debug, PartialEq, Eq)]
-pub enum Part {
+pub(crate) enum Part {
     Head,
     Number,
     Tail,
