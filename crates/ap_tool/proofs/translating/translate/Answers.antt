@@ -10,16 +10,16 @@ use Rattle.ap_tool.proofs.translating.translate.Goals as goal
 
 pub next_translation-files-requires : goal.next_translation-files-requires
 next_translation-files-requires g c =
-    translation-kept c.args.room c.requires.kept.0 c.requires.kept.1.0 c.args.kept.items
-    c.requires.kept.1.1
+    translation-kept c.args.room c.requires.kept.0 c.requires.kept.1 c.args.kept.items
+    c.requires.kept.2
 
 pub translation_row-requires : goal.translation_row-requires
 translation_row-requires g c =
     let f = c.next_translation-files.result in
-    let s = seven-said c.args.room c.requires.kept.0 c.requires.kept.1.0 f.analyser f.bilingual
+    let s = seven-said c.args.room c.requires.kept.0 c.requires.kept.1 f.analyser f.bilingual
     f.transfer f.interchunk f.postchunk f.generator f.post_generator
-    (subst (λ x. AreKeptAs (translation_files c.requires.kept.0) c.requires.kept.1.0 x)
-    c.next_translation-files.ensures c.requires.kept.1.1) in
+    (subst (λ x. AreKeptAs (translation_files c.requires.kept.0) c.requires.kept.1 x)
+    c.next_translation-files.ensures c.requires.kept.2) in
     record {
       transfer = s.t1x_serves;
       chunks = s.chunks;
