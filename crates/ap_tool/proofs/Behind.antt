@@ -23,14 +23,15 @@ use Rattle.ap_tool.specs.Words.{command_of, files_of}
 use Rattle.ap_tool.specs.Messages.{name_at}
 use Rattle.ap_tool.specs.Outside.{Outside}
 use Rattle.ap_tool.specs.Rows.{Stage, Meaning, TextKind, PlainText, StreamText, AreJoined, ReadAsWritten, EachLinks, LinksAs, stage_reads, stage_writes}
-use Rattle.ap_tool.specs.Gives.{Gives, Streams, Lists, Stores, Nothing, gives_of, Making}
+use Rattle.ap_tool.specs.Gives.{Gives, Streams, Lists, Stores, Works, Nothing, gives_of, Making}
 use Rattle.ap_tool.specs.Listing.{IsListed}
 use Rattle.ap_tool.specs.Reading.{Flaw, TooLong, OfDictionary, OfCompiled, OfRules, status_of_flaw}
 use Rattle.ap_tool.specs.Stream.{malformed_number, status_of_outcome, FlowsOrStops}
 use Rattle.ap_tool.specs.Compiling.{StoresOrStops}
-use Rattle.ap_tool.specs.Answer.{IsRun, IsCommandAnswer, IsAnswerTo, IsAnswer}
+use Rattle.ap_tool.specs.Working.{run_words, work_run, before_work, work_lines, of_built_in}
+use Rattle.ap_tool.specs.Answer.{IsRun, IsStreamAnswer, IsReported, IsWorked, bytes_of, IsCommandAnswer, IsAnswerTo, IsAnswer}
 use Rattle.ap_tool.proofs.Flowing.{no-more, went-stage}
-use Rattle.ap_tool.proofs.Reasons.{Refused, Unloaded, Flawed, Starved, refused-so}
+use Rattle.ap_tool.proofs.Sending.{Refused, Unloaded, Flawed, Starved, refused-so}
 
 -- the dialect that a stage behind another reads
 abbrev dialect-of : TextKind → Dialect
@@ -161,30 +162,70 @@ module _ (law : BehindTheFirst) (status : Status) (stage kind place : ℕ)
     store-first out making (inr (inl s)) = not-file out s.status_is
     store-first out making (inr (inr m)) = not-memory m.memory
 
-    run-first : (g : Gives) → IsRun words g before after status → stage ≡ 1
-    run-first (Streams stages) r =
-        flows-first stages before.source after.source before.sink after.sink r.1
-    run-first (Lists text) r = list-first before.sink after.sink text r.2
-    run-first (Stores out making) r = store-first out making r.1
-    run-first Nothing r = absurd r
-
     module _ (command : Command) where
       unrefused : Refused words before.files after.files (files_of command) status → stage ≡ 1
       unrefused (Unloaded file f h) = not-file file f
       unrefused (Flawed file flaw f h) = not-flaw file flaw f
       unrefused (Starved f) = not-memory f
 
-      answer-first : IsCommandAnswer words before after status command → stage ≡ 1
-      answer-first (inl r) =
+      sent-first : IsStreamAnswer words before after status command → stage ≡ 1
+      sent-first (inl r) =
           unrefused (refused-so words before.files after.files (files_of command) status r.refused)
-      answer-first (inr (inl p)) = run-first (gives_of command p.said) p.ran
-      answer-first (inr (inr i)) = not-memory i.memory
+      sent-first (inr (inl p)) =
+          flows-first p.flows.0 before.source after.source before.sink after.sink p.flows.2
+      sent-first (inr (inr i)) = not-memory i.memory
 
-    words-first : (r : Result Command UsageFault) → IsAnswerTo words before after status r →
-        stage ≡ 1
-    words-first (Err f) a =
-        let x : Usage ≡ Malformed stage kind place = sym a.0 ∙ malformed in cc
-    words-first (Ok command) a = answer-first command a
+-- in the workload too
+module _ (law : BehindTheFirst) (sentences : ℕ) (old new : Standing) (status : Status)
+    (stage kind place : ℕ) (malformed : status ≡ Malformed stage kind place) where
+  ended-first : (ended : Status) (inside : Outside) (text : List ℕ) →
+      IsStreamAnswer run_words (before_work sentences) inside ended work_run →
+      IsReported sentences old new text ended status → stage ≡ 1
+  ended-first Done inside text r h =
+      list-first law status stage kind place malformed old new (work_lines sentences text) h
+  ended-first (Malformed n k p) inside text r h =
+      sent-first law (Malformed n k p) stage kind place (sym h.1 ∙ malformed) run_words
+      (before_work sentences) inside work_run r
+  ended-first (Limit zero k p) inside text r h =
+      let x : of_built_in (Limit 0 k p) ≡ Malformed stage kind place = sym h.1 ∙ malformed in cc
+  ended-first (Limit (suc n) k p) inside text r h =
+      let x : of_built_in (Limit (suc n) k p) ≡ Malformed stage kind place = sym h.1 ∙ malformed in
+      cc
+  ended-first ended inside text r h =
+      let x : of_built_in ended ≡ Malformed stage kind place = sym h.1 ∙ malformed in cc
+
+  work-first : IsWorked sentences old new status → stage ≡ 1
+  work-first w = ended-first w.ended w.after (bytes_of w.after.sink.bytes) w.ran w.reported
+
+module _ (law : BehindTheFirst) (status : Status) (stage kind place : ℕ)
+    (malformed : status ≡ Malformed stage kind place) (words : List (List ℕ))
+    (before after : Outside) where
+  run-first : (g : Gives) → IsRun words g before after status → stage ≡ 1
+  run-first (Streams stages) r =
+      flows-first law status stage kind place malformed stages before.source after.source
+      before.sink after.sink r.1
+  run-first (Lists text) r =
+      list-first law status stage kind place malformed before.sink after.sink text r.2
+  run-first (Stores out making) r =
+      store-first law status stage kind place malformed words before after out making r.1
+  run-first (Works sentences) r =
+      work-first law sentences before.sink after.sink status stage kind place malformed r.2
+  run-first Nothing r = absurd r
+
+  answer-first : (command : Command) → IsCommandAnswer words before after status command →
+      stage ≡ 1
+  answer-first command (inl r) =
+      unrefused law status stage kind place malformed words before after command
+      (refused-so words before.files after.files (files_of command) status r.refused)
+  answer-first command (inr (inl p)) = run-first (gives_of command p.said) p.ran
+  answer-first command (inr (inr i)) =
+      not-memory law status stage kind place malformed i.memory
+
+  words-first : (r : Result Command UsageFault) → IsAnswerTo words before after status r →
+      stage ≡ 1
+  words-first (Err f) a =
+      let x : Usage ≡ Malformed stage kind place = sym a.0 ∙ malformed in cc
+  words-first (Ok command) a = answer-first command a
 
 pub behind-from : BehindTheFirst → (words : List (List ℕ)) (before after : Outside)
     (status : Status) → IsAnswer words before after status → (stage kind place : ℕ) →

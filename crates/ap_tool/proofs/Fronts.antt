@@ -16,15 +16,19 @@ use Rattle.ap_tool.specs.Words.{command_of, files_of}
 use Rattle.ap_tool.specs.Messages.{name_at}
 use Rattle.ap_tool.specs.Outside.{FilesStanding, Outside}
 use Rattle.ap_tool.specs.Rows.{Stage}
-use Rattle.ap_tool.specs.Gives.{Gives, Streams, Lists, Stores, Nothing, gives_of, Making}
+use Rattle.ap_tool.specs.Gives.{Gives, Streams, Lists, Stores, Works, Nothing, gives_of, Making}
 use Rattle.ap_tool.specs.Listing.{IsListed}
 use Rattle.ap_tool.specs.Reading.{Flaw, TooLong, OfDictionary, OfCompiled, OfRules, status_of_flaw}
 use Rattle.ap_tool.specs.Stream.{Always, Flows, FlowsOrStops}
 use Rattle.ap_tool.specs.Compiling.{StoresOrStops}
-use Rattle.ap_tool.specs.Answer.{IsRun, IsCommandAnswer, IsAnswer}
+use Rattle.ap_pipe.specs.Standing.{Standing}
+use Rattle.ap_tool.specs.Working.{work_lines}
+use Rattle.ap_tool.specs.Answer.{IsRun, IsWorked, IsCommandAnswer, IsAnswer}
 use Rattle.ap_tool.specs.Account.{GivesFront, StoresWhole, StreamsFront, OnAccepted}
 use Rattle.ap_tool.proofs.Listings.{take-front}
-use Rattle.ap_tool.proofs.Reasons.{Refused, Unloaded, Flawed, Starved, refused-so, by-command}
+use Rattle.ap_tool.proofs.Sending.{Refused, Unloaded, Flawed, Starved, refused-so}
+use Rattle.ap_tool.proofs.Reasons.{by-command}
+use Rattle.ap_tool.proofs.Worked.{Wrote, Stopped, went, never-write}
 
 -- a text that was put is a front of it
 whole-front : (old new : Option (List ℕ)) (text : List ℕ) → Puts old new text →
@@ -135,6 +139,18 @@ module _ (words : List (List ℕ)) (command : Command) (before after : Outside) 
   stream-broken stages status e (inl f) = stream-front stages status f
   stream-broken stages status e (inr u) = not-memory status e u.memory
 
+  wrote-front : (sentences : ℕ) (status : Status) →
+      Wrote sentences before.sink after.sink status → GivesFront (Works sentences) before after
+  wrote-front sentences status w =
+      (w.text, w.is, list-front (work_lines sentences w.text) status w.listed)
+
+  work-broken : (sentences : ℕ) (status : Status) → status ≡ WriteFault →
+      IsWorked sentences before.sink after.sink status → GivesFront (Works sentences) before after
+  work-broken sentences status e w = elim (went sentences before.sink after.sink status w) [
+    | inl o ↦ wrote-front sentences status o
+    | inr s ↦ absurd (never-write s.ended (sym s.status_is ∙ e))
+  ]
+
   run-broken : (g : Gives) (status : Status) → status ≡ WriteFault →
       IsRun words g before after status → GivesFront g before after
       × StoresWhole words g before.files after.files
@@ -143,6 +159,8 @@ module _ (words : List (List ℕ)) (command : Command) (before after : Outside) 
   run-broken (Lists text) status e r =
       (list-front text status r.2, ap (λ (x : FilesStanding). x.contents) r.0)
   run-broken (Stores out making) status e r = store-broken out making status e r.1
+  run-broken (Works sentences) status e r =
+      (work-broken sentences status e r.2, ap (λ (x : FilesStanding). x.contents) r.0)
   run-broken Nothing status e r = absurd r
 
   abbrev Breaks : Gives → Type 0
@@ -183,11 +201,20 @@ module _ (words : List (List ℕ)) (command : Command) (before after : Outside) 
   stream-starved stages status (inl f) = inr (stream-front stages status f)
   stream-starved stages status (inr u) = inl u.unwritten
 
+  work-starved : (sentences : ℕ) (status : Status) →
+      IsWorked sentences before.sink after.sink status →
+      (after.sink ≡ before.sink) ⊎ GivesFront (Works sentences) before after
+  work-starved sentences status w = elim (went sentences before.sink after.sink status w) [
+    | inl o ↦ inr (wrote-front sentences status o)
+    | inr s ↦ inl s.same
+  ]
+
   run-starved : (g : Gives) (status : Status) → status ≡ Memory → IsRun words g before after status
       → (after.sink ≡ before.sink) ⊎ GivesFront g before after
   run-starved (Streams stages) status e r = stream-starved stages status r.1
   run-starved (Lists text) status e r = inr (list-front text status r.2)
   run-starved (Stores out making) status e r = store-starved out making status e r.1
+  run-starved (Works sentences) status e r = work-starved sentences status r.2
   run-starved Nothing status e r = absurd r
 
   abbrev Starves : Type 0

@@ -18,13 +18,17 @@ use Rattle.ap_tool.specs.declared.words.Command.{Command}
 use Rattle.ap_tool.specs.Words.{command_of, files_of}
 use Rattle.ap_tool.specs.Outside.{Outside}
 use Rattle.ap_tool.specs.Rows.{Stage, Meaning, TextKind, PlainText, StreamText, AreJoined, ReadAsWritten, HaveSame, KeepsAs, KeptTo, KeptInside, AreMeanings, stage_reads, stage_writes, row_reads, row_writes, EachKeepsSuperblanks}
-use Rattle.ap_tool.specs.Gives.{Gives, Streams, Lists, Stores, Nothing, gives_of}
+use Rattle.ap_tool.specs.Gives.{Gives, Streams, Lists, Stores, Works, Nothing, gives_of}
 use Rattle.ap_tool.specs.Reading.{Flaw, TooLong, OfDictionary, OfCompiled, OfRules, status_of_flaw}
 use Rattle.ap_tool.specs.Stream.{status_at, status_of_outcome, FlowsOrStops}
-use Rattle.ap_tool.specs.Answer.{IsRun, IsCommandAnswer, IsAnswer}
-use Rattle.ap_tool.specs.Account.{StreamsSuperblanks, GivesSuperblanks, OnAccepted}
+use Rattle.ap_tool.specs.Working.{run_words, work_run, before_work}
+use Rattle.ap_tool.specs.Answer.{IsRun, IsStreamAnswer, IsReported, bytes_of, IsCommandAnswer, IsAnswer}
+use Rattle.ap_pipe.specs.Standing.{Standing}
+use Rattle.ap_tool.specs.Account.{StreamsSuperblanks, GivesSuperblanks, OnAccepted, IsBuiltInRow}
 use Rattle.ap_tool.proofs.Flowing.{no-more}
-use Rattle.ap_tool.proofs.Reasons.{Refused, Unloaded, Flawed, Starved, refused-so, by-command}
+use Rattle.ap_tool.proofs.Sending.{Refused, Unloaded, Flawed, Starved, refused-so}
+use Rattle.ap_tool.proofs.Reasons.{by-command}
+use Rattle.ap_tool.proofs.Worked.{undone-stays}
 
 -- a row without a fault has none in its stages
 none-behind : (behind : Option RowFault) (n : ℕ) (own : Option StreamFault) →
@@ -196,24 +200,53 @@ module _ (words : List (List ℕ)) (command : Command) (before after : Outside) 
       f.mean f.joined f.keeps f.went.taken f.went.came
   stream-kept stages status e (inr u) = not-memory status e u.memory
 
-  run-kept : (g : Gives) (status : Status) → status ≡ Done → IsRun words g before after status →
-      GivesSuperblanks g before after
-  run-kept (Streams stages) status e r = stream-kept stages status e r.1
-  run-kept (Lists text) status e r = tt
-  run-kept (Stores out making) status e r = tt
-  run-kept Nothing status e r = tt
-
   unrefused : {A : Type 0} (status : Status) → status ≡ Done →
       Refused words before.files after.files (files_of command) status → A
   unrefused status e (Unloaded file f h) = not-fault status file e f
   unrefused status e (Flawed file flaw f h) = not-flaw status file flaw e f
   unrefused status e (Starved f) = not-memory status e f
 
+-- the translation of the workload
+pub work-kept : (sentences : ℕ) (inside : Outside) →
+    IsStreamAnswer run_words (before_work sentences) inside Done work_run →
+    (stages : List Stage) × IsBuiltInRow stages
+    × StreamsSuperblanks stages (before_work sentences) inside
+work-kept sentences inside (inl r) =
+    unrefused run_words work_run (before_work sentences) inside Done refl
+    (refused-so run_words (before_work sentences).files inside.files (files_of work_run) Done
+    r.refused)
+work-kept sentences inside (inr (inl p)) = (
+  p.flows.0,
+  record { said = p.said; opened = p.opened; gives = p.flows.1 },
+  stream-kept run_words work_run (before_work sentences) inside p.flows.0 Done refl p.flows.2,
+)
+work-kept sentences inside (inr (inr i)) = not-memory Done refl i.memory
+
+module _ (words : List (List ℕ)) (command : Command) (before after : Outside) where
+  ended-kept : (sentences : ℕ) (old new : Standing) (status ended : Status) (inside : Outside)
+      (text : List ℕ) → IsStreamAnswer run_words (before_work sentences) inside ended work_run →
+      IsReported sentences old new text ended status → status ≡ Done →
+      GivesSuperblanks (Works sentences) before after
+  ended-kept sentences old new status Done inside text a h e =
+      let k = work-kept sentences inside a in (k.0, k.1, inside, k.2)
+  ended-kept sentences old new status ended inside text a h e =
+      absurd (undone-stays ended (λ x. cc) (sym h.1 ∙ e))
+
+  run-kept : (g : Gives) (status : Status) → status ≡ Done → IsRun words g before after status →
+      GivesSuperblanks g before after
+  run-kept (Streams stages) status e r = stream-kept words command before after stages status e r.1
+  run-kept (Lists text) status e r = tt
+  run-kept (Stores out making) status e r = tt
+  run-kept (Works sentences) status e r =
+      ended-kept sentences before.sink after.sink status r.2.ended r.2.after
+      (bytes_of r.2.after.sink.bytes) r.2.ran r.2.reported e
+  run-kept Nothing status e r = tt
+
   answer-kept : (status : Status) → status ≡ Done →
       IsCommandAnswer words before after status command →
       OnAccepted words command before (λ given. GivesSuperblanks given before after)
   answer-kept status e (inl r) =
-      unrefused status e (refused-so words before.files after.files (files_of command)
+      unrefused words command before after status e (refused-so words before.files after.files (files_of command)
       status r.refused)
   answer-kept status e (inr (inl p)) =
       record {
