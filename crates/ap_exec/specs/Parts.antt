@@ -44,15 +44,20 @@ begins_with [] word = true
 begins_with (s ∷ more) [] = false
 begins_with (s ∷ more) (t ∷ word) = fits_lem true s t && begins_with more word
 
+-- an item fits where the word begins with it; an empty one never does
+abbrev pub item_fits : List Symbol → List Symbol → Bool
+item_fits [] word = false
+item_fits (s ∷ more) word = begins_with (s ∷ more) word
+
 abbrev pub longer : Option ℕ → ℕ → Option ℕ
 longer None n = Some n
 longer (Some m) n = Some (if nat_lt m n then n else m)
 
--- the length of the longest item with which the word begins, where it begins with one
+-- the length of the longest item that fits, where one does
 abbrev pub longest : Option ℕ → List (List Symbol) → List Symbol → Option ℕ
 longest best [] word = best
 longest best (item ∷ items) word =
-    longest (if begins_with item word then longer best (length item) else best) items word
+    longest (if item_fits item word then longer best (length item) else best) items word
 
 abbrev pub found : ℕ → Option ℕ → Span → Span
 found at None later = later

@@ -3,7 +3,7 @@ ghost use Rattle.std.specs.Prelude.{◌≡◌, ◌+◌, ◌≤◌, ◌<◌, ◌^
 ghost use Rattle.std.specs.List.{prefix_len};
 ghost use Rattle.std.specs.Option.{option_copied};
 ghost use Rattle.ap_symbol.specs.Words.{AreProper};
-ghost use Rattle.ap_exec.specs.Parts.{is_tag, is_queue, is_lemma, is_head, begins_with, longer, longest, sought, tags_in, items_of, span_of, cut, side_in, word_on, word_at, part_at, linked, clip_of, case_at};
+ghost use Rattle.ap_exec.specs.Parts.{is_tag, is_queue, is_lemma, is_head, begins_with, item_fits, longer, longest, sought, tags_in, items_of, span_of, cut, side_in, word_on, word_at, part_at, linked, clip_of, case_at};
 ghost use Rattle.ap_exec.specs.Ranges.{span};
 ghost use Rattle.ap_exec.specs.States.{sight};
 ghost use Rattle.ap_exec.specs.Units.{number_at, unit_at};
@@ -77,6 +77,14 @@ fn begins_with(item: &[Symbol], word: &[Symbol]) -> bool
     true
 }
 
+/// The word begins with the item; an empty one never fits.
+fn item_fits(item: &[Symbol], word: &[Symbol]) -> bool
+    ensures value { result ≡ item_fits item.now word.now }
+    ensures within { result ≡ true → length item.now ≤ length word.now }
+{
+    !item.is_empty() && begins_with(item, word)
+}
+
 fn longer(best: Option<usize>, len: usize) -> Option<usize>
     ensures { result ≡ longer best len }
 {
@@ -86,14 +94,14 @@ fn longer(best: Option<usize>, len: usize) -> Option<usize>
     }
 }
 
-/// The length of the longest item with which the word begins.
+/// The length of the longest item that fits at the front of the word.
 fn longest(items: &[AttrItem], word: &[Symbol]) -> Option<usize>
     ensures value { result ≡ longest None (map tags_in items.now) word.now }
     ensures within { IfSome result (λ n. n ≤ length word.now) }
 {
     let mut best = None;
     for item in items {
-        if begins_with(item.tags.symbols(), word) {
+        if item_fits(item.tags.symbols(), word) {
             best = longer(best, item.tags.len());
         }
     }
