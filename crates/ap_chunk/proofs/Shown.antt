@@ -1,6 +1,5 @@
 -- What a match gives to a rule, as the rule reads it.
 use Rattle.std.specs.Prelude.{◌≡◌, List, [], ◌∷◌, ◌++◌, length, map, refl}
-use Rattle.std.specs.List.{flat_map}
 use Rattle.std.proofs.Common.{ap, sym, ◌∙◌}
 use Rattle.std.proofs.lemmas.List.{append-nil, map-append}
 use Rattle.std.proofs.lemmas.List.Concat.{flat_map-cons}
@@ -9,8 +8,7 @@ use Rattle.ap_stream.specs.declared.item.Inner.{Inner}
 use Rattle.ap_stream.specs.declared.item.Read.{Read}
 use Rattle.ap_exec.specs.Acting.{shown}
 use Rattle.ap_exec.specs.Units.{Shown}
-use Rattle.ap_exec.specs.declared.matched.MatchedUnit.{MatchedUnit}
-use Rattle.ap_chunk.specs.Matches.{named, worded, matched_item, matched_items, shown_items, shown_word}
+use Rattle.ap_chunk.specs.Matches.{worded, matched_item, matched_items, shown_items, shown_word}
 
 -- all of a word is its head
 pub lone_shown : (source target : List Symbol) (content : List Inner)
