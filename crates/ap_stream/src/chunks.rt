@@ -177,19 +177,19 @@ struct NameEnd {
     end: usize,
 }
 
-/// The name of the chunk that these bytes are.
-fn name_at(alloc: Global, held: &[u8]) -> Result<NameEnd, Memory>
+/// The name of the chunk that these bytes are. Its tags are taken from the names that are kept,
+/// and kept.
+fn name_at(alloc: Global, names: &mut Names, held: &[u8]) -> Result<NameEnd, Memory>
     requires { (words : List (List Symbol)) × (n : ℕ)
         × (rest (form_of Chunked) [] [] 0 (drop 1 held.now) ≡ Ends words n) }
     ensures { IfOk result (λ made. (1 ≤ made.end) × (made.end ≤ length held.now)
         × (rest (form_of Chunked) [] [] 0 (drop 1 held.now)
         ≡ Ends (made.name ∷ []) (made.end - 1))) }
 {
-    let mut names = Names::new(alloc);
     let mut name = Word::new(alloc);
     let mut at = 1;
     while at < held.len() {
-        match sign_at(alloc, &mut names, false, &held[at..])? {
+        match sign_at(alloc, names, false, &held[at..])? {
             Signed::Reads(symbol, size) => {
                 name.push(symbol)?;
                 at += size;
@@ -204,11 +204,11 @@ fn name_at(alloc: Global, held: &[u8]) -> Result<NameEnd, Memory>
 }
 
 /// The chunk that these bytes are.
-pub(crate) fn chunk_of(alloc: Global, held: &[u8]) -> Result<Chunk, Memory>
+pub(crate) fn chunk_of(alloc: Global, names: &mut Names, held: &[u8]) -> Result<Chunk, Memory>
     requires { (chunk : ChunkIs) × ChunkOf held.now chunk }
     ensures { IfOk result (ChunkOf held.now) }
 {
-    let NameEnd { name, end } = name_at(alloc, held)?;
+    let NameEnd { name, end } = name_at(alloc, names, held)?;
     let content = content_of(alloc, &held[end..])?;
     Ok(Chunk { name, content })
 }

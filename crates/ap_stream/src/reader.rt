@@ -13,6 +13,7 @@ use crate::examine::Mode;
 use crate::fault::{LimitKind, MalformedKind, StreamFault};
 use crate::item::{Item, Read};
 use crate::level::{Level, Shown, look};
+use crate::names::Names;
 use crate::unit::Unit;
 use ap_symbol::Memory;
 use std::alloc::Global;
@@ -40,6 +41,8 @@ pub struct Reader {
     looked: bool,
     place: u64,
     fault: Option<StreamFault>,
+    /// The tags of the names of chunks that were read last.
+    names: Names,
 }
 
 impl Model for Reader {
@@ -123,6 +126,7 @@ impl Reader {
             looked: true,
             place: 0,
             fault: None,
+            names: Names::new(alloc),
         }
     }
 
@@ -331,7 +335,7 @@ impl Reader {
                 Ok(Some(read))
             }
             Shown::ChunkEnds => {
-                let chunk = match chunk_of(self.alloc, self.held.as_slice()) {
+                let chunk = match chunk_of(self.alloc, &mut self.names, self.held.as_slice()) {
                     Ok(chunk) => chunk,
                     Err(_) => {
                         self.fault = Some(StreamFault::Memory);
