@@ -1,5 +1,5 @@
 ghost use Rattle.std.specs.Prelude.{◌≡◌, ℕ, List, [], length, false, None};
-ghost use Rattle.ap_stream.specs.Each.{held_items, held_size, none_held};
+ghost use Rattle.ap_stream.specs.Each.{held_items, held_size, none_held, each_copies};
 ghost use Rattle.ap_stream.specs.Told.{Ending};
 ghost use Rattle.ap_stream.specs.Rest.{rest_of, held_of, rest_at_fault, rest_at_cut, rest_pending_first};
 ghost use Rattle.ap_stream.specs.declared.dialect.Dialect.TheVariants.{Analysed};
@@ -7,8 +7,8 @@ ghost use Rattle.ap_passes.specs.Passes.{first_reading, first_pass, first_work};
 
 use crate::units::write_filled;
 use ap_stream::{
-    Dialect, Each, Finish, Handler, Names, Pipe, Read, Stage, StageFault, Staged, Turn, Unit,
-    UnitWriter,
+    ByUnit, Copies, Dialect, Each, Finish, Handler, Names, Pipe, Read, Stage, StageFault, Staged,
+    Turn, Unit, UnitWriter,
 };
 use ap_symbol::{Bytes, Memory, Word};
 use std::alloc::Global;
@@ -105,6 +105,21 @@ impl Handler for FirstWork {
     ghost wants_first = { λ h e. none_held h.item e };
 }
 
+impl Copies for FirstWork {
+    fn is_free(&self) -> bool {
+        self.each.is_free()
+    }
+
+    ghost copies = { λ h read xs none copied.
+        each_copies first_reading h.item read xs none copied };
+}
+
+impl ByUnit for FirstWork {
+    fn unit(&mut self, bytes: &[u8], into: &mut Bytes) -> Result<bool, Memory> {
+        self.each.unit(bytes, into)
+    }
+}
+
 /// The first reading of each unit of an analysed text, as a unit: a `Stage` over bytes. Of a unit
 /// whose first reading is empty nothing is written; any other item is copied.
 ///
@@ -150,7 +165,7 @@ impl Stage for First {
     ghost fault = { λ s. s.fault };
 
     fn take(&mut self, piece: &[u8]) -> Result<usize, StageFault> {
-        self.stage.take(piece)
+        self.stage.take_units(piece)
     }
 
     fn end(&mut self) -> Result<Finish, StageFault> {

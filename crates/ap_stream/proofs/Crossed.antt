@@ -10,8 +10,8 @@ use Rattle.ap_stream.specs.declared.examine.Mode.TheVariants as mode
 use Rattle.ap_stream.specs.declared.examine.Spot.{Spot}
 use Rattle.ap_stream.specs.declared.dialect.Dialect.{Dialect}
 use Rattle.ap_stream.specs.Chars.{Part, Char, char_at}
-use Rattle.ap_stream.specs.Units.{form_of, Sign, Reads, sign, sign_bare, bare_of, is_barred, in_surface}
-use Rattle.ap_stream.specs.InUnits.{InUnit, InTag, grown_spot, surface_at, unit_symbol}
+use Rattle.ap_stream.specs.Units.{form_of, Sign, Reads, sign, sign_bare, bare_of, is_barred, in_surface, may_part}
+use Rattle.ap_stream.specs.InUnits.{InUnit, InTag, spot, grown_spot, surface_at, several_in, unit_symbol, unit_slash}
 use Rattle.ap_stream.proofs.WordSteps as words
 use Rattle.ap_stream.specs.Stands.{Stands, Within, within_on}
 use Rattle.ap_symbol.specs.TagNames.{is_reserved_lem}
@@ -22,7 +22,7 @@ use Rattle.ap_stream.specs.Levels.{StandsIn, StandsPart, between, part_begins, p
 use Rattle.ap_stream.specs.declared.dialect.Dialect.TheVariants.{Lexical}
 use Rattle.ap_stream.specs.declared.level.Level.{Level}
 use Rattle.ap_stream.specs.declared.level.Level.TheVariants as level
-use Rattle.ap_stream.specs.Crossing.{GoesOn, AllGoOn, stops_word, is_lone, is_named, word_crossed, tag_crossed, crossed_by, crossing, and_on, AllCross, AllCrossIn}
+use Rattle.ap_stream.specs.Crossing.{GoesOn, AllGoOn, stops_word, is_lone, is_named, parts_at, word_crossed, tag_crossed, crossed_by, crossing, and_on, AllCross, AllCrossIn}
 
 pub goes_on : (b : ℕ) → b < 128 → ((b == 93 || b == 92) ≡ true → ⊥) → GoesOn b
 goes_on b small bare = record {
@@ -130,6 +130,16 @@ one_more false x y z R e f g = g refl e
 given : {A : Type 0} (x z : A) (R : A → Type 0) → Some x ≡ Some z → R x → R z
 given x z R e r = let same : x ≡ z = cc in subst R same r
 
+slash_parts : (dialect : Dialect) (at : Spot) (done : List ℕ) (b : ℕ) → InUnit dialect at done →
+    (eqb b 47 && parts_at dialect at) ≡ true → InUnit dialect (spot false true) (done ++ b ∷ [])
+slash_parts dialect at done b h t =
+    let both = and_parts (eqb b 47) (parts_at dialect at) t in
+    let parts = and_parts (several_in dialect) (not (at.first && at.empty)) both.1 in
+    let may : may_part h.words h.word ≡ not (at.first && at.empty) =
+    rw (h.first_is, h.empty_is) refl in
+    subst (λ (z : ℕ). InUnit dialect (spot false true) (done ++ z ∷ []))
+    (sym (eqb-true b 47 both.0)) (unit_slash dialect at done h parts.0 (may ∙ parts.1))
+
 word_on : (dialect : Dialect) (at : Spot) (done : List ℕ) (b : ℕ) (to : Mode) →
     InUnit dialect at done → word_crossed dialect at b ≡ Some to →
     InUnitAt dialect to (done ++ b ∷ [])
@@ -138,11 +148,15 @@ word_on dialect at done b to h e =
     (λ m. InUnitAt dialect m (done ++ b ∷ [])) e
     (λ t k. given (mode.Word (grown_spot at)) to (λ m. InUnitAt dialect m (done ++ b ∷ [])) k
     (lone_symbol dialect at done b h (lone b t)))
-    (λ f k. one_more (eqb b 60 && not (surface_at dialect at)) (Some (mode.Tag at false)) None to
+    (λ f k. one_more (eqb b 60 && not (surface_at dialect at)) (Some (mode.Tag at false)) _ to
     (λ m. InUnitAt dialect m (done ++ b ∷ [])) k
     (λ t l. given (mode.Tag at false) to (λ m. InUnitAt dialect m (done ++ b ∷ [])) l
     (words.word_tag dialect at done (b ∷ []) h [] b refl nothing_part t))
-    (λ g l. absurd (cc)))
+    (λ g l. one_more (eqb b 47 && parts_at dialect at) (Some (mode.Word (spot false true))) None to
+    (λ m. InUnitAt dialect m (done ++ b ∷ [])) l
+    (λ t n. given (mode.Word (spot false true)) to (λ m. InUnitAt dialect m (done ++ b ∷ [])) n
+    (slash_parts dialect at done b h t))
+    (λ i n. absurd (cc))))
 
 tag_on : (dialect : Dialect) (at : Spot) (some : Bool) (done : List ℕ) (b : ℕ) (to : Mode) →
     InTag dialect at some done → tag_crossed at some b ≡ Some to →

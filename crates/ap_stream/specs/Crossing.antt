@@ -8,7 +8,7 @@ use Rattle.ap_stream.specs.declared.dialect.Dialect.TheVariants.{Lexical}
 use Rattle.ap_stream.specs.declared.examine.Spot.{Spot}
 use Rattle.ap_stream.specs.declared.level.Level.{Level}
 use Rattle.ap_stream.specs.declared.level.Level.TheVariants as level
-use Rattle.ap_stream.specs.InUnits.{grown_spot, surface_at}
+use Rattle.ap_stream.specs.InUnits.{spot, grown_spot, surface_at, several_in}
 
 -- a byte that is a character by itself and neither ends a superblank nor escapes
 pub record GoesOn (b : ℕ) : Type 0 where
@@ -35,11 +35,17 @@ is_lone b = nat_lt b 128 && not (stops_word b)
 abbrev pub is_named : ℕ → Bool
 is_named b = nat_lt b 128 && not (is_reserved_lem b)
 
+-- a bare / ends a word of the unit here, and another begins
+abbrev pub parts_at : Dialect → Spot → Bool
+parts_at dialect at = several_in dialect && not (at.first && at.empty)
+
 -- the mode behind one more byte of a unit, where the byte is a character by itself that neither
--- ends a word nor escapes: a symbol of a word, the start of a tag, one of its name, or its end
+-- ends the unit nor escapes: a symbol of a word, the end of a word before another, the start of a
+-- tag, one of its name, or its end
 abbrev pub word_crossed : Dialect → Spot → ℕ → Option Mode
 word_crossed dialect at b = if is_lone b then Some (mode.Word (grown_spot at))
-    else (if eqb b 60 && not (surface_at dialect at) then Some (mode.Tag at false) else None)
+    else (if eqb b 60 && not (surface_at dialect at) then Some (mode.Tag at false)
+    else (if eqb b 47 && parts_at dialect at then Some (mode.Word (spot false true)) else None))
 
 abbrev pub tag_crossed : Spot → Bool → ℕ → Option Mode
 tag_crossed at some b = if is_named b then Some (mode.Tag at true)

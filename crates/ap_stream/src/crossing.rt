@@ -1,8 +1,8 @@
 ghost use Rattle.std.specs.Prelude.{◌≡◌, ◌==◌, ◌||◌, true, ℕ, ◌<◌, ◌≤◌, length, slice_index, take, Some};
-ghost use Rattle.ap_stream.specs.Crossing.{AllGoOn, AllCross, AllCrossIn, is_lone as lone_test, is_named as named_test, crossed_by, crossing};
+ghost use Rattle.ap_stream.specs.Crossing.{AllGoOn, AllCross, AllCrossIn, is_lone as lone_test, is_named as named_test, parts_at, crossed_by, crossing};
 
 use crate::dialect::Dialect;
-use crate::examine::{Mode, grown, is_surface};
+use crate::examine::{Mode, Spot, grown, is_several, is_surface};
 use crate::level::Level;
 use memchr::memchr2;
 
@@ -77,8 +77,15 @@ fn is_named(byte: u8) -> bool
         )
 }
 
+/// Whether a bare `/` ends a word of the unit here, and another begins.
+fn parts_at(dialect: Dialect, at: Spot) -> bool
+    ensures { result ≡ parts_at dialect at }
+{
+    is_several(dialect) && !(at.first && at.empty)
+}
+
 /// The mode behind one more byte within a unit, where the byte is a character by itself that
-/// neither ends a word nor escapes.
+/// neither ends the unit nor escapes.
 fn crossed_by(dialect: Dialect, mode: Mode, byte: u8) -> Option<Mode>
     ensures { result ≡ crossed_by dialect mode byte }
 {
@@ -89,6 +96,12 @@ fn crossed_by(dialect: Dialect, mode: Mode, byte: u8) -> Option<Mode>
             }
             if byte == b'<' && !is_surface(dialect, at) {
                 return Some(Mode::Tag(at, false));
+            }
+            if byte == b'/' && parts_at(dialect, at) {
+                return Some(Mode::Word(Spot {
+                    first: false,
+                    empty: true,
+                }));
             }
             None
         }

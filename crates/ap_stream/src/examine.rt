@@ -192,7 +192,7 @@ pub(crate) fn is_surface(dialect: Dialect, at: Spot) -> bool
 }
 
 /// Whether a unit of the dialect has several words.
-fn is_several(dialect: Dialect) -> bool
+pub(crate) fn is_several(dialect: Dialect) -> bool
     ensures { result ≡ several_in dialect }
 {
     matches!(dialect, Dialect::Analysed | Dialect::Bilingual)

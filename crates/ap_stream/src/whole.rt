@@ -18,7 +18,7 @@ fn ends_unit(dialect: Dialect, mode: Mode) -> bool
 }
 
 /// The number of bytes of the unit at the front, or 0 where there is none, it isn't whole, or it
-/// has several words, an escaped character or one that isn't ASCII.
+/// has an escaped character or one that isn't ASCII.
 pub(crate) fn unit_size(dialect: Dialect, bytes: &[u8]) -> usize
     ensures most { result ≤ length bytes.now }
     ensures unit { 0 < result →

@@ -1,4 +1,4 @@
 use Rattle.ap_passes.proofs.first.FirstStage.take.Goals as goal
 
 pub returns-clause-front : goal.returns-clause-front
-returns-clause-front c = rw (← c.self.view_is) c.take.ensures.front
+returns-clause-front c = rw (← c.self.view_is) c.take_units.ensures.front
