@@ -1,7 +1,8 @@
 //! The parts of words, and what clips give.
-ghost use Rattle.std.specs.Prelude.{◌≡◌, ◌+◌, ◌≤◌, ◌<◌, ◌^◌, true, length, map, None, IfSome};
+ghost use Rattle.std.specs.Prelude.{◌≡◌, ◌≢◌, ◌+◌, ◌≤◌, ◌<◌, ◌^◌, true, false, length, map, None, IfSome};
 ghost use Rattle.std.specs.List.{prefix_len};
 ghost use Rattle.std.specs.Option.{option_copied};
+ghost use Rattle.ap_symbol.specs.Fitting.{fits_lem};
 ghost use Rattle.ap_symbol.specs.Words.{AreProper};
 ghost use Rattle.ap_exec.specs.Parts.{is_tag, is_queue, is_lemma, is_head, begins_with, item_fits, longer, longest, sought, tags_in, items_of, span_of, cut, side_in, word_on, word_at, part_at, linked, clip_of, case_at};
 ghost use Rattle.ap_exec.specs.Ranges.{span};
@@ -77,12 +78,36 @@ fn begins_with(item: &[Symbol], word: &[Symbol]) -> bool
     true
 }
 
+/// Whether two texts differ in their length or in their first byte.
+fn differ(a: &[u8], b: &[u8]) -> bool
+    ensures { result ≡ true → a.now ≢ b.now }
+{
+    match (a.first(), b.first()) {
+        (Some(first), Some(other)) => a.len() != b.len() || *first != *other,
+        _ => false,
+    }
+}
+
+/// Whether the two are tags that can be told apart at once.
+fn are_apart(symbol: &Symbol, other: &Symbol) -> bool
+    ensures { result ≡ true → fits_lem true symbol.now other.now ≡ false }
+{
+    match (symbol, other) {
+        (Symbol::Tag(a), Symbol::Tag(b)) => differ(a.text().as_bytes(), b.text().as_bytes()),
+        _ => false,
+    }
+}
+
 /// The word begins with the item; an empty one never fits.
 fn item_fits(item: &[Symbol], word: &[Symbol]) -> bool
     ensures value { result ≡ item_fits item.now word.now }
     ensures within { result ≡ true → length item.now ≤ length word.now }
 {
-    !item.is_empty() && begins_with(item, word)
+    match (item.first(), word.first()) {
+        (Some(first), Some(other)) => !are_apart(first, other) && begins_with(item, word),
+        (None, _) => false,
+        (_, None) => false,
+    }
 }
 
 fn longer(best: Option<usize>, len: usize) -> Option<usize>
