@@ -17,7 +17,7 @@ use crate::item::{Chunk, Content, Inner};
 use crate::names::Names;
 use crate::supers::closed_size;
 use crate::unit::Unit;
-use crate::words::{Signed, sign_at};
+use crate::words::{Signed, empty_word, sign_at};
 use ap_symbol::{Memory, Word, is_reserved_in_tag};
 use std::alloc::Global;
 
@@ -186,7 +186,7 @@ fn name_at(alloc: Global, names: &mut Names, held: &[u8]) -> Result<NameEnd, Mem
         × (rest (form_of Chunked) [] [] 0 (drop 1 held.now)
         ≡ Ends (made.name ∷ []) (made.end - 1))) }
 {
-    let mut name = Word::new(alloc);
+    let mut name = empty_word(alloc, held.len())?;
     let mut at = 1;
     while at < held.len() {
         match sign_at(alloc, names, false, &held[at..])? {

@@ -182,7 +182,7 @@ fn is_surface_behind(surfaced: bool, behind: usize) -> bool
 }
 
 /// A word without symbols, with room for the first of so many bytes.
-fn empty_word(alloc: Global, bytes: usize) -> Result<Word, Memory>
+pub(crate) fn empty_word(alloc: Global, bytes: usize) -> Result<Word, Memory>
     ensures { IfOk result (λ word. word ≡ []) }
 {
     Word::with_capacity(alloc, bytes.min(16), bytes.min(32))

@@ -10,14 +10,20 @@ use std::{env, io};
 fn main(rt: HostRuntime) -> ExitCode {
     let mut err = StdSink::new(rt.stderr());
     let mut words = Vec::new(rt.alloc());
-    if let Ok(args) = env::args(&rt) {
-        for word in args.skip(1) {
-            if words.push(word).is_err() {
-                let status = Status::Memory;
-                let _ = message(&status, &[], &mut err);
-                return ExitCode::from(status.number());
+    let is_read = match env::args(&rt) {
+        Ok(args) => {
+            let mut is_kept = true;
+            for word in args.skip(1) {
+                is_kept = is_kept && words.push(word).is_ok();
             }
+            is_kept
         }
+        Err(error) => error.kind() != io::ErrorKind::OutOfMemory,
+    };
+    if !is_read {
+        let status = Status::Memory;
+        let _ = message(&status, &[], &mut err);
+        return ExitCode::from(status.number());
     }
     let mut files = DiskFiles::new(&rt);
     let mut source = StdSource::new(rt.reader());

@@ -21,13 +21,11 @@ signed c s e =
     (rw (laws.slice_rest c.args.held.now c.loop-at.at) at c.in_ok-symbol.ensures)
 
 pub loop-at-init : goal.loop-at-init
-loop-at-init c =
-    let none : c.new-name.result ≡ [] = c.new-name.ensures in
-    record {
-      begun = omega arith;
-      fits = walk.name_some c.args.held.now c.requires;
-      on = rw none (sym (longer_zero _));
-    }
+loop-at-init c = record {
+  begun = omega arith;
+  fits = walk.name_some c.args.held.now c.requires;
+  on = rw c.in_ok-name.ensures (sym (longer_zero _));
+}
 
 pub loop-at-preserved : goal.loop-at-preserved
 loop-at-preserved c =
