@@ -10,8 +10,6 @@ mod pieces;
 mod reading;
 mod refusal;
 mod sections;
-#[cfg(test)]
-mod tests;
 mod writing;
 
 pub use laws::{

@@ -1,19 +1,15 @@
-use Rattle.std.specs.Prelude.{◌≡◌, ℕ, ◌+◌, Bool, true, false, not, ◌&&◌, ◌==◌, nat_lt, nat_le, IsTrue, List, [], ◌∷◌, length}
+use Rattle.std.specs.Prelude.{ℕ, ◌+◌, Bool, true, false, not, ◌&&◌, nat_lt, IsTrue, List, [], ◌∷◌, length}
 use Rattle.std.specs.List.{list_all}
-use Rattle.ap_symbol.specs.Words.{is_white, AreProper}
-use Rattle.ap_symbol.specs.TagNames.{is_tag_name}
+use Rattle.ap_symbol.specs.Words.{is_white}
 use Rattle.ap_symbol.specs.declared.symbol.Symbol.{Symbol}
-use Rattle.ap_symbol.specs.declared.symbol.Symbol.TheVariants.{Letter, Tag, Blank, Star, At}
+use Rattle.ap_symbol.specs.declared.symbol.Symbol.TheVariants.{Letter, Blank, Star, At}
 use Rattle.ap_dix.specs.Forms.{Form, Forms, one, class, sequence, either, star, plus, opt, no_forms, then_form}
 use Rattle.ap_dix.specs.declared.dictionary.Dictionary.{Dictionary}
 use Rattle.ap_dix.specs.declared.dictionary.Entry.{Entry}
 use Rattle.ap_dix.specs.declared.dictionary.EntryPart.{EntryPart}
 use Rattle.ap_dix.specs.declared.dictionary.EntryPart.TheVariants.{Identity, Pair, Paradigm, Expression}
-use Rattle.ap_dix.specs.declared.dictionary.Kind.TheVariants.{Standard}
 use Rattle.ap_dix.specs.declared.dictionary.Pardef.{Pardef}
 use Rattle.ap_dix.specs.declared.dictionary.Section.{Section}
-use Rattle.ap_dix.specs.declared.dictionary.Side.{Side}
-use Rattle.ap_dix.specs.declared.dictionary.Side.TheVariants.{Both}
 
 -- what a word of a dictionary may hold
 abbrev pub is_entry_symbol : Symbol → Bool
@@ -68,57 +64,3 @@ pub record IsSound (d : Dictionary) : Type 0 where
       (λ (section : Section). list_all (is_sound_entry (length d.pardefs))
       section.entries) d.sections)
   pub alphabet : IsTrue (list_all (λ c. not (is_white c)) d.alphabet)
-
--- a letter from a to z
-abbrev pub is_small : ℕ → Bool
-is_small c = nat_le 97 c && nat_le c 122
-
-abbrev pub is_small_letter : Symbol → Bool
-is_small_letter (Letter c) = is_small c
-is_small_letter _ = false
-
-abbrev pub is_small_letter_or_tag : Symbol → Bool
-is_small_letter_or_tag (Letter c) = is_small c
-is_small_letter_or_tag (Tag name) = is_tag_name name
-is_small_letter_or_tag _ = false
-
--- one or more letters from a to z
-abbrev pub is_plain_left : List Symbol → Bool
-is_plain_left word = not (length word == 0) && list_all is_small_letter word
-
--- one word of letters for both sides, or a left word of letters and a right word of letters and
--- tags
-abbrev pub is_plain_part : EntryPart → Bool
-is_plain_part (Identity word) = is_plain_left word
-is_plain_part (Pair left right) = is_plain_left left && list_all is_small_letter_or_tag right
-is_plain_part (Paradigm n) = false
-is_plain_part (Expression e text) = false
-
--- each word of the part is proper
-abbrev pub ArePartsProper : EntryPart → Type 0
-ArePartsProper (Identity word) = AreProper word
-ArePartsProper (Pair left right) = AreProper left × AreProper right
-ArePartsProper (Paradigm n) = Unit {0}
-ArePartsProper (Expression e text) = Unit {0}
-
-abbrev pub is_plain_parts : List EntryPart → Bool
-is_plain_parts [] = false
-is_plain_parts (part ∷ []) = is_plain_part part
-is_plain_parts (part ∷ next ∷ parts) = false
-
-abbrev pub is_both : Side → Bool
-is_both Both = true
-is_both _ = false
-
--- kept in both directions, and of one part
-abbrev pub is_plain_entry : Entry → Bool
-is_plain_entry entry = is_both entry.side && not entry.ignored && is_plain_parts entry.parts
-
--- A dictionary is plain where it has no paradigms, and one standard section of plain entries.
-pub record IsPlain (d : Dictionary) : Type 0 where
-  pub entries : List Entry
-  pub pardefs : d.pardefs ≡ []
-  pub sections : let section : Section = record { kind = Standard; entries = entries } in
-      d.sections ≡ section ∷ []
-  pub each : IsTrue (list_all is_plain_entry entries)
-  pub alphabet : IsTrue (list_all is_small d.alphabet)

@@ -14,8 +14,6 @@ mod reading;
 mod refusal;
 mod sections;
 mod stages;
-#[cfg(test)]
-mod tests;
 mod tokens;
 mod words;
 

@@ -24,8 +24,6 @@ mod sizes;
 mod stack;
 mod state;
 mod template;
-#[cfg(test)]
-mod tests;
 mod values;
 mod vars;
 mod word_laws;

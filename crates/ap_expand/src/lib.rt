@@ -5,8 +5,6 @@ mod expansion;
 mod frame;
 mod line;
 mod search;
-#[cfg(test)]
-mod tests;
 mod walk;
 
 pub use expansion::Expansion;

@@ -12,7 +12,6 @@ use Rattle.ap_fst.specs.Redrafting.{edge_move, end_move, start_move, draft_moves
 use Rattle.ap_fst.specs.Walks.{Walk, ends, goes, AcceptsLabels}
 use Rattle.ap_fst.specs.declared.draft.Move.{Move}
 use Rattle.ap_fst.specs.declared.label.Label.{Label}
-use Rattle.ap_fst.specs.declared.label.Edge.{Edge}
 use Rattle.ap_fst.proofs.Listing.{in_front, in_back, in_either, in_map, in_mapped, IsImage, placed_in, IsPlaced, in_from_place}
 
 -- a move is that of the start, that of an edge, or that of a final state

@@ -134,7 +134,9 @@ fn give_numbers(
 fn numbered_at(numbers: &IndexMap<usize, usize>, at: usize) -> Option<usize>
     ensures { OnSome result (at < 2 ^ 63) }
 {
-    let _count = numbers.len();
+    if at >= numbers.len() {
+        return None;
+    }
     let (state, _) = numbers.get_index(at)?;
     Some(*state)
 }

@@ -201,8 +201,10 @@ impl StateSet {
         ensures value { result ≡ slice_get self.now at }
         ensures bound { OnSome result (at < 2 ^ 63) }
     {
-        let _count = self.states.len();
-        self.states.get(at).copied()
+        if at >= self.states.len() {
+            return None;
+        }
+        Some(self.states[at])
     }
 
     /// A number above all states, where each has a mark.

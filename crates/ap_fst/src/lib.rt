@@ -15,8 +15,6 @@ mod order;
 mod redrafting;
 mod removal;
 mod silence;
-#[cfg(test)]
-mod tests;
 mod trimming;
 mod without_right;
 

@@ -42,7 +42,9 @@ impl Numbering {
         ensures value { result ≡ slice_get self.now number }
         ensures bound { OnSome result (number < 2 ^ 63) }
     {
-        let _count = self.states.len();
+        if number >= self.states.len() {
+            return None;
+        }
         self.states.get_index(number).copied()
     }
 

@@ -19,8 +19,6 @@ mod readings;
 mod rows;
 mod section_live;
 mod stack;
-#[cfg(test)]
-mod tests;
 mod wording;
 
 pub use laws::{outputs_law, viable_law};

@@ -15,8 +15,6 @@ mod rules;
 mod sections;
 mod statement;
 mod statements;
-#[cfg(test)]
-mod tests;
 mod texts;
 mod value;
 mod values;

@@ -36,7 +36,9 @@ impl States {
         ensures value { result ≡ slice_get self.now at }
         ensures bound { OnSome result (at < 2 ^ 63) }
     {
-        let _count = self.states.len();
+        if at >= self.states.len() {
+            return None;
+        }
         self.states.get_index(at).copied()
     }
 

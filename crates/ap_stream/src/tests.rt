@@ -1,4 +1,0 @@
-mod chunks;
-mod reading;
-mod units;
-mod writing;
