@@ -7,7 +7,7 @@ use std::process::Abort;
 use std::test::Fail;
 
 /// Runs the words over one file and an input, and compares the status and what is written.
-fn check_file(
+pub fn check_file(
     rt: &impl Abort,
     alloc: Global,
     words: &str,
@@ -21,7 +21,7 @@ fn check_file(
     let words = words_of(alloc, words)?;
     let input = Vec::from_slice(alloc, input.as_bytes())?;
     let mut source = MemSource::new(input, 7, Vec::new(alloc));
-    let mut sink = MemSink::new(alloc, 100, Vec::new(alloc), 0)?;
+    let mut sink = MemSink::new(alloc, 1000, Vec::new(alloc), 0)?;
     let mut err = MemSink::new(alloc, 100, Vec::new(alloc), 0)?;
     let got = apertium(
         alloc,
@@ -36,7 +36,7 @@ fn check_file(
     Ok(())
 }
 
-fn bad_dictionary(fault: u8, line: u64) -> Status {
+pub fn bad_dictionary(fault: u8, line: u64) -> Status {
     Status::BadDictionary {
         file: 2,
         fault,
