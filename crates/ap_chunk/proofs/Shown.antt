@@ -1,31 +1,13 @@
 -- What a match gives to a rule, as the rule reads it.
-use Rattle.std.specs.Prelude.{◌≡◌, List, [], ◌∷◌, ◌++◌, length, map, refl}
+use Rattle.std.specs.Prelude.{◌≡◌, List, [], ◌∷◌, ◌++◌, map, refl}
 use Rattle.std.proofs.Common.{ap, sym, ◌∙◌}
-use Rattle.std.proofs.lemmas.List.{append-nil, map-append}
+use Rattle.std.proofs.lemmas.List.{map-append}
 use Rattle.std.proofs.lemmas.List.Concat.{flat_map-cons}
 use Rattle.ap_symbol.specs.declared.symbol.Symbol.{Symbol}
-use Rattle.ap_stream.specs.declared.item.Inner.{Inner}
 use Rattle.ap_stream.specs.declared.item.Read.{Read}
 use Rattle.ap_exec.specs.Acting.{shown}
 use Rattle.ap_exec.specs.Units.{Shown}
 use Rattle.ap_chunk.specs.Matches.{worded, matched_item, matched_items, shown_items, shown_word}
-
--- all of a word is its head
-pub lone_shown : (source target : List Symbol) (content : List Inner)
-    → (let s : Shown = record {
-      source = source;
-      target = target;
-      border = length target;
-      content = content;
-    } in s) ≡ (let s : Shown = record {
-      source = source;
-      target = target ++ [];
-      border = length target;
-      content = content;
-    } in s)
-lone_shown source target content = ap (λ (t : List Symbol). let s : Shown =
-    record { source = source; target = t; border = length target; content = content } in s)
-    (sym (append-nil target))
 
 pub items_shown : (reads : List Read) → shown_items reads ≡ map shown (matched_items reads)
 items_shown [] = refl

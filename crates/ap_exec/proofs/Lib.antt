@@ -19,4 +19,3 @@ pub mod Worded
 pub mod RunningKeeps
 pub mod RunningGives
 pub mod Borderless
-pub mod Lendings

@@ -65,6 +65,7 @@ fn name_size(bytes: &[u8]) -> usize
 }
 
 /// How many bytes the character at the front has, where it is one.
+#[inline(always)]
 fn char_size(bytes: &[u8]) -> usize
     ensures size { CharSize bytes.now result }
     ensures most { result ≤ length bytes.now }
@@ -77,6 +78,7 @@ fn char_size(bytes: &[u8]) -> usize
 }
 
 /// How many bytes the symbol at the front of a word has, where it is one.
+#[inline(always)]
 fn symbol_size(bytes: &[u8]) -> usize
     ensures size { (s : Symbol) (n : ℕ) → sign false bytes.now ≡ Reads s n → result ≡ n }
     ensures most { result ≤ length bytes.now + 1 }
@@ -96,6 +98,7 @@ fn symbol_size(bytes: &[u8]) -> usize
 }
 
 /// How many bytes the rest of a unit of one word has, behind its `^`.
+#[inline(always)]
 fn unit_size(bytes: &[u8]) -> usize
     requires { (words : List (List Symbol)) × (n : ℕ)
         × (rest (form_of Lexical) [] [] 0 bytes.now ≡ Ends words n) }
@@ -129,6 +132,7 @@ struct PartEnd {
 }
 
 /// The part at the front of a content.
+#[inline(always)]
 fn part_at(alloc: Global, bytes: &[u8]) -> Result<PartEnd, Memory>
     requires whole { (parts : List InnerIs) × (n : ℕ) × (body 0 bytes.now ≡ Closes parts n) }
     requires some { 0 < length bytes.now }

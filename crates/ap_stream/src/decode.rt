@@ -1,4 +1,4 @@
-ghost use Rattle.std.specs.Prelude.{◌≡◌, ◌+◌, ◌-◌, ◌*◌, ◌<◌, ◌≤◌};
+ghost use Rattle.std.specs.Prelude.{◌≡◌, ◌+◌, ◌-◌, ◌*◌, ◌<◌, ◌≤◌, ◌∷◌};
 ghost use Rattle.std.specs.Char.{InScalarRange};
 ghost use Rattle.ap_stream.specs.Chars.{char_at, tail2, tail3, tail4, is_tail as tail_test, is_second as second_test};
 ghost use Rattle.ap_stream.specs.Seen.{front_of};
@@ -136,32 +136,43 @@ fn decode4(a: u8, bytes: &[u8]) -> Decoded
     }
 }
 
+/// The same for bytes behind a first one that isn't ASCII.
+#[inline(never)]
+#[tactic(auto, unfolding(crate::specs::Chars::char_at))]
+fn decode_long(first: u8, rest: &[u8]) -> Decoded
+    requires { 128 ≤ first }
+    ensures { front_of result ≡ char_at (first ∷ rest.now) }
+{
+    if first < 194 {
+        Decoded::NotChar
+    } else if first < 224 {
+        decode2(first, rest)
+    } else if first < 240 {
+        decode3(first, rest)
+    } else if first < 245 {
+        decode4(first, rest)
+    } else {
+        Decoded::NotChar
+    }
+}
+
 /// The character at the front of bytes that may go on, by the table of well-formed sequences of the
 /// Unicode Standard.
+#[inline(always)]
 #[tactic(auto, unfolding(crate::specs::Chars::char_at))]
 pub fn decode(bytes: &[u8]) -> Decoded
     ensures { front_of result ≡ char_at bytes.now }
 {
     match bytes {
         [] => Decoded::Part,
-        [a, rest @ ..] => {
-            let first = *a;
-            if first < 128 {
-                Decoded::Char {
-                    letter: first as char,
+        [first, rest @ ..] => {
+            if *first < 128 {
+                return Decoded::Char {
+                    letter: *first as char,
                     size: 1,
-                }
-            } else if first < 194 {
-                Decoded::NotChar
-            } else if first < 224 {
-                decode2(first, rest)
-            } else if first < 240 {
-                decode3(first, rest)
-            } else if first < 245 {
-                decode4(first, rest)
-            } else {
-                Decoded::NotChar
+                };
             }
+            decode_long(*first, rest)
         }
     }
 }

@@ -35,6 +35,7 @@ pub(crate) enum Signed {
     Nothing,
 }
 
+#[inline(always)]
 fn bare_of(surface: bool, letter: char) -> Symbol
     ensures value { result ≡ bare_of_test surface letter }
     ensures word_symbol { IsTrue (is_word_symbol result) }
@@ -104,6 +105,7 @@ fn tag_at(alloc: Global, names: &mut Names, bytes: &[u8]) -> Result<Signed, Memo
     }
 }
 
+#[inline(always)]
 fn escape_at(bytes: &[u8]) -> Signed
     ensures { Signs (of_escape (char_at bytes.now)) (1 + length bytes.now) result }
 {
@@ -114,6 +116,7 @@ fn escape_at(bytes: &[u8]) -> Signed
     }
 }
 
+#[inline(always)]
 fn bare_at(surface: bool, bytes: &[u8]) -> Signed
     ensures { Signs (of_bare surface (char_at bytes.now)) (length bytes.now) result }
 {
@@ -138,6 +141,7 @@ fn bare_at(surface: bool, bytes: &[u8]) -> Signed
     }
 }
 
+#[inline(always)]
 #[tactic(auto, unfolding(crate::specs::Units::sign))]
 pub(crate) fn sign_at(
     alloc: Global,
