@@ -60,4 +60,3 @@ pub const SPAN_MAX: usize = 16_777_216;
 
 /// The most bytes that one pipe may hold.
 pub const ROOM_MAX: usize = 1_048_576;
-
