@@ -1,28 +1,25 @@
 -- What is written of a unit is read back.
-use Rattle.std.specs.Prelude.{◌≡◌, ◌≢◌, ℕ, zero, suc, ◌+◌, ◌-◌, ◌*◌, ◌/◌, ◌%◌, ◌<◌, ◌≤◌, List, [], ◌∷◌, ◌++◌, drop, take, length, Bool, true, false, cond, eqb, ltb, leb, ◌&&◌, ◌||◌, ◌⊎◌, not, refl, encode_utf8, IsTrue}
-use Rattle.std.specs.List.{flat_map, list_any}
+use Rattle.std.specs.Prelude.{◌≡◌, ℕ, ◌+◌, ◌-◌, ◌*◌, ◌/◌, ◌%◌, ◌<◌, ◌≤◌, List, [], ◌∷◌, ◌++◌, take, length, Bool, true, false, cond, eqb, ltb, leb, ◌&&◌, ◌⊎◌, refl, encode_utf8}
+use Rattle.std.specs.List.{flat_map}
 use Rattle.std.specs.Str.{encode_utf8_all}
 use Rattle.std.proofs.Common.{arith, ap, sym, subst, ◌∙◌, append_assoc, length-append, inl, inr}
 use Rattle.std.proofs.lemmas.List.{append-nil}
 use Rattle.std.proofs.lemmas.List.Concat.{flat_map-cons}
-use Rattle.std.proofs.lemmas.Bool.{eqb-true, ne_eqb, and_parts, cases_eq, cases_lt}
+use Rattle.std.proofs.lemmas.Bool.{eqb-true, ne_eqb, cases_lt}
 use Rattle.std.proofs.lemmas.Bool.Decides.{nat_tests}
-use Rattle.std.proofs.lemmas.Grind.{common_steps}
 use Rattle.std.proofs.str.Laws.{one, two, three, four, Scalar}
 use Rattle.std.proofs.Math.Seq.{take-append_seam}
 use Rattle.ap_symbol.specs.declared.symbol.Symbol.{Symbol}
 use Rattle.ap_symbol.specs.declared.symbol.Symbol.TheVariants as symbol
 use Rattle.ap_symbol.specs.Rendering.{is_escaped_lem, letter_bytes, tag_bytes, symbol_bytes, rendering}
 use Rattle.ap_symbol.specs.Words.{is_white}
-use Rattle.ap_symbol.specs.TagNames.{is_reserved_lem}
-use Rattle.ap_symbol.specs.TextWord.{escaped_symbol, bare_symbol}
+use Rattle.ap_symbol.specs.TextWord.{escaped_symbol}
 use Rattle.ap_stream.specs.declared.dialect.Dialect.{Dialect}
 use Rattle.ap_stream.specs.declared.item.Item.TheVariants as item
-use Rattle.ap_stream.specs.Dialects.{has_words}
-use Rattle.ap_stream.specs.Chars.{Front, Part, NotChar, Char, char_at, tail2, tail3, tail4, is_tail, is_second}
-use Rattle.ap_stream.specs.Units.{Form, form_of, Name, Stops, behind_name, name, name_char, Sign, Reads, sign, sign_bare, sign_escape, sign_tag, of_bare, of_name, bare_of, is_barred, first_is, in_surface, is_none, may_part, may_end, Rest, Lacks, Wrong, Ends, rest, longer, longer_longer, longer_zero, rest_symbol, rest_slash, rest_dollar}
+use Rattle.ap_stream.specs.Chars.{Char, char_at, is_tail, is_second}
+use Rattle.ap_stream.specs.Units.{Form, form_of, Stops, behind_name, name, name_char, Reads, sign, sign_bare, sign_escape, sign_tag, of_bare, first_is, in_surface, is_none, may_part, Rest, Ends, rest, longer, longer_longer, longer_zero, rest_symbol, rest_slash, rest_dollar}
 use Rattle.ap_stream.specs.InUnits.{first_words, words_brace}
-use Rattle.ap_stream.specs.Reading.{First, Whole, first, of_unit}
+use Rattle.ap_stream.specs.Reading.{Whole, first, of_unit}
 use Rattle.ap_stream.specs.Spelling.{unit_bytes, joined, slashed}
 use Rattle.ap_symbol.specs.Coded.{AreNamed}
 use Rattle.ap_stream.specs.Laws.{IsSpelt, AreSpelt, EachSpelt, AreAsMany, AreWords}

@@ -1,6 +1,6 @@
 -- What is read of a chunk at the front of a text is read there too where the text is cut behind it
 -- and goes on in any way; and it is written of words and blanks.
-use Rattle.std.specs.Prelude.{◌≡◌, ◌≢◌, ℕ, zero, suc, ◌+◌, ◌-◌, ◌<◌, ◌≤◌, pred, List, [], ◌∷◌, ◌++◌, drop, take, length, Bool, true, false, cond, eqb, ◌||◌, refl}
+use Rattle.std.specs.Prelude.{◌≡◌, ℕ, zero, suc, ◌+◌, ◌-◌, ◌<◌, ◌≤◌, pred, List, [], ◌∷◌, ◌++◌, drop, take, length, Bool, true, false, cond, eqb, ◌||◌, refl}
 use Rattle.std.specs.List.{flat_map}
 use Rattle.std.proofs.Common.{arith, ap, sym, subst, ◌∙◌, append_assoc, length-append, drop-drop}
 use Rattle.std.proofs.lemmas.Bool.{eqb-true}
@@ -9,25 +9,24 @@ use Rattle.std.proofs.lemmas.List.Concat.{flat_map-cons}
 use Rattle.std.proofs.Math.Seq.{drop-append_seam, take-append_seam, drop-append-add}
 use Rattle.ap_symbol.specs.Rendering.{rendering}
 use Rattle.ap_symbol.specs.declared.symbol.Symbol.{Symbol}
-use Rattle.ap_stream.specs.declared.dialect.Dialect.{Dialect}
 use Rattle.ap_stream.specs.declared.dialect.Dialect.TheVariants.{Lexical, Chunked}
 use Rattle.ap_stream.specs.declared.item.Chunk.{Chunk}
 use Rattle.ap_stream.specs.declared.item.Inner.{Inner}
 use Rattle.ap_stream.specs.declared.item.Inner.TheVariants as inner
 use Rattle.ap_stream.specs.declared.item.Item.TheVariants as item
-use Rattle.ap_stream.specs.Blanks.{Run, Open, Inside, BadChar, Done, blank, further, further_further, inside, blank_white, blank_bracket, blank_done, blank_skip, begins_blank, is_white, Close, Within, Bad, Closed, closing, closing_by, closes, escapes, longer, behind_close, blank_some}
+use Rattle.ap_stream.specs.Blanks.{Run, Open, Inside, BadChar, Done, blank, further, further_further, blank_white, blank_bracket, blank_done, blank_skip, begins_blank, is_white, Close, Within, Bad, Closed, closing, closing_by, closes, escapes, longer, behind_close, blank_some}
 use Rattle.ap_stream.specs.Chars.{Front, Part, NotChar, Char, char_at}
-use Rattle.ap_stream.specs.Units.{form_of, Rest, Ends, rest, rest_brace, longer as later}
+use Rattle.ap_stream.specs.Units.{form_of, Ends, rest, rest_brace, longer as later}
 use Rattle.ap_stream.specs.UnitBytes.{UnitOf}
-use Rattle.ap_stream.specs.Chunks.{Portion, Held, portion, Body, Opens, Fails, Closes, behind_part, closed, body, body_skip, body_nil, body_brace, wrong_byte}
+use Rattle.ap_stream.specs.Chunks.{Held, portion, Body, Opens, Fails, Closes, behind_part, closed, body, body_skip, body_brace, wrong_byte}
 use Rattle.ap_stream.specs.InUnits.{unit_always, first_caret}
 use Rattle.ap_stream.specs.InChunks.{part_first, portion_of, part_agrees, part_on, part_some, body_held}
-use Rattle.ap_stream.specs.Laws.{AreWords, AreSpelt, IsBlank, NoBlankFirst, AreParts}
-use Rattle.ap_stream.specs.Reading.{First, Whole, first, of_chunk, of_caret, of_body, name_in}
+use Rattle.ap_stream.specs.Laws.{AreSpelt, IsBlank, NoBlankFirst, AreParts}
+use Rattle.ap_stream.specs.Reading.{Whole, first, of_chunk, of_body, name_in}
 use Rattle.ap_stream.specs.Spelling.{unit_bytes, inner_bytes, chunk_bytes}
 use Rattle.ap_stream.specs.Stands.{blank_first}
 use Rattle.ap_stream.proofs.Back.{unit_back, word_back}
-use Rattle.ap_stream.proofs.ChunkWalk.{IsShaped, shaped, Begins, brace, unit, run, content_begins, IsClosed, unit_part, run_part, unit_of}
+use Rattle.ap_stream.proofs.ChunkWalk.{shaped, Begins, brace, unit, run, content_begins, IsClosed, unit_part, run_part, unit_of}
 use Rattle.ap_stream.proofs.Cut.{char_cut, char_size, cut_twice, rest_cut}
 use Rattle.ap_stream.proofs.Superblanks.{closing_first}
 use Rattle.ap_stream.proofs.WordsRead.{unit_words, name_spelt}

@@ -1,29 +1,24 @@
 -- A walk over the bytes of a chunk that is whole.
-use Rattle.std.specs.Prelude.{◌≡◌, ◌≢◌, ℕ, zero, suc, ◌+◌, ◌-◌, ◌<◌, ◌≤◌, pred, List, [], ◌∷◌, ◌++◌, drop, take, length, Bool, true, false, cond, eqb, ◌&&◌, ◌||◌, not, refl}
-use Rattle.std.proofs.Common.{arith, ap, sym, subst, ◌∙◌, append_assoc, length-append, drop-drop, drop-cons, get_or}
-use Rattle.std.proofs.lemmas.Bool.{eqb-true, ne_eqb, and_parts}
-use Rattle.std.proofs.lemmas.Bool.Decides.{nat_tests}
-use Rattle.std.proofs.lemmas.List.{append-nil, drop_all, take_all, length-drop, length-take-le}
-use Rattle.std.proofs.Math.Seq.{take-add}
+use Rattle.std.specs.Prelude.{◌≡◌, ◌≢◌, ℕ, zero, suc, ◌+◌, ◌-◌, ◌<◌, ◌≤◌, pred, List, [], ◌∷◌, ◌++◌, drop, take, length, Bool, true, false, cond, eqb, ◌&&◌, not, refl}
+use Rattle.std.proofs.Common.{arith, ap, sym, subst, ◌∙◌, append_assoc, drop-drop, drop-cons, get_or}
+use Rattle.std.proofs.lemmas.Bool.{eqb-true, ne_eqb}
+use Rattle.std.proofs.lemmas.List.{append-nil, drop_all, length-drop, length-take-le}
 use Rattle.ap_symbol.specs.declared.symbol.Symbol.{Symbol}
 use Rattle.ap_symbol.specs.declared.symbol.Symbol.TheVariants.{Tag}
 use Rattle.ap_stream.specs.declared.dialect.Dialect.TheVariants.{Lexical, Chunked}
-use Rattle.ap_stream.specs.declared.fault.MalformedKind.{MalformedKind}
 use Rattle.ap_stream.specs.declared.fault.MalformedKind.TheVariants.{Stray, EmptyWord, BadTag}
 use Rattle.ap_stream.specs.declared.item.Chunk.{Chunk}
 use Rattle.ap_stream.specs.declared.item.Inner.{Inner}
 use Rattle.ap_stream.specs.declared.item.Inner.TheVariants as inner
-use Rattle.ap_stream.specs.declared.item.Item.{Item}
 use Rattle.ap_stream.specs.declared.item.Item.TheVariants as item
 use Rattle.ap_stream.specs.Blanks.{Run, Open, Inside, BadChar, Done, blank, further, further_further, inside, blank_white, blank_bracket, blank_done, blank_skip, begins_blank, is_white, Close, Within, Bad, Closed, closing, behind_close, blank_some}
 use Rattle.ap_stream.specs.Chars.{Front, Part, NotChar, Char, char_at}
 use Rattle.ap_stream.specs.Dialects.{is_refused}
-use Rattle.ap_stream.specs.Units.{Form, form_of, Name, Runs, Breaks, Stops, name, Sign, Awaits, Bars, Reads, Slash, Dollar, Brace, sign, of_name, of_escape, of_bare, bare_of, is_barred, in_surface, may_end, early, Rest, Lacks, Wrong, Ends, rest, longer, longer_longer, rest_dollar}
+use Rattle.ap_stream.specs.Units.{form_of, Name, Runs, Breaks, Stops, name, Sign, Awaits, Bars, Reads, Slash, Dollar, Brace, sign, of_name, of_escape, of_bare, bare_of, is_barred, may_end, early, Rest, Lacks, Wrong, Ends, rest, longer, longer_longer, rest_dollar}
 use Rattle.ap_stream.specs.UnitBytes.{UnitOf}
-use Rattle.ap_stream.specs.Chunks.{Portion, Begun, Barred, Held, Braced, portion, blank_portion, unit_portion, Body, Opens, Fails, Closes, behind_part, behind_portion, closed, body, body_skip, body_nil, body_brace, body_wrong, wrong_byte}
-use Rattle.ap_stream.specs.InChunks.{body_front, body_held}
+use Rattle.ap_stream.specs.Chunks.{Barred, Braced, portion, blank_portion, unit_portion, Body, Opens, Fails, Closes, behind_part, behind_portion, closed, body, body_skip, body_nil, body_brace, wrong_byte}
 use Rattle.ap_stream.specs.ChunkBytes.{ChunkOf, CharSize}
-use Rattle.ap_stream.specs.Reading.{First, Needs, Whole, Faulty, Bad as OfKind, first, of_run, of_escaped, of_char, of_chunk, of_caret, of_body, name_in, plain}
+use Rattle.ap_stream.specs.Reading.{Whole, Faulty, Bad as OfKind, first, of_run, of_escaped, of_char, of_chunk, of_body, name_in, plain}
 use Rattle.ap_stream.proofs.SignLaws as laws
 use Rattle.ap_stream.proofs.SignLaws.{IsWhole}
 use Rattle.ap_stream.specs.Signs.{Barren}

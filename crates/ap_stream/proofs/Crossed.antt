@@ -1,7 +1,7 @@
 -- Bytes that are crossed at once.
-use Rattle.std.specs.Prelude.{◌≡◌, ◌==◌, ◌||◌, ◌&&◌, not, ℕ, zero, suc, ◌+◌, ◌-◌, ◌<◌, ◌≤◌, List, [], ◌∷◌, ◌++◌, drop, take, length, min, Bool, true, false, cond, eqb, ltb, refl, slice_index, Option, Some, None}
-use Rattle.std.proofs.Common.{arith, ap, sym, subst, ◌∙◌, append_assoc, length-append, get_or}
-use Rattle.std.proofs.lemmas.List.{append-nil, take-append-drop, take_all, drop_all, length-take, length-take-le, get_or-take, take-take}
+use Rattle.std.specs.Prelude.{◌≡◌, ◌==◌, ◌||◌, ◌&&◌, not, ℕ, suc, ◌+◌, ◌-◌, ◌<◌, ◌≤◌, List, [], ◌∷◌, ◌++◌, drop, take, length, min, Bool, true, false, cond, eqb, ltb, refl, Option, Some, None}
+use Rattle.std.proofs.Common.{arith, ap, sym, subst, ◌∙◌, append_assoc, length-append}
+use Rattle.std.proofs.lemmas.List.{append-nil, take_all, drop_all, length-take, length-take-le, get_or-take, take-take}
 use Rattle.std.proofs.lemmas.Bool.{false≢true, ltb-true, eqb-true, and_parts, not-true}
 use Rattle.std.proofs.lemmas.Bool.Decides.{nat_tests}
 use Rattle.ap_stream.specs.Limits.{unit_max}
@@ -9,8 +9,8 @@ use Rattle.ap_stream.specs.declared.examine.Mode.{Mode}
 use Rattle.ap_stream.specs.declared.examine.Mode.TheVariants as mode
 use Rattle.ap_stream.specs.declared.examine.Spot.{Spot}
 use Rattle.ap_stream.specs.declared.dialect.Dialect.{Dialect}
-use Rattle.ap_stream.specs.Chars.{Part, Char, char_at}
-use Rattle.ap_stream.specs.Units.{form_of, Sign, Reads, sign, sign_bare, bare_of, is_barred, in_surface, may_part}
+use Rattle.ap_stream.specs.Chars.{Char, char_at}
+use Rattle.ap_stream.specs.Units.{form_of, Reads, sign, sign_bare, bare_of, is_barred, in_surface, may_part}
 use Rattle.ap_stream.specs.InUnits.{InUnit, InTag, spot, grown_spot, surface_at, several_in, unit_symbol, unit_slash}
 use Rattle.ap_stream.proofs.WordSteps as words
 use Rattle.ap_stream.specs.Stands.{Stands, Within, within_on}

@@ -1,5 +1,5 @@
 -- The turn of a tool that handles each item by itself.
-use Rattle.std.specs.Prelude.{◌≡◌, ℕ, ◌+◌, ◌-◌, ◌<◌, ◌≤◌, leb, nat_lt, Bool, true, false, ◌&&◌, List, [], ◌∷◌, ◌++◌, length, Option, Some, None, refl, if◌then◌else◌, IfSome}
+use Rattle.std.specs.Prelude.{◌≡◌, ℕ, ◌+◌, ◌-◌, ◌<◌, ◌≤◌, leb, nat_lt, Bool, true, false, List, [], ◌∷◌, ◌++◌, length, Option, Some, None, refl, IfSome}
 use Rattle.std.proofs.Common.{arith, ap, sym, subst, ◌∙◌, length-append}
 use Rattle.std.proofs.lemmas.Bool.Decides.{nat_tests}
 use Rattle.ap_stream.specs.Limits.{stage_max, unit_max}
@@ -12,7 +12,7 @@ use Rattle.ap_stream.specs.declared.item.Item.TheVariants as item
 use Rattle.ap_stream.specs.declared.item.Read.{Read}
 use Rattle.ap_stream.specs.Reading.{IsRead, read_at}
 use Rattle.ap_stream.specs.Spelling.{spelled}
-use Rattle.ap_stream.specs.Told.{Told, behind, ends_in}
+use Rattle.ap_stream.specs.Told.{behind, ends_in}
 use Rattle.ap_stream.specs.Each.{each, item_text, is_over, is_worded, Single, held_items, held_size, none_held}
 use Rattle.ap_stream.specs.Copying.{GivesUnit}
 use Rattle.ap_stream.specs.UnitBytes.{UnitOf}

@@ -1,14 +1,13 @@
 -- A kept name of a tag that bytes begin with.
-use Rattle.std.proofs.Common.{◌≡◌, ℕ, suc, ◌+◌, ◌<◌, ◌≤◌, Bool, true, false, eqb, List, [], ◌∷◌, ◌++◌, length, take, drop, get_or, sym, ap, subst, ◌∙◌, refl, arith, length-append}
+use Rattle.std.proofs.Common.{◌≡◌, ℕ, suc, ◌+◌, ◌<◌, ◌≤◌, true, false, eqb, List, ◌∷◌, ◌++◌, length, take, drop, get_or, sym, ap, ◌∙◌, refl, arith, length-append}
 use Rattle.std.specs.Str.{bytes_eq, encode_utf8_all}
 use Rattle.std.proofs.Math.Seq.{drop-cons, take-append_seam}
 use Rattle.std.proofs.lemmas.List.{take-append-drop}
 use Rattle.std.proofs.lemmas.Slice.Eq.{bytes_eq-Decides}
 use Rattle.std.proofs.lemmas.Bool.Decides.{nat_tests}
-use Rattle.ap_symbol.specs.declared.symbol.Symbol.{Symbol}
 use Rattle.ap_symbol.specs.declared.symbol.Symbol.TheVariants as symbol
-use Rattle.ap_symbol.specs.Coded.{AreNamed, IsNameText}
-use Rattle.ap_stream.specs.Units.{name, of_name, Sign, Reads, Stops}
+use Rattle.ap_symbol.specs.Coded.{AreNamed}
+use Rattle.ap_stream.specs.Units.{name, of_name, Reads}
 use Rattle.ap_stream.specs.Signs.{Heads}
 use Rattle.ap_stream.proofs.Back.{named_on, some_named}
 

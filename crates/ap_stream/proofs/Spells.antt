@@ -1,18 +1,17 @@
 -- An item that a text in a dialect without units begins with is spelled as the text has it.
-use Rattle.std.specs.Prelude.{◌≡◌, ℕ, suc, ◌+◌, ◌<◌, ◌≤◌, List, [], ◌∷◌, ◌++◌, take, length, Bool, true, false, cond, eqb, leb, refl, encode_utf8}
-use Rattle.std.proofs.Common.{arith, ap, sym, ◌∙◌}
+use Rattle.std.specs.Prelude.{◌≡◌, ℕ, suc, ◌+◌, ◌≤◌, List, [], ◌∷◌, take, length, Bool, true, false, cond, eqb, leb, refl}
+use Rattle.std.proofs.Common.{arith, ap}
 use Rattle.std.proofs.lemmas.Bool.{eqb-true}
 use Rattle.std.proofs.lemmas.List.{length-take}
 use Rattle.ap_stream.specs.Limits.{item_max}
 use Rattle.ap_stream.specs.declared.dialect.Dialect.{Dialect}
 use Rattle.ap_stream.specs.declared.item.Item.{Item}
-use Rattle.ap_stream.specs.declared.item.Item.TheVariants as item
 use Rattle.ap_stream.specs.declared.item.Read.{Read}
 use Rattle.ap_stream.specs.Dialects.{is_refused, has_units}
 use Rattle.ap_stream.specs.Chars.{Front, Part, NotChar, Char, char_at}
 use Rattle.ap_stream.specs.Blanks.{Run, Open, Inside, BadChar, Done, blank, begins_blank}
 use Rattle.ap_stream.proofs.Encoding.{Encodes, char_encodes}
-use Rattle.ap_stream.specs.Reading.{First, Needs, Whole, Faulty, Kind, Past, first, limited, past, at_limit, of_run, of_escaped, of_char, plain, IsRead}
+use Rattle.ap_stream.specs.Reading.{First, Needs, Whole, Faulty, Past, first, limited, past, at_limit, of_run, of_escaped, of_char, plain, IsRead}
 use Rattle.ap_stream.specs.declared.fault.LimitKind.TheVariants.{ItemTooLong}
 use Rattle.ap_stream.specs.Spelling.{spelled}
 

@@ -1,10 +1,9 @@
-use Rattle.std.proofs.Common.{◌≡◌, ℕ, Bool, true, false, not, ◌&&◌, List, [], ◌∷◌, refl, IsTrue}
+use Rattle.std.proofs.Common.{◌≡◌, true, not, [], ◌∷◌, refl}
 use Rattle.std.proofs.lemmas.Bool.{and_parts, not-true}
 use Rattle.std.specs.List.{list_all}
-use Rattle.ap_symbol.specs.declared.symbol.Symbol.{Symbol}
 use Rattle.ap_symbol.specs.declared.symbol.Symbol.TheVariants as symbol
-use Rattle.ap_symbol.specs.Words.{is_white, is_proper, is_word_symbol, is_named}
-use Rattle.ap_stream.specs.Laws.{AreSpelt, WordsAreSpelt}
+use Rattle.ap_symbol.specs.Words.{is_white, is_proper}
+use Rattle.ap_stream.specs.Laws.{WordsAreSpelt}
 
 pub words_are_spelt : WordsAreSpelt
 words_are_spelt [] p h = tt

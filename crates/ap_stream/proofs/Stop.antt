@@ -1,20 +1,19 @@
 -- What is true once a reader has shown a fault and the handler has finished.
-use Rattle.std.proofs.Common.{arith, ap, ◌∙◌, sym, ◌≡◌, ◌≢◌, ℕ, ◌+◌, ◌-◌, ◌*◌, ◌<◌, ◌≤◌, List, [], ◌∷◌, ◌++◌, take, drop, length, Bool, true, false, cond, Option, Some, None, refl, append_assoc, length-append, Result, Ok, Err, OnErr}
+use Rattle.std.proofs.Common.{arith, ap, ◌∙◌, sym, ◌≡◌, ℕ, ◌+◌, ◌-◌, ◌<◌, ◌≤◌, List, [], ◌++◌, take, drop, length, Bool, true, false, Option, Some, None, refl, append_assoc, length-append, Result, Ok, Err, OnErr}
 use Rattle.std.proofs.lemmas.List.{append-nil, drop-drop, take-append-drop, take_rest}
 use Rattle.std.proofs.Math.Seq.{take-add}
 use Rattle.std.proofs.Math.ListN.{length-take}
-use Rattle.std.proofs.lemmas.Grind.{common_steps}
 use Rattle.ap_stream.specs.Limits.{begun_max, span_max}
 use Rattle.ap_stream.specs.declared.fault.StreamFault.{StreamFault}
 use Rattle.ap_stream.specs.declared.item.Read.{Read}
 use Rattle.ap_stream.specs.Begun.{Begun}
-use Rattle.ap_stream.specs.Reading.{reads, Reads, stopped}
+use Rattle.ap_stream.specs.Reading.{reads, stopped}
 use Rattle.ap_stream.specs.Given.{Shows}
 use Rattle.ap_stream.specs.declared.dialect.Dialect.{Dialect}
 use Rattle.ap_stream.specs.Seat.{Seat}
-use Rattle.ap_stream.specs.Told.{Told, Ending, Clean, Cut, silent, behind, ends_in, Begins}
-use Rattle.ap_stream.specs.Rest.{rest_of, rest_from, worked, held_of}
-use Rattle.ap_stream.specs.Sound.{May, measure, Sound}
+use Rattle.ap_stream.specs.Told.{Told, Ending, behind, Begins}
+use Rattle.ap_stream.specs.Rest.{rest_of, rest_from, worked}
+use Rattle.ap_stream.specs.Sound.{measure, Sound}
 
 module _ {H : Type 0} (is_finished : H → Bool) (held : H → ℕ) (dialect : H → Dialect) (work : H →
     List Read → Told) where

@@ -1,23 +1,21 @@
 -- Where the text ends.
-use Rattle.std.specs.Prelude.{◌≡◌, ◌≢◌, ℕ, zero, suc, ◌+◌, ◌-◌, ◌<◌, ◌≤◌, List, [], ◌∷◌, ◌++◌, drop, take, length, Bool, true, false, eqb, ◌&&◌, not, refl, Option, Some, None}
-use Rattle.std.proofs.Common.{arith, ap, sym, subst, ◌∙◌, append_assoc, length-append}
+use Rattle.std.specs.Prelude.{◌≡◌, ℕ, ◌<◌, List, [], ◌∷◌, ◌++◌, drop, take, length, Bool, true, false, eqb, ◌&&◌, not, refl}
+use Rattle.std.proofs.Common.{arith, ap, sym, subst, ◌∙◌, append_assoc}
 use Rattle.std.proofs.lemmas.List.{append-nil, take-append-drop}
 use Rattle.std.proofs.lemmas.Bool.{eqb-true}
-use Rattle.ap_stream.specs.declared.fault.StreamFault.TheVariants.{Malformed}
 use Rattle.ap_stream.specs.declared.fault.MalformedKind.TheVariants.{Unfinished}
 use Rattle.ap_stream.specs.declared.examine.Mode.{Mode}
 use Rattle.ap_stream.specs.declared.examine.Mode.TheVariants as mode
 use Rattle.ap_stream.specs.declared.dialect.Dialect.{Dialect}
 use Rattle.ap_stream.specs.declared.item.Item.TheVariants as item
-use Rattle.ap_stream.specs.Chars.{Front, Part, NotChar, Char, char_at}
-use Rattle.ap_stream.specs.Blanks.{Run, Open, Inside, BadChar, Done, blank, further, inside, inside_part}
-use Rattle.ap_stream.specs.Reading.{First, Needs, Whole, Faulty, Bad, Last, Complete, Broken, first, last, limited, reads, reads_needs, reads_nil, read_at, followed, nothing, stopped, of_run, last_run, fault_at}
-use Rattle.ap_stream.specs.declared.fault.StreamFault.{StreamFault}
+use Rattle.ap_stream.specs.Chars.{Part, char_at}
+use Rattle.ap_stream.specs.Blanks.{Run, Open, Inside, blank, further, inside_part}
+use Rattle.ap_stream.specs.Reading.{Needs, Bad, Complete, Broken, first, last, of_run, last_run}
 use Rattle.ap_stream.specs.Stands.{Stands, InBlank, Within, blank_first, escape_first, unit_first, tag_first}
 use Rattle.ap_stream.specs.declared.examine.Spot.{Spot}
 use Rattle.ap_stream.specs.Dialects.{has_units}
 use Rattle.ap_stream.specs.InUnits.{InUnit, InEscape, InTag, unit_needs, surface_is}
-use Rattle.ap_stream.specs.Units.{form_of, rest, Lacks, sign, Awaits, name, name_part, behind_name, Runs, in_surface, rest_awaits, begins_tag}
+use Rattle.ap_stream.specs.Units.{form_of, rest, Lacks, sign, Awaits, name, name_part, behind_name, Runs, in_surface, rest_awaits}
 
 abbrev pub at_blank : Mode → Bool
 at_blank mode.Start = false

@@ -1,9 +1,8 @@
 -- A blank: white space and superblanks.
-use Rattle.std.specs.Prelude.{◌≡◌, ◌≢◌, ℕ, zero, suc, ◌+◌, ◌-◌, ◌*◌, ◌<◌, ◌≤◌, pred, List, [], ◌∷◌, ◌++◌, length, drop, Bool, true, false, cond, eqb, ltb, leb, ◌&&◌, ◌||◌, refl, not}
+use Rattle.std.specs.Prelude.{◌≡◌, ℕ, zero, suc, ◌+◌, ◌<◌, pred, List, [], ◌∷◌, ◌++◌, length, drop, Bool, true, false, cond, eqb, ◌&&◌, ◌||◌, refl, not}
 use Rattle.std.proofs.Common.{arith, ap, sym, ◌∙◌}
 use Rattle.std.proofs.Math.Seq.{drop-append_seam, drop-append-add}
-use Rattle.std.proofs.lemmas.Grind.{common_steps}
-use Rattle.ap_stream.specs.Chars.{Front, Part, NotChar, Char, char_at, Stays, char_stays, Fits, char_fits}
+use Rattle.ap_stream.specs.Chars.{Front, Part, NotChar, Char, char_at, char_stays}
 
 abbrev pub is_white : ℕ → Bool
 is_white b = eqb b 32 || (eqb b 9 || (eqb b 10 || eqb b 13))

@@ -1,7 +1,6 @@
 -- The character at the front of bytes that may go on.
-use Rattle.std.specs.Prelude.{◌≡◌, ◌≢◌, ℕ, ◌+◌, ◌-◌, ◌*◌, ◌<◌, ◌≤◌, List, [], ◌∷◌, ◌++◌, length, Bool, true, false, cond, eqb, ltb, leb, ◌&&◌, ◌||◌, refl, not}
-use Rattle.std.proofs.Common.{arith, ap, sym, ◌∙◌, length-append}
-use Rattle.std.proofs.lemmas.Grind.{common_steps}
+use Rattle.std.specs.Prelude.{◌≡◌, ℕ, ◌+◌, ◌-◌, ◌*◌, ◌<◌, ◌≤◌, List, [], ◌∷◌, ◌++◌, length, Bool, true, false, cond, eqb, ltb, leb, ◌&&◌, refl}
+use Rattle.std.proofs.Common.{arith, ◌∙◌, length-append}
 
 -- the bytes are the start of a character, or no character begins so, or a character and its length
 pub data Front : Type 0 where

@@ -1,7 +1,6 @@
 -- What stands behind the name of a chunk, by the Apertium stream format: the content, a row of
 -- Lexical units and blanks that may be empty, then } and $.
-use Rattle.std.specs.Prelude.{◌≡◌, ℕ, zero, suc, ◌+◌, pred, List, [], ◌∷◌, ◌++◌, drop, take, Bool, true, false, cond, eqb, refl}
-use Rattle.ap_symbol.specs.declared.symbol.Symbol.{Symbol}
+use Rattle.std.specs.Prelude.{◌≡◌, ℕ, zero, suc, ◌+◌, pred, List, [], ◌∷◌, drop, take, false, cond, eqb, refl}
 use Rattle.ap_stream.specs.declared.dialect.Dialect.TheVariants.{Lexical}
 use Rattle.ap_stream.specs.declared.fault.MalformedKind.{MalformedKind}
 use Rattle.ap_stream.specs.declared.fault.MalformedKind.TheVariants.{NotUtf8, Stray}

@@ -1,7 +1,7 @@
 -- A tool that handles each item by itself: a unit gives a text, and every other item is copied as
 -- it is spelled.
 use Rattle.std.proofs.Common.{arith, refl, ◌≡◌}
-use Rattle.std.specs.Prelude.{ℕ, ◌+◌, nat_lt, Bool, true, false, ◌&&◌, List, [], ◌∷◌, ◌++◌, length, Option, Some, None, if◌then◌else◌}
+use Rattle.std.specs.Prelude.{ℕ, nat_lt, Bool, true, false, ◌&&◌, List, [], ◌∷◌, ◌++◌, length, Option, Some, None, if◌then◌else◌}
 use Rattle.ap_stream.specs.Copying.{is_copied}
 use Rattle.ap_stream.specs.Limits.{unit_max}
 use Rattle.ap_symbol.specs.declared.symbol.Symbol.{Symbol}

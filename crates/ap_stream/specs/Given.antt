@@ -1,11 +1,10 @@
 -- What a reader gives.
-use Rattle.std.specs.Prelude.{◌≡◌, ◌≢◌, ℕ, zero, suc, ◌+◌, ◌-◌, ◌<◌, ◌≤◌, List, [], ◌∷◌, ◌++◌, drop, take, length, Option, Some, None, Bool, true, false, refl}
+use Rattle.std.specs.Prelude.{◌≡◌, ◌≢◌, ℕ, ◌+◌, ◌-◌, ◌<◌, ◌≤◌, List, [], ◌∷◌, ◌++◌, drop, take, length, Option, Some, None, Bool, true, false, refl}
 use Rattle.std.proofs.Common.{arith, ap, sym, ◌∙◌, append_assoc, length-append}
 use Rattle.std.proofs.lemmas.List.{append-nil, take-append-drop, drop-append-le, take-append-le, take_all, take_rest}
-use Rattle.std.proofs.Math.Seq.{drop-append_seam, take-append_seam, drop-length, take-add}
+use Rattle.std.proofs.Math.Seq.{take-append_seam, drop-length, take-add}
 use Rattle.ap_stream.specs.declared.fault.StreamFault.{StreamFault}
-use Rattle.ap_stream.specs.declared.fault.StreamFault.TheVariants.{Malformed, Memory}
-use Rattle.ap_stream.specs.declared.fault.MalformedKind.{MalformedKind}
+use Rattle.ap_stream.specs.declared.fault.StreamFault.TheVariants.{Malformed}
 use Rattle.ap_stream.specs.declared.fault.MalformedKind.TheVariants.{Unfinished}
 use Rattle.ap_stream.specs.declared.level.Level.{Level}
 use Rattle.ap_stream.specs.declared.level.Level.TheVariants as level
@@ -15,19 +14,14 @@ use Rattle.ap_stream.specs.declared.item.Item.{Item}
 use Rattle.ap_stream.specs.declared.item.Item.TheVariants as item
 use Rattle.ap_stream.specs.declared.item.Read.{Read}
 use Rattle.ap_stream.specs.declared.item.Character.{Character}
-use Rattle.ap_symbol.specs.declared.symbol.Symbol.{Symbol}
 use Rattle.ap_stream.specs.declared.dialect.Dialect.{Dialect}
-use Rattle.ap_stream.specs.Chars.{Part, char_at}
-use Rattle.ap_stream.specs.Blanks.{Open, Inside}
-use Rattle.ap_stream.specs.Reading.{first, first_nil, Reads, First, Whole, Faulty, Needs, Kind, Bad, Past, limited, reads, reads_whole, reads_faulty, reads_needs, reads_nil, read_at, followed, size_of, stopped, counted, nothing, at_end, fault_at, plain, IsRead}
+use Rattle.ap_stream.specs.Reading.{first, first_nil, Reads, Whole, Faulty, Needs, Kind, limited, reads, reads_whole, reads_faulty, reads_needs, reads_nil, read_at, followed, size_of, stopped, counted, fault_at, IsRead}
 use Rattle.ap_stream.specs.Limited.{Surely, Looks, limited_within, limited_ends}
-use Rattle.ap_stream.specs.AtEnd.{Begins}
 use Rattle.ap_stream.specs.Levels.{StandsIn, StoodIn, begun_in, begun_at, at_blank_in, in_blank_at, some_stood}
 use Rattle.ap_stream.specs.Stands.{InBlank}
 use Rattle.ap_stream.specs.Step.{nothing_part}
 use Rattle.std.proofs.Common.{get_or, get_or-drop, add-zero}
 use Rattle.std.proofs.lemmas.List.{length-drop, length-take}
-use Rattle.std.proofs.lemmas.Grind.{common_steps}
 use Rattle.ap_stream.specs.Limits.{begun_max, item_max, item_max_is, unit_max}
 use Rattle.ap_stream.specs.Begun.{Begun}
 

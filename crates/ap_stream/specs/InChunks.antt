@@ -1,9 +1,9 @@
 -- Within the content of a chunk: what is true of its bytes so far, however they go on.
-use Rattle.std.specs.Prelude.{◌≡◌, ◌≢◌, ℕ, zero, suc, ◌+◌, ◌-◌, ◌<◌, ◌≤◌, pred, List, [], ◌∷◌, ◌++◌, drop, take, length, Bool, true, false, cond, eqb, ◌&&◌, ◌||◌, not, refl}
+use Rattle.std.specs.Prelude.{◌≡◌, ℕ, ◌+◌, ◌<◌, ◌≤◌, List, [], ◌∷◌, ◌++◌, drop, length, Bool, true, false, eqb, ◌||◌, refl}
 use Rattle.std.proofs.Common.{arith, ap, sym, subst, ◌∙◌, append_assoc, length-append}
 use Rattle.std.proofs.lemmas.Bool.{eqb-true}
 use Rattle.std.proofs.lemmas.List.{append-nil, drop-append-le, length-drop}
-use Rattle.std.proofs.Math.Seq.{drop-append_seam, take-append_seam, drop-append-add, drop-length}
+use Rattle.std.proofs.Math.Seq.{drop-append_seam, drop-append-add, drop-length}
 use Rattle.ap_symbol.specs.declared.symbol.Symbol.{Symbol}
 use Rattle.ap_stream.specs.declared.dialect.Dialect.{Dialect}
 use Rattle.ap_stream.specs.declared.dialect.Dialect.TheVariants.{Raw, Analysed, Lexical, Bilingual, Chunked, Generated}
@@ -12,17 +12,14 @@ use Rattle.ap_stream.specs.declared.fault.MalformedKind.{MalformedKind}
 use Rattle.ap_stream.specs.declared.item.Chunk.{Chunk}
 use Rattle.ap_stream.specs.declared.item.Inner.{Inner}
 use Rattle.ap_stream.specs.declared.item.Inner.TheVariants as inner
-use Rattle.ap_stream.specs.declared.item.Item.{Item}
 use Rattle.ap_stream.specs.declared.item.Item.TheVariants as item
 use Rattle.ap_stream.specs.Dialects.{has_chunks}
 use Rattle.ap_stream.specs.Blanks.{Run, Open, Inside, BadChar, Done, blank, begins_blank}
-use Rattle.ap_stream.specs.Chars.{char_at}
-use Rattle.ap_stream.specs.Units.{Rest, Lacks, Wrong, Ends, rest, form_of, longer, rest_brace}
-use Rattle.ap_stream.specs.Chunks.{Portion, Begun, Barred, Held, Braced, portion, blank_portion, unit_portion, Body, Opens, Fails, Closes, behind_part, behind_portion, closed, body, body_skip, body_nil, body_brace, body_wrong, wrong_byte}
-use Rattle.ap_stream.specs.InUnits.{InUnit, braced_in, braced_chunks, unit_front, unit_always}
-use Rattle.ap_stream.specs.UnitBytes.{UnitOf}
+use Rattle.ap_stream.specs.Units.{Rest, Lacks, Wrong, Ends, rest, form_of, rest_brace}
+use Rattle.ap_stream.specs.Chunks.{Portion, Begun, Barred, Held, Braced, portion, blank_portion, unit_portion, Body, Opens, Fails, Closes, behind_part, behind_portion, closed, body, body_skip, body_nil, body_brace, wrong_byte}
+use Rattle.ap_stream.specs.InUnits.{InUnit, braced_in, braced_chunks, unit_front}
 use Rattle.ap_stream.specs.ChunkBytes.{ChunkOf}
-use Rattle.ap_stream.specs.Reading.{First, Needs, Whole, Faulty, Kind, Bad, Past, first, of_run, of_unit, of_chunk, of_body, name_in, plain}
+use Rattle.ap_stream.specs.Reading.{First, Needs, Whole, Faulty, Bad, Past, first, of_run, of_unit, of_body, name_in}
 
 -- a part at the front of a content is an item of the dialect of its units
 

@@ -1,8 +1,8 @@
 -- Where the bytes so far end, in the content of a chunk too, and what one more byte shows.
-use Rattle.std.specs.Prelude.{◌≡◌, ◌≢◌, ℕ, zero, suc, ◌+◌, ◌-◌, ◌<◌, ◌≤◌, List, [], ◌∷◌, ◌++◌, drop, take, length, Bool, true, false, cond, eqb, ◌||◌, refl}
+use Rattle.std.specs.Prelude.{◌≡◌, ◌≢◌, ℕ, ◌+◌, ◌<◌, ◌≤◌, List, [], ◌∷◌, ◌++◌, drop, take, length, Bool, true, false, cond, eqb, ◌||◌, refl}
 use Rattle.std.proofs.Common.{arith, ap, sym, subst, ◌∙◌, append_assoc, length-append, get_or}
 use Rattle.std.proofs.lemmas.Bool.{eqb-true}
-use Rattle.std.proofs.lemmas.List.{append-nil, take-append-drop, take_all, drop_all, length-drop, drop-append-le}
+use Rattle.std.proofs.lemmas.List.{append-nil, take-append-drop}
 use Rattle.std.proofs.Math.Seq.{drop-append_seam, drop-length}
 use Rattle.ap_symbol.specs.declared.symbol.Symbol.{Symbol}
 use Rattle.ap_stream.specs.declared.dialect.Dialect.{Dialect}
@@ -17,21 +17,21 @@ use Rattle.ap_stream.specs.declared.level.Level.TheVariants as level
 use Rattle.ap_stream.specs.declared.level.Shown.{Shown}
 use Rattle.ap_stream.specs.declared.level.Shown.TheVariants as shown
 use Rattle.ap_stream.specs.declared.fault.MalformedKind.{MalformedKind}
-use Rattle.ap_stream.specs.declared.fault.MalformedKind.TheVariants.{Unfinished, NotUtf8, Stray}
+use Rattle.ap_stream.specs.declared.fault.MalformedKind.TheVariants.{Unfinished}
 use Rattle.ap_stream.specs.declared.item.Chunk.{Chunk}
 use Rattle.ap_stream.specs.declared.item.Inner.TheVariants as inner
 use Rattle.ap_stream.specs.declared.item.Item.TheVariants as item
 use Rattle.ap_stream.specs.Dialects.{has_chunks}
 use Rattle.ap_stream.specs.Chars.{Front, Part, NotChar, Char, char_at}
-use Rattle.ap_stream.specs.Blanks.{is_white, begins_blank}
-use Rattle.ap_stream.specs.Chunks.{Begun, Barred, Held, portion, Opens, Fails, body, body_nil, body_wrong, wrong_byte, wrong_front}
-use Rattle.ap_stream.specs.Reading.{First, Needs, Whole, Faulty, Bad, Broken, Complete, first, last, plain}
+use Rattle.ap_stream.specs.Blanks.{is_white}
+use Rattle.ap_stream.specs.Chunks.{Held, portion, Opens, body, body_nil, body_wrong, wrong_byte, wrong_front}
+use Rattle.ap_stream.specs.Reading.{First, Needs, Whole, Faulty, Bad, Broken, first, last, plain}
 use Rattle.ap_stream.specs.UnitBytes.{UnitOf}
 use Rattle.ap_stream.specs.InUnits.{InUnit, spot, unit_always, unit_begins}
-use Rattle.ap_stream.specs.InChunks.{part_first, portion_of, IsPart, part_agrees, part_on, part_some, body_begun, body_barred, caret_first, caret_on, caret_some, InPart, InClosed, part_grows, part_needs, part_fails, part_ends, part_ends_before, part_closes, inner_on, closed_needs, closed_wrong, closed_chunk, closed_whole}
+use Rattle.ap_stream.specs.InChunks.{part_first, portion_of, IsPart, part_agrees, part_on, part_some, body_begun, body_barred, caret_first, caret_on, InPart, InClosed, part_grows, part_needs, part_fails, part_ends, part_ends_before, part_closes, inner_on, closed_needs, closed_wrong, closed_chunk, closed_whole}
 use Rattle.ap_stream.specs.Stands.{Stands, Always, InBlank, Within, blank_first, begin_white, begin_bracket}
 use Rattle.ap_stream.specs.AtEnd.{Begins, begun, at_blank, in_blank}
-use Rattle.ap_stream.specs.Step.{Stood, Sees, nothing_part, one_byte, some_part}
+use Rattle.ap_stream.specs.Step.{Stood, Sees, nothing_part, some_part}
 
 -- in a content, the part so far: nothing yet, or a blank or a unit
 abbrev pub StandsPart : Mode → List ℕ → List ℕ → Type 0

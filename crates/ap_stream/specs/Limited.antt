@@ -1,7 +1,7 @@
 -- What is decided of an item within the limit, and what one byte more decides.
-use Rattle.std.specs.Prelude.{◌≡◌, ◌≢◌, ℕ, zero, suc, ◌+◌, ◌-◌, ◌<◌, ◌≤◌, List, [], ◌∷◌, ◌++◌, drop, take, length, Bool, true, false, cond, leb, refl}
+use Rattle.std.specs.Prelude.{◌≡◌, ◌≢◌, ℕ, suc, ◌+◌, ◌-◌, ◌<◌, ◌≤◌, List, [], ◌∷◌, ◌++◌, drop, take, length, Bool, true, false, cond, leb, refl}
 use Rattle.std.proofs.Common.{arith, ap, sym, subst, ◌∙◌, append_assoc, length-append, get_or, inl, inr}
-use Rattle.std.proofs.lemmas.List.{append-nil, take-append-le, take-append-drop, length-take, length-drop}
+use Rattle.std.proofs.lemmas.List.{append-nil, take-append-le, take-append-drop}
 use Rattle.std.proofs.lemmas.Bool.Decides.{nat_tests}
 use Rattle.std.proofs.lemmas.Bool.{cases_lt}
 use Rattle.std.proofs.Math.Seq.{take-append-add, take-append_seam}
@@ -10,19 +10,18 @@ use Rattle.ap_symbol.specs.declared.symbol.Symbol.{Symbol}
 use Rattle.ap_stream.specs.declared.dialect.Dialect.{Dialect}
 use Rattle.ap_stream.specs.declared.fault.LimitKind.TheVariants.{ItemTooLong}
 use Rattle.ap_stream.specs.declared.fault.MalformedKind.TheVariants.{Unfinished}
-use Rattle.ap_stream.specs.declared.item.Item.{Item}
 use Rattle.ap_stream.specs.declared.item.Item.TheVariants as item
 use Rattle.ap_stream.specs.declared.item.Chunk.{Chunk}
 use Rattle.ap_stream.specs.declared.level.Level.{Level}
 use Rattle.ap_stream.specs.declared.level.Shown.{Shown}
 use Rattle.ap_stream.specs.declared.level.Shown.TheVariants as shown
 use Rattle.ap_stream.specs.Dialects.{has_chunks}
-use Rattle.ap_stream.specs.Reading.{First, Needs, Whole, Faulty, Kind, Bad, Past, first, limited, past, at_limit, plain}
+use Rattle.ap_stream.specs.Reading.{First, Needs, Whole, Faulty, Bad, Past, first, limited, past, at_limit, plain}
 use Rattle.ap_stream.specs.Stands.{Always, InBlank, blank_ends}
 use Rattle.ap_stream.specs.Levels.{StandsIn, StoodIn, Tells, begun_in}
 use Rattle.ap_stream.specs.InUnits.{unit_always}
 use Rattle.ap_stream.specs.UnitBytes.{UnitOf}
-use Rattle.ap_stream.specs.AtEnd.{Begins, begun_blank}
+use Rattle.ap_stream.specs.AtEnd.{begun_blank}
 
 abbrev pub IsDecided : First → Type 0
 IsDecided Needs = ⊥

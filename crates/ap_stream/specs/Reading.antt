@@ -1,7 +1,7 @@
 -- The items of a text, and what stops it, by the Apertium stream format. A text is cut item by
 -- item. Places and sizes are in bytes.
-use Rattle.std.specs.Prelude.{◌≡◌, ◌≢◌, ℕ, zero, suc, ◌+◌, ◌-◌, ◌^◌, ◌<◌, ◌≤◌, pred, min, List, [], ◌∷◌, ◌++◌, drop, take, length, Option, Some, None, Bool, true, false, cond, eqb, leb, ◌||◌, ◌&&◌, refl}
-use Rattle.std.proofs.Common.{arith, ap, sym, ◌∙◌}
+use Rattle.std.specs.Prelude.{◌≡◌, ℕ, zero, suc, ◌+◌, ◌-◌, ◌^◌, ◌<◌, ◌≤◌, pred, min, List, [], ◌∷◌, ◌++◌, drop, take, length, Option, Some, None, Bool, true, false, cond, eqb, leb, ◌&&◌, refl}
+use Rattle.std.proofs.Common.{arith, ap}
 use Rattle.ap_stream.specs.Limits.{item_max, unit_max}
 use Rattle.ap_stream.specs.declared.dialect.Dialect.{Dialect}
 use Rattle.ap_stream.specs.declared.fault.StreamFault.{StreamFault}
@@ -17,7 +17,7 @@ use Rattle.ap_stream.specs.declared.item.Item.TheVariants as item
 use Rattle.ap_stream.specs.declared.item.Read.{Read}
 use Rattle.ap_stream.specs.Dialects.{is_refused, has_units, has_chunks}
 use Rattle.ap_stream.specs.Chars.{Front, Part, NotChar, Char, char_at}
-use Rattle.ap_stream.specs.Blanks.{Run, Open, Inside, BadChar, Done, blank, is_white, begins_blank}
+use Rattle.ap_stream.specs.Blanks.{Run, Open, Inside, BadChar, Done, blank, begins_blank}
 use Rattle.ap_stream.specs.Units.{Rest, Lacks, Wrong, Ends, rest, form_of}
 use Rattle.ap_stream.specs.Chunks.{Body, Opens, Fails, Closes, body}
 

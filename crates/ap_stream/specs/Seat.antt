@@ -1,8 +1,7 @@
 -- A stage seen as data: its handler, its dialect, the bytes of the item that its reader has begun,
 -- the place of the first, what it has pending, whether its input has ended, and the fault that it
 -- has answered.
-use Rattle.std.specs.Prelude.{◌≡◌, ℕ, List, Option, Bool, refl}
-use Rattle.std.specs.Coded.{Coded, code_by, coded×, coded_ℕ, coded_bool, coded_list, coded_option}
+use Rattle.std.specs.Prelude.{ℕ, List, Option, Bool}
 use Rattle.ap_stream.specs.declared.dialect.Dialect.{Dialect}
 use Rattle.ap_stream.specs.declared.fault.StreamFault.{StreamFault}
 

@@ -1,5 +1,4 @@
 -- What the code says of a character.
-use Rattle.std.specs.Prelude.{ℕ}
 use Rattle.ap_stream.specs.Chars.{Front, Part, NotChar, Char}
 use Rattle.ap_stream.specs.declared.decode.Decoded.{Decoded}
 use Rattle.ap_stream.specs.declared.decode.Decoded.TheVariants as code

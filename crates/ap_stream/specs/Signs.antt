@@ -1,12 +1,12 @@
 -- What the code says of the symbol at the front of a word's bytes.
-use Rattle.std.specs.Prelude.{◌≡◌, ℕ, ◌+◌, ◌<◌, ◌≤◌, List, ◌∷◌, ◌++◌, length, take, Bool, true, false, IsTrue}
+use Rattle.std.specs.Prelude.{◌≡◌, ℕ, ◌<◌, ◌≤◌, List, ◌∷◌, ◌++◌, length, take, Bool, false, IsTrue}
 use Rattle.std.specs.List.{list_any}
 use Rattle.std.specs.String.{string_bytes}
 use Rattle.ap_symbol.specs.declared.symbol.Symbol.{Symbol}
 use Rattle.ap_symbol.specs.Words.{is_word_symbol}
 use Rattle.ap_symbol.specs.Coded.{IsNameText}
 use Rattle.ap_symbol.specs.TagNames.{is_reserved_lem}
-use Rattle.ap_stream.specs.Units.{Name, Runs, Breaks, Stops, name, Sign, Awaits, Bars, Reads, Slash, Dollar, Brace, bare_of}
+use Rattle.ap_stream.specs.Units.{Runs, Breaks, Stops, name, Sign, Awaits, Bars, Reads, Slash, Dollar, Brace, bare_of}
 use Rattle.ap_stream.specs.declared.words.Named.{Named}
 use Rattle.ap_stream.specs.declared.words.Named.TheVariants as named
 use Rattle.ap_stream.specs.declared.words.Signed.{Signed}

@@ -1,6 +1,6 @@
 -- The bytes of an item, by the Apertium stream format. A unit or a chunk is written by the
 -- rendering of its words.
-use Rattle.std.specs.Prelude.{ℕ, Bool, true, false, List, [], ◌∷◌, ◌++◌, cond, encode_utf8}
+use Rattle.std.specs.Prelude.{ℕ, List, [], ◌∷◌, ◌++◌, cond, encode_utf8}
 use Rattle.std.specs.List.{flat_map}
 use Rattle.ap_symbol.specs.declared.symbol.Symbol.{Symbol}
 use Rattle.ap_symbol.specs.Rendering.{rendering}

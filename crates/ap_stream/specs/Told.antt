@@ -1,5 +1,5 @@
 -- What is still to come of a stage: a text, and a fault or none.
-use Rattle.std.specs.Prelude.{ℕ, List, [], ◌++◌, Option, Some, None, ◌≡◌, ◌≢◌}
+use Rattle.std.specs.Prelude.{ℕ, List, [], ◌++◌, Option, Some, None, ◌≡◌}
 use Rattle.ap_stream.specs.declared.fault.StreamFault.{StreamFault}
 use Rattle.ap_stream.specs.declared.fault.StreamFault.TheVariants.{Malformed, Limit, Memory}
 use Rattle.ap_stream.specs.declared.fault.MalformedKind.TheVariants.{NotUtf8, Stray, Unfinished, BadTag, EmptyWord}

@@ -1,9 +1,6 @@
-use Rattle.std.proofs.Common.{arith, ap, sym, subst, ◌∙◌, refl, ◌≡◌, ℕ, ◌+◌, ◌-◌, ◌<◌, ◌≤◌, List, [], ◌∷◌, ◌++◌, length, take, drop, true, false, eqb, get_or}
+use Rattle.std.proofs.Common.{arith, ap, sym, ◌∙◌, ◌≡◌, drop}
 use Rattle.std.proofs.lemmas.List.{length-drop}
-use Rattle.std.proofs.lemmas.Grind.{common_steps}
-use Rattle.std.proofs.lemmas.Bool.Decides.{nat_tests}
 use Rattle.ap_stream.proofs.SignLaws as laws
-use Rattle.ap_stream.proofs.ChunkWalk as walk
 use Rattle.ap_stream.specs.Chars.{Char, char_at}
 use Rattle.ap_stream.specs.Units.{Runs, Breaks, Stops, name}
 use Rattle.ap_stream.proofs.ChunkWalk.{never, unbroken, same}

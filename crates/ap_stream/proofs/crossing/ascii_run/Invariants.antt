@@ -1,4 +1,4 @@
-use Rattle.std.proofs.Common.{◌≡◌, ◌≤◌, ◌<◌, ◌-◌, ℕ, slice_index}
+use Rattle.std.proofs.Common.{◌≤◌, ◌<◌, ◌-◌, ℕ, slice_index}
 use Rattle.ap_stream.proofs.crossing.ascii_run.Given as goal
 
 abbrev pub invariant-loop-at : goal.invariant-loop-at

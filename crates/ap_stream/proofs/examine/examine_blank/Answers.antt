@@ -1,7 +1,4 @@
-use Rattle.std.proofs.Common.{arith, ap, sym, ◌∙◌, refl, ◌≡◌, ℕ, ◌+◌, ◌<◌, List, [], ◌∷◌, ◌++◌, length, true, false, eqb, length-append}
-use Rattle.std.proofs.lemmas.Grind.{common_steps}
-use Rattle.ap_stream.specs.Chars.{Front, Part, NotChar, Char, char_at}
-use Rattle.ap_stream.specs.Stands as stands
+use Rattle.std.proofs.Common.{sym, ◌∙◌, refl}
 use Rattle.ap_stream.specs.Step as step
 use Rattle.ap_stream.proofs.examine.examine_blank.Goals as goal
 

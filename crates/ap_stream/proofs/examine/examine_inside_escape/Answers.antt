@@ -1,6 +1,4 @@
-use Rattle.std.proofs.Common.{arith, ap, sym, ◌∙◌, refl, ◌≡◌, ℕ, ◌+◌, ◌<◌, List, [], ◌∷◌, ◌++◌, length, true, false, eqb, length-append}
-use Rattle.std.proofs.lemmas.Grind.{common_steps}
-use Rattle.ap_stream.specs.Chars.{Front, Part, NotChar, Char, char_at}
+use Rattle.std.proofs.Common.{sym}
 use Rattle.ap_stream.specs.Stands as stands
 use Rattle.ap_stream.specs.Step as step
 use Rattle.ap_stream.proofs.examine.examine_inside_escape.Goals as goal

@@ -1,5 +1,4 @@
-use Rattle.std.proofs.Common.{arith, ap, sym, ◌∙◌, refl, ◌≡◌, ℕ, ◌+◌, ◌<◌, ◌≤◌, List, [], ◌∷◌, ◌++◌, length, take, drop}
-use Rattle.ap_stream.specs.Levels.{Tells}
+use Rattle.std.proofs.Common.{arith}
 use Rattle.ap_stream.specs.Limited as limited
 use Rattle.ap_stream.proofs.level.look.Goals as goal
 

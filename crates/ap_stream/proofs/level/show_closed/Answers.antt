@@ -1,4 +1,4 @@
-use Rattle.std.proofs.Common.{ap, sym, ◌∙◌, ◌≡◌}
+use Rattle.std.proofs.Common.{sym, ◌∙◌}
 use Rattle.ap_stream.specs.Levels as levels
 use Rattle.ap_stream.proofs.level.show_closed.Goals as goal
 

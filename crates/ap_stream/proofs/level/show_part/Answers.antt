@@ -1,7 +1,5 @@
-use Rattle.std.proofs.Common.{ap, sym, ◌∙◌, ◌≡◌, length, drop, take}
-use Rattle.std.proofs.lemmas.List.{take_all}
+use Rattle.std.proofs.Common.{sym, ◌∙◌}
 use Rattle.ap_stream.specs.Levels as levels
-use Rattle.ap_stream.specs.Step.{Sees}
 use Rattle.ap_stream.proofs.SignLaws.{slice_rest}
 use Rattle.ap_stream.proofs.level.show_part.Goals as goal
 

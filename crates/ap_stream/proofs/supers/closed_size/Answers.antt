@@ -1,5 +1,4 @@
-use Rattle.std.proofs.Common.{arith, sym, ◌∙◌, ◌≡◌, ℕ, ◌+◌, ◌<◌, ◌≤◌, refl, drop, length, ap}
-use Rattle.std.proofs.lemmas.Grind.{common_steps}
+use Rattle.std.proofs.Common.{arith, sym, ◌∙◌, ◌+◌, ◌<◌, ◌≤◌, refl, drop, length, ap}
 use Rattle.std.proofs.lemmas.List.{drop_all}
 use Rattle.ap_stream.specs.Blanks.{closing, longer}
 use Rattle.ap_stream.proofs.Superblanks as lemmas

@@ -1,4 +1,4 @@
-use Rattle.std.proofs.Common.{arith, sym, ◌∙◌, ◌≡◌, ℕ, ◌+◌, ◌<◌, ◌≤◌, refl, drop, length, ap, length-drop}
+use Rattle.std.proofs.Common.{arith, ◌+◌, refl, length-drop}
 use Rattle.std.proofs.lemmas.List.{take_rest}
 use Rattle.ap_stream.proofs.Superblanks as lemmas
 use Rattle.ap_stream.proofs.supers.push_blank.Goals as goal

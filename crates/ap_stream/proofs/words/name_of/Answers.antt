@@ -1,13 +1,10 @@
-use Rattle.std.proofs.Common.{arith, ap, sym, subst, ◌∙◌, refl, ◌≡◌, ℕ, ◌+◌, ◌-◌, ◌<◌, ◌≤◌, List, [], ◌∷◌, ◌++◌, length, take, drop, true, false, eqb}
-use Rattle.std.specs.List.{list_any}
+use Rattle.std.proofs.Common.{arith, ap, sym, subst, ◌∙◌, ◌≡◌, ◌++◌, take, drop, false}
 use Rattle.std.proofs.lemmas.List.{length-drop}
 use Rattle.std.specs.String.{string_bytes}
 use Rattle.std.specs.Prelude.{encode_utf8}
 use Rattle.ap_symbol.specs.TagNames.{is_reserved_lem}
-use Rattle.std.proofs.lemmas.Grind.{common_steps}
-use Rattle.std.proofs.lemmas.Bool.Decides.{nat_tests}
 use Rattle.std.proofs.Math.Seq.{take-add}
-use Rattle.ap_stream.specs.Chars.{Front, Part, NotChar, Char, char_at}
+use Rattle.ap_stream.specs.Chars.{Front, Char, char_at}
 use Rattle.ap_stream.proofs.Encoding.{char_encodes, Encodes}
 use Rattle.ap_stream.proofs.SignLaws as laws
 use Rattle.ap_stream.proofs.words.name_of.Goals as goal

@@ -1,4 +1,4 @@
-use Rattle.std.proofs.Common.{rules, arith, ap, sym, ◌∙◌, ◌≡◌, ℕ, List, [], length, take, true, refl}
+use Rattle.std.proofs.Common.{rules, ◌≡◌, [], length, take, refl}
 use Rattle.ap_stream.specs.Given as given
 use Rattle.ap_stream.proofs.reader.Reader.bare.Goals as goal
 

@@ -1,4 +1,4 @@
-use Rattle.std.proofs.Common.{arith, ap, sym, ◌∙◌, refl, ◌≡◌, ℕ, ◌+◌, ◌<◌, ◌≤◌, List, ◌++◌, ◌-◌, length, take, None, vec_len}
+use Rattle.std.proofs.Common.{arith, ap, ◌∙◌, ◌≡◌, ◌<◌, ◌≤◌, ◌++◌, ◌-◌, length, take, None, vec_len}
 use Rattle.std.proofs.lemmas.Grind.{common_steps}
 use Rattle.ap_stream.specs.Limits.{unit_max}
 use Rattle.ap_stream.specs.Begun.{Begun}

@@ -1,4 +1,4 @@
-use Rattle.std.proofs.Common.{◌∙◌, refl, sym, ◌≡◌, List, [], ◌++◌}
+use Rattle.std.proofs.Common.{[]}
 use Rattle.std.proofs.lemmas.List.{append-nil}
 use Rattle.ap_stream.specs.Given as given
 use Rattle.ap_stream.proofs.reader.Reader.end.Goals as goal

@@ -1,6 +1,5 @@
-use Rattle.std.proofs.Common.{arith, ap, sym, ◌∙◌, refl, ◌≡◌, ℕ, ◌+◌, ◌<◌, ◌≤◌, List, ◌++◌, length, take, None}
+use Rattle.std.proofs.Common.{arith, ◌∙◌, refl, ◌+◌}
 use Rattle.std.proofs.lemmas.Grind.{common_steps}
-use Rattle.ap_stream.specs.Begun.{Begun}
 use Rattle.ap_stream.specs.Given as given
 use Rattle.ap_stream.proofs.reader.Reader.feed.Goals as goal
 

@@ -1,4 +1,4 @@
-use Rattle.std.proofs.Common.{◌≡◌, ◌≤◌, ◌+◌, ◌-◌, List, ◌++◌, take, length, true, None}
+use Rattle.std.proofs.Common.{◌≡◌, ◌≤◌, ◌-◌, ◌++◌, take, length, true, None}
 use Rattle.ap_stream.specs.Limits.{begun_max}
 use Rattle.ap_stream.specs.Given.{CanGoOn}
 use Rattle.ap_stream.proofs.reader.Reader.feed.Given as goal

@@ -1,12 +1,7 @@
-use Rattle.std.proofs.lemmas.List.{append-nil}
-use Rattle.std.proofs.Common.{rules, arith, ap, ◌∙◌, sym, ◌≡◌, ◌≢◌, ℕ, ◌+◌, ◌-◌, ◌*◌, ◌<◌, ◌≤◌, List, [], ◌∷◌, ◌++◌, take, drop, length, Bool, true, false, Option, Some, None, IfOk, OnOk, IfErr, OnErr}
+use Rattle.std.proofs.Common.{ap, ◌∙◌, sym, ◌≡◌, ◌≤◌, false, None}
 use Rattle.ap_stream.specs.Limits.{span_max}
-use Rattle.ap_stream.specs.declared.fault.StreamFault.{StreamFault}
 use Rattle.ap_stream.specs.Given.{Shows}
 use Rattle.ap_stream.specs.Seat.{Seat}
-use Rattle.ap_stream.specs.Told.{Told, Ending, Clean, Cut, silent, behind, ends_in, Begins}
-use Rattle.ap_stream.specs.Rest.{rest_of, held_of}
-use Rattle.ap_stream.specs.Sound.{May, measure, Sound}
 use Rattle.ap_stream.proofs.Stop as lemmas
 use Rattle.ap_stream.proofs.staged.Staged.read.Goals as goal
 use Rattle.ap_stream.proofs.staged.Staged.read.Goals.{After-begun}

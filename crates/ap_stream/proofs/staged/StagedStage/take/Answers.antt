@@ -1,8 +1,7 @@
-use Rattle.std.proofs.Common.{rules, arith, ap, ◌∙◌, sym, ◌≡◌, ◌≢◌, ℕ, ◌+◌, ◌-◌, ◌*◌, ◌<◌, ◌≤◌, List, [], ◌∷◌, ◌++◌, take, drop, length, Bool, true, false, Option, Some, None, IfOk, OnOk, IfErr, OnErr}
+use Rattle.std.proofs.Common.{arith, ◌∙◌, sym, ◌≡◌, ◌++◌, true}
 use Rattle.std.proofs.lemmas.Bool.{false≢true}
 use Rattle.std.proofs.lemmas.Grind.{common_steps}
-use Rattle.ap_stream.specs.Told.{Told, Ending, Clean, Cut, silent, behind, ends_in, Begins}
-use Rattle.ap_stream.specs.Rest.{rest_of, held_of}
+use Rattle.ap_stream.specs.Rest.{rest_of}
 use Rattle.ap_stream.proofs.Stop.{front_err, take_on}
 use Rattle.ap_stream.proofs.staged.StagedStage.take.Goals as goal
 

@@ -1,7 +1,7 @@
-use Rattle.std.proofs.Common.{◌≡◌, ◌≢◌, ℕ, ◌+◌, ◌-◌, ◌*◌, ◌<◌, ◌≤◌, List, [], ◌∷◌, ◌++◌, take, drop, length, Bool, true, false, Option, Some, None, IfOk, OnOk, IfErr, OnErr}
-use Rattle.ap_stream.specs.Told.{Told, Ending, Clean, Cut, silent, behind, ends_in, Begins}
-use Rattle.ap_stream.specs.Rest.{rest_of, held_of}
-use Rattle.ap_stream.specs.Sound.{May, measure}
+use Rattle.std.proofs.Common.{◌≡◌, ℕ, ◌+◌, ◌-◌, ◌<◌, ◌≤◌, List, ◌++◌, take, length, false, None}
+use Rattle.ap_stream.specs.Told.{Ending}
+use Rattle.ap_stream.specs.Rest.{rest_of}
+use Rattle.ap_stream.specs.Sound.{measure}
 use Rattle.ap_stream.proofs.staged.StagedStage.take.Given as goal
 
 abbrev pub invariant-loop-self : goal.invariant-loop-self
