@@ -191,7 +191,7 @@ fn items_are_read_in_any_pieces(rt: HostRuntime) -> Result<(), Fail> {
         (
             Dialect::Chunked,
             b"^n{ [a}$]\n^b$[\\]]}$a b{",
-            "^n{ [a}$]\n^b$[\\]]}$|a| |b|Malformed { kind: Stray, place: 24 }",
+            "^n{ [a}$]\n^b$[\\]]}$|a| |b|Malformed { kind: Stray, place: 22 }",
         ),
     ];
     for (dialect, text, want) in table {
