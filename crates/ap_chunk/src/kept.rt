@@ -11,18 +11,19 @@ use std::alloc::Global;
 use std::rc::Rc;
 
 /// The number of places for words, and for rows; so many are kept at most.
-const PLACES: usize = 8192;
+const PLACES: usize = 65536;
 
 /// No row has this number.
 const NO_ROW: u32 = 4294967295;
 
-/// The place of a word.
+/// The place of a word: its bytes go into one number, each five places from the one before, and of
+/// that number the upper half tells it.
 fn place_of(key: &[u8]) -> usize {
-    let mut hash: u32 = 2166136261;
-    for b in key {
-        hash = (hash ^ u32::from(*b)).wrapping_mul(16777619);
+    let mut hash: u64 = 0;
+    for byte in key {
+        hash = hash.rotate_left(5) ^ u64::from(*byte);
     }
-    (hash ^ (hash >> 15)) as usize % PLACES
+    (hash.wrapping_mul(11400714819323198485) >> 32) as usize % PLACES
 }
 
 /// Whether two lists of bytes are equal.

@@ -9,7 +9,7 @@ ghost use Rattle.ap_chunk.specs.Unmatched.{is_unknown as unknown_test, chunk_fro
 use crate::chunks::{write_content, write_lone};
 use crate::parts::{Room, put_word};
 use ap_rules::{DefaultPiece, Form, Rules};
-use ap_stream::{Chunk, Item, Unit, write_item};
+use ap_stream::{Chunk, Item, Unit, append_item};
 use ap_symbol::{Bytes, Memory, Symbol, Word};
 use std::alloc::Global;
 
@@ -83,7 +83,7 @@ fn write_chunk(
         (into.new ≡ into.old ++ chunk_text form chunk.now.name chunk.now.content) }
 {
     match form {
-        Form::Transfer | Form::Interchunk => write_item(alloc, item, into),
+        Form::Transfer | Form::Interchunk => append_item(alloc, item, into),
         Form::Postchunk => write_content(chunk.content.as_slice(), words, into),
     }
 }
@@ -106,9 +106,9 @@ pub(crate) fn write_unmatched(
     match item {
         Item::Unit(unit) => match rules.form {
             Form::Transfer => write_default(rules.default, unit, room, into),
-            Form::Interchunk | Form::Postchunk => write_item(alloc, item, into),
+            Form::Interchunk | Form::Postchunk => append_item(alloc, item, into),
         },
-        Item::Plain(_) | Item::Blank(_) => write_item(alloc, item, into),
+        Item::Plain(_) | Item::Blank(_) => append_item(alloc, item, into),
         Item::Chunk(chunk) => write_chunk(alloc, rules.form, item, chunk, words, into),
     }
 }

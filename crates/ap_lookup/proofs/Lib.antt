@@ -1,6 +1,5 @@
 pub mod Translations
 pub mod Prefixes
-pub mod Keepings
 pub mod SuperblanksKept
 pub mod Matches
 pub mod PostSearches

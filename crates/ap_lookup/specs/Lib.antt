@@ -5,7 +5,6 @@ pub mod Looking
 pub mod Laws
 pub mod Lookup
 pub mod Generating
-pub mod Kept
 pub mod Works
 pub mod PostGenerating
 pub mod PostWorks

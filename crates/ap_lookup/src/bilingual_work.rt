@@ -5,7 +5,7 @@ ghost use Rattle.ap_lookup.specs.Works.{bilingual_work, bilingual_unit};
 ghost use Rattle.ap_live.specs.Lexicon.{lexicon_of};
 
 use crate::bilingual_writer::BilingualWriter;
-use crate::keeping::Keeping;
+use crate::by_word::ByWord;
 use ap_fst::Compiled;
 use ap_stream::{ByUnit, Copies, Dialect, Each, Handler, Read, StageFault, Turn};
 use ap_symbol::{Bytes, Memory};
@@ -13,11 +13,11 @@ use std::alloc::Global;
 use std::marker::Model;
 
 /// Bilingual lookup of items (`lt-proc -b`): a `Handler` over the items of a Lexical text. Each
-/// unit is written as `BilingualWriter` writes its word, and kept as `Keeping` keeps it; every
-/// other item is copied as it is spelled.
+/// unit is written as `BilingualWriter` writes its word; every other item is copied as it is
+/// spelled.
 #[derive(Drop)]
 pub struct BilingualWork {
-    each: Each<Keeping<BilingualWriter>>,
+    each: Each<ByWord<BilingualWriter>>,
 }
 
 impl Model for BilingualWork {
@@ -40,7 +40,7 @@ impl BilingualWork {
     {
         let writer = BilingualWriter::new(alloc, compiled, sensitive);
         Ok(BilingualWork {
-            each: Each::new(alloc, Dialect::Lexical, Keeping::new(alloc, writer)),
+            each: Each::new(alloc, Dialect::Lexical, ByWord::new(alloc, writer)),
         })
     }
 }
@@ -86,6 +86,10 @@ impl Copies for BilingualWork {
 }
 
 impl ByUnit for BilingualWork {
+    fn recall(&mut self, piece: &[u8], into: &mut Bytes) -> Result<usize, Memory> {
+        self.each.recall(piece, into)
+    }
+
     fn unit(&mut self, bytes: &[u8], into: &mut Bytes) -> Result<bool, Memory> {
         self.each.unit(bytes, into)
     }

@@ -4,8 +4,8 @@ ghost use Rattle.ap_stream.specs.declared.dialect.Dialect.TheVariants.{Lexical};
 ghost use Rattle.ap_lookup.specs.Works.{generation_work, generated_unit};
 ghost use Rattle.ap_live.specs.Lexicon.{lexicon_of};
 
+use crate::by_word::ByWord;
 use crate::generation_writer::{GenerationWriter, Marks};
-use crate::keeping::Keeping;
 use ap_fst::Compiled;
 use ap_stream::{ByUnit, Copies, Dialect, Each, Handler, Read, StageFault, Turn};
 use ap_symbol::{Bytes, Memory};
@@ -13,11 +13,11 @@ use std::alloc::Global;
 use std::marker::Model;
 
 /// Generation of items (`lt-proc -g`, `-n`, `-d`): a `Handler` over the items of a Lexical text.
-/// Each unit is written as `GenerationWriter` writes its word, and kept as `Keeping` keeps it;
-/// every other item is copied as it is spelled.
+/// Each unit is written as `GenerationWriter` writes its word; every other item is copied as it is
+/// spelled.
 #[derive(Drop)]
 pub struct GenerationWork {
-    each: Each<Keeping<GenerationWriter>>,
+    each: Each<ByWord<GenerationWriter>>,
 }
 
 impl Model for GenerationWork {
@@ -46,7 +46,7 @@ impl GenerationWork {
     {
         let writer = GenerationWriter::new(alloc, compiled, marks, sensitive);
         Ok(GenerationWork {
-            each: Each::new(alloc, Dialect::Lexical, Keeping::new(alloc, writer)),
+            each: Each::new(alloc, Dialect::Lexical, ByWord::new(alloc, writer)),
         })
     }
 }
@@ -92,6 +92,10 @@ impl Copies for GenerationWork {
 }
 
 impl ByUnit for GenerationWork {
+    fn recall(&mut self, piece: &[u8], into: &mut Bytes) -> Result<usize, Memory> {
+        self.each.recall(piece, into)
+    }
+
     fn unit(&mut self, bytes: &[u8], into: &mut Bytes) -> Result<bool, Memory> {
         self.each.unit(bytes, into)
     }

@@ -5,11 +5,10 @@
 mod bilingual;
 mod bilingual_work;
 mod bilingual_writer;
+mod by_word;
 mod generation;
 mod generation_work;
 mod generation_writer;
-mod keeping;
-mod kept;
 mod laws;
 mod post_generation;
 mod post_generation_work;
@@ -22,10 +21,10 @@ mod word_writer;
 pub use bilingual::Bilingual;
 pub use bilingual_work::BilingualWork;
 pub use bilingual_writer::BilingualWriter;
+pub use by_word::ByWord;
 pub use generation::Generation;
 pub use generation_work::GenerationWork;
 pub use generation_writer::{GenerationWriter, Marks};
-pub use keeping::Keeping;
 pub use laws::{
     bilingual_is_read, bilingual_keeps_superblanks, generation_is_read,
     generation_keeps_superblanks, longest_prefix_is_taken, post_generation_is_read,

@@ -115,6 +115,10 @@ impl Copies for FirstWork {
 }
 
 impl ByUnit for FirstWork {
+    fn recall(&mut self, piece: &[u8], into: &mut Bytes) -> Result<usize, Memory> {
+        self.each.recall(piece, into)
+    }
+
     fn unit(&mut self, bytes: &[u8], into: &mut Bytes) -> Result<bool, Memory> {
         self.each.unit(bytes, into)
     }

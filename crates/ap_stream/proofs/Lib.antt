@@ -13,6 +13,7 @@ pub mod EachLaws
 pub mod WordsRead
 pub mod Spelt
 pub mod KeptNames
+pub mod KeptUnits
 pub mod ChunkWalk
 pub mod ChunkCut
 pub mod Crossed

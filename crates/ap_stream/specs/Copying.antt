@@ -2,6 +2,7 @@
 use Rattle.std.specs.Prelude.{◌≡◌, ℕ, ◌+◌, ◌≤◌, List, [], ◌∷◌, ◌++◌, length, Bool, true, false, None, not, ◌&&◌, ◌||◌, eqb, encode_utf8}
 use Rattle.std.specs.List.{flat_map, AllByRecursion}
 use Rattle.ap_symbol.specs.Coded.{IsCode}
+use Rattle.ap_symbol.specs.declared.symbol.Symbol.{Symbol}
 use Rattle.ap_stream.specs.declared.dialect.Dialect.{Dialect}
 use Rattle.ap_stream.specs.declared.item.Item.{Item}
 use Rattle.ap_stream.specs.declared.item.Item.TheVariants.{Plain, Blank, Chunk}
@@ -20,7 +21,7 @@ use Rattle.ap_stream.specs.declared.examine.Mode.TheVariants as mode
 use Rattle.ap_stream.specs.declared.examine.Seen.TheVariants as seen
 use Rattle.ap_stream.specs.declared.examine.Spot.{Spot}
 use Rattle.ap_stream.specs.Told.{Told, Ending, behind}
-use Rattle.ap_stream.specs.UnitBytes.{unit_words}
+use Rattle.ap_stream.specs.UnitBytes.{UnitOf, unit_words}
 
 -- a character that no dialect refuses, with which no blank and no unit begins, and to which no tool
 -- gives a meaning: none of \ / $ < > ^ { } [ ] @, of ~, and of white space
@@ -80,6 +81,15 @@ pub record GivesUnit {H : Type 0} (work : H → List Read → Told) (dialect : D
   pub gives : (place size : ℕ) (xs : List Read) →
       work old (read_at place (item.Unit (unit_words dialect bytes)) size ∷ xs)
       ≡ behind given (work new xs)
+
+-- the bytes are a unit that gave what was appended
+pub record GaveUnit {H : Type 0} (work : H → List Read → Told) (dialect : Dialect) (old new : H)
+    (bytes before after : List ℕ) : Type 0 where
+  pub words : List (List Symbol)
+  pub unit : UnitOf dialect bytes words
+  pub given : List ℕ
+  pub is : after ≡ before ++ given
+  pub gives : GivesUnit work dialect old new bytes given
 
 -- the bytes, worked on by themselves wherever they stand and however the text goes on, give this
 -- text

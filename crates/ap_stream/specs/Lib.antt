@@ -30,6 +30,7 @@ pub mod Spelling
 pub mod Supers
 pub mod Crossing
 pub mod Copying
+pub mod KeptUnits
 pub mod Each
 pub mod Laws
 pub mod Pieces

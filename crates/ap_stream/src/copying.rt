@@ -3,7 +3,7 @@ ghost use Rattle.ap_stream.specs.declared.TheConstants.{UNIT_MAX};
 ghost use Rattle.ap_stream.specs.declared.dialect.Dialect.{Dialect};
 ghost use Rattle.ap_stream.specs.declared.item.Read.{Read};
 ghost use Rattle.ap_stream.specs.Blanks.{is_white as white_test};
-ghost use Rattle.ap_stream.specs.Copying.{is_common as common_test, is_copied, IsCommon, IsRun, GivesUnit, Gives};
+ghost use Rattle.ap_stream.specs.Copying.{is_common as common_test, is_copied, IsCommon, IsRun, GivesUnit, GaveUnit, Gives};
 ghost use Rattle.ap_stream.specs.Crossing.{stops_word as stop_test};
 ghost use Rattle.ap_stream.specs.Spelling.{spelled};
 ghost use Rattle.ap_stream.specs.Told.{behind};
@@ -31,6 +31,17 @@ pub trait Copies: Handler {
 
 /// A handler that copies, and takes each unit by itself.
 pub trait ByUnit: Copies {
+    /// Where nothing is held, appends what the unit at the front gives, if that is kept from before,
+    /// and answers how many bytes the unit has; else 0. The error means want of memory; then
+    /// anything may have been appended.
+    fn recall(&mut self, piece: &[u8], into: &mut Bytes) -> Result<usize, Memory>
+        requires { Self.count self.old ≡ 0 }
+        ensures most { IfOk result (λ n. n ≤ length piece.now) }
+        ensures wrote { IfOk result (λ n. 0 < n → GaveUnit Self.work (Self.dialect self.old)
+            self.old self.new (take n piece.now) into.old into.new) }
+        ensures none { IfOk result (λ n. n ≡ 0 → into.new ≡ into.old) }
+        ensures same { self.new ≡ self.old };
+
     /// Where nothing is held, appends what the unit with these bytes gives, and answers whether it
     /// did. Where it didn't, anything may have been appended, and the unit is to be pushed. The
     /// error means want of memory; then anything may have been appended too, and the handler isn't
@@ -145,6 +156,39 @@ fn copy_run<H: Copies>(handler: &H, piece: &[u8], given: &mut Bytes) -> Result<u
     Ok(count)
 }
 
+/// Appends what the unit at the front gives, and answers how many bytes the unit has, or 0.
+fn give_front<H: ByUnit>(
+    handler: &mut H,
+    dialect: Dialect,
+    piece: &[u8],
+    given: &mut Bytes,
+) -> Result<usize, Memory>
+    requires dialect { H.dialect handler.old ≡ dialect }
+    requires none { H.count handler.old ≡ 0 }
+    ensures most { IfOk result (λ n. n ≤ length piece.now) }
+    ensures wrote { IfOk result (λ n. 0 < n → GaveUnit H.work dialect handler.old handler.new
+        (take n piece.now) given.old given.new) }
+    ensures passed { result ≡ Ok 0 → (xs : List Read) →
+        H.work handler.new xs ≡ H.work handler.old xs }
+    ensures count { OnOk result (H.count handler.new ≡ 0) }
+    ensures held { OnOk result (H.held handler.new ≡ H.held handler.old) }
+    ensures same { OnOk result (H.dialect handler.new ≡ H.dialect handler.old) }
+    ensures finished { OnOk result (H.finished handler.new ≡ H.finished handler.old) }
+{
+    let kept = handler.recall(piece, given)?;
+    if kept > 0 {
+        return Ok(kept);
+    }
+    let size = unit_size(dialect, piece);
+    if size == 0 {
+        return Ok(0);
+    }
+    if !handler.unit(&piece[..size], given)? {
+        return Ok(0);
+    }
+    Ok(size)
+}
+
 /// Puts what the unit at the front gives, and a white-space character before it, into `given`, and
 /// answers how many bytes they are, or 0.
 fn give_unit<H: ByUnit>(
@@ -169,12 +213,9 @@ fn give_unit<H: ByUnit>(
 {
     let most = piece.len().min(UNIT_AT_ONCE);
     let white = white_size(&piece[..most]);
-    let size = unit_size(dialect, &piece[white..most]);
-    if size == 0 {
-        return Ok(0);
-    }
     given.extend(&piece[..white])?;
-    if !handler.unit(&piece[white..white + size], given)? {
+    let size = give_front(handler, dialect, &piece[white..most], given)?;
+    if size == 0 {
         return Ok(0);
     }
     Ok(white + size)

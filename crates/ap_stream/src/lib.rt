@@ -14,6 +14,7 @@ mod examine;
 mod fault;
 mod handler;
 mod item;
+mod kept_units;
 mod laws;
 mod level;
 mod names;
@@ -50,7 +51,7 @@ pub use stage::{Finish, Stage};
 pub use staged::Staged;
 pub use supers::push_superblanks;
 pub use unit::Unit;
-pub use write::write_item;
+pub use write::{append_item, write_item};
 
 /// The most bytes that one unit, blank or chunk of a stream may have.
 pub const UNIT_MAX: usize = 4_194_304;

@@ -119,3 +119,16 @@ pub fn write_item(alloc: Global, item: &Item, into: &mut Bytes) -> Result<(), Me
         }
     }
 }
+
+/// Appends the bytes of the item, as `write_item` does; but after a refusal a front of them may
+/// stand there.
+pub fn append_item(alloc: Global, item: &Item, into: &mut Bytes) -> Result<(), Memory>
+    ensures { OnOk result (into.new ≡ into.old ++ spelled item.now) }
+{
+    match item {
+        Item::Plain(character) => write_character(alloc, *character, into),
+        Item::Blank(blank) => into.extend(blank.as_slice()),
+        Item::Unit(unit) => append_unit(alloc, unit, into),
+        Item::Chunk(chunk) => append_chunk(alloc, chunk, into),
+    }
+}

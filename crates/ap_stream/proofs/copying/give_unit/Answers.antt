@@ -1,4 +1,4 @@
-use Rattle.std.proofs.Common.{arith, ap, sym, ◌≡◌, ℕ, ◌+◌, ◌-◌, ◌<◌, List, ◌++◌, min, length, take, drop, Ok}
+use Rattle.std.proofs.Common.{arith, sym, ◌≡◌, ℕ, ◌+◌, ◌-◌, ◌<◌, List, ◌++◌, min, length, take, drop}
 use Rattle.std.proofs.lemmas.List.{take-take, length-take}
 use Rattle.std.proofs.Math.Seq.{take-add}
 use Rattle.ap_stream.proofs.Copied.{front_gives}
@@ -9,10 +9,10 @@ returns-clause-gives g c = λ some.
     let piece : List ℕ = c.args.piece.now in
     let most : ℕ = c.min-most.result in
     let white : ℕ = c.white_size-white.result in
-    let size : ℕ = c.unit_size-size.result in
+    let size : ℕ = c.in_ok-size.size in
     let n = c.min-most.ensures in
     let w = c.white_size-white.ensures.most in
-    let s = c.unit_size-size.ensures.most in
+    let s = c.in_ok-size.ensures.most in
     let first : length (take most piece) ≡ min most (length piece) = length-take most piece in
     let second : length (take (most - white) (drop white piece))
     ≡ min (most - white) (length (drop white piece)) =
@@ -26,12 +26,9 @@ returns-clause-gives g c = λ some.
     let whole : take white piece ++ take size (drop white piece) ≡ take (white + size) piece =
     sym (take-add white size piece) in
     let more : 0 < size = let z = c.if-size-eq0.false in omega (arith, z) in
-    let is = rw back at (c.unit_size-size.ensures.unit more) in
-    let made = c.in_ok-unit.ensures.wrote (ap Ok c.if-not-branch.false) in
-    let same : white + size - white ≡ size = omega arith in
-    let given = rw (same, c.requires.dialect) at made.2 in
-    rw (← whole, made.1, c.in_ok-extend.ensures.ok, c.requires.empty)
+    let made = rw back at (c.in_ok-size.ensures.wrote more) in
+    rw (← whole, made.is, c.in_ok-extend.ensures.ok, c.requires.empty)
     (front_gives g.H.Handler.count g.H.Handler.work g.met.H.Copies.copies c.args.dialect
-    c.args.handler.now c.unit.new.self c.requires.none (take size (drop white piece)) made.0 is.0
-    is.1 (omega (arith, all, s, second, n)) given (take white piece)
-    (rw front at c.white_size-white.ensures.white))
+    c.args.handler.now c.give_front.new.handler c.requires.none (take size (drop white piece))
+    made.given made.words made.unit (omega (arith, all, s, second, n)) made.gives
+    (take white piece) (rw front at c.white_size-white.ensures.white))

@@ -14,9 +14,9 @@ returns-clause-wrote g c = λ ok.
     ≡ true = cc in
     let few = rw (c.as_slice.ensures, c.as_slice-before.ensures) at size in (
       _,
-      c.in_ok-write.ensures.text,
-      laws.unit_gives g.W.UnitWriter.given c.args.self.now c.self.inside.writer c.write.new.self
+      c.in_ok-write_new.ensures.text,
+      laws.unit_gives g.W.UnitWriter.given c.args.self.now c.self.inside.writer c.write_new.new.writer
           c.self.inside.dialect c.self.inside.item c.self.inside.finished c.self.view_is
-          c.requires.none c.in_ok-write.ensures.same c.args.bytes.now _ is
-          (laws.few_appended _ _ _ c.in_ok-write.ensures.text few),
+          c.requires.none c.in_ok-write_new.ensures.same c.args.bytes.now _ is
+          (laws.few_appended _ _ _ c.in_ok-write_new.ensures.text few),
     )

@@ -1,48 +1,49 @@
-ghost use Rattle.std.specs.Prelude.{◌≡◌, ℕ, List, [], bytes_eq, IfOk, IfSome};
+//! Units that were written before, with what they gave. What is kept is a hint alone: what is found
+//! is compared with the bytes of the unit that is sought.
+ghost use Rattle.std.specs.Prelude.{◌≡◌, ◌++◌, ℕ, List, [], length, bytes_eq, IfOk, IfSome};
 ghost use Rattle.ap_symbol.specs.declared.symbol.Symbol.{Symbol};
-ghost use Rattle.ap_lookup.specs.Kept.{IsTold, IsKept, AreKept};
+ghost use Rattle.ap_stream.specs.declared.dialect.Dialect.{Dialect};
+ghost use Rattle.ap_stream.specs.KeptUnits.{IsGiven, IsKept, AreKept};
+ghost use Rattle.ap_stream.specs.UnitBytes.{UnitOf};
 
-use ap_symbol::{Bytes, Memory};
+use crate::UNIT_MAX;
+use ap_symbol::Memory;
 use std::alloc::Global;
 
-/// The most words that are kept.
+/// The most units that are kept.
 const ENTRIES_MAX: usize = 65536;
 
 /// The most bytes that they and what they gave may have.
 const BYTES_MAX: usize = 16777216;
 
-/// The number of places, and how many of them are tried for a word.
+/// The number of places, and how many of them are tried for a unit.
 const PLACES: usize = 131072;
 
 const TRIES: usize = 4;
 
-/// The hash of no bytes.
-const SEED: u32 = 2166136261;
-
-/// After so many words that weren't recalled it is seen anew whether words are worth keeping.
+/// After so many units that weren't recalled it is seen anew whether units are worth keeping.
 const WINDOW: u32 = 1024;
 
 /// No entry has this number.
 const NO_ENTRY: u32 = 4294967295;
 
-/// The bytes of a word that was looked up, and what it gave.
+/// The bytes of a unit, so many, and behind them what it gave.
 #[derive(Drop)]
 pub(crate) struct Entry {
-    pub(crate) key: Bytes,
-    pub(crate) text: Bytes,
+    pub(crate) size: usize,
+    pub(crate) bytes: Vec<u8>,
 }
 
-/// Where the entry of a word with this hash may be found. It is a hint: the entry's bytes are
-/// compared with the word's.
+/// Where the entry of a unit with this hash may be found.
 #[derive(Clone, Copy)]
 struct Place {
     hash: u32,
     entry: u32,
 }
 
-/// What is kept of words that were looked up. Where few words are recalled, only some are kept.
+/// What is kept of units. Where few units are recalled, only some are kept.
 #[derive(Drop)]
-pub(crate) struct Kept {
+pub(crate) struct KeptUnits {
     pub(crate) entries: Vec<Entry>,
     bytes: usize,
     places: Vec<Place>,
@@ -51,12 +52,13 @@ pub(crate) struct Kept {
     sparse: bool,
 }
 
+/// The bytes go into one number, each five places from the one before, and its upper half is told.
 fn hash_of(key: &[u8]) -> u32 {
-    let mut hash = SEED;
-    for b in key {
-        hash = (hash ^ u32::from(*b)).wrapping_mul(16777619);
+    let mut hash: u64 = 0;
+    for byte in key {
+        hash = hash.rotate_left(5) ^ u64::from(*byte);
     }
-    hash ^ (hash >> 15)
+    (hash.wrapping_mul(11400714819323198485) >> 32) as u32
 }
 
 /// The place that is tried at this turn.
@@ -110,12 +112,14 @@ fn free_places(places: &mut Vec<Place>) -> Result<(), Memory> {
     Ok(())
 }
 
-fn copy_of(alloc: Global, text: &[u8]) -> Result<Bytes, Memory>
-    ensures { IfOk result (λ copy. copy ≡ text.now) }
+/// Two lists of bytes, one behind the other.
+fn joined(alloc: Global, key: &[u8], text: &[u8]) -> Result<Vec<u8>, Memory>
+    ensures { IfOk result (λ made. made.items ≡ key.now ++ text.now) }
 {
-    let mut copy = Bytes::new(alloc);
-    copy.extend(text)?;
-    Ok(copy)
+    let mut made = Vec::with_capacity(alloc, key.len().saturating_add(text.len()))?;
+    made.extend_from_slice(key)?;
+    made.extend_from_slice(text)?;
+    Ok(made)
 }
 
 /// Whether two lists of bytes are equal.
@@ -125,26 +129,32 @@ fn is_same(a: &[u8], b: &[u8]) -> bool
     a == b
 }
 
-/// What the word with these bytes gave, if this entry is the word's.
-fn told_at<'a>(entries: &'a [Entry], at: usize, key: &[u8]) -> Option<&'a [u8]>
-    ensures { (given : List Symbol → List ℕ) → AreKept given entries.now →
-        IfSome result (λ text. IsTold given key.now text.now) }
+/// What the unit with these bytes gave, if this entry is the unit's.
+fn given_at<'a>(entries: &'a [Entry], at: usize, key: &[u8]) -> Option<&'a [u8]>
+    ensures { (dialect : Dialect) (given : List (List Symbol) → List ℕ) →
+        AreKept dialect given entries.now →
+        IfSome result (λ text. IsGiven dialect given key.now text.now) }
 {
     if at >= entries.len() {
         return None;
     }
     let entry = &entries[at];
-    if is_same(entry.key.as_slice(), key) {
-        return Some(entry.text.as_slice());
+    let bytes = entry.bytes.as_slice();
+    if entry.size > bytes.len() {
+        return None;
+    }
+    if is_same(&bytes[..entry.size], key) {
+        return Some(&bytes[entry.size..]);
     }
     None
 }
 
-impl Kept {
-    pub(crate) fn new(alloc: Global) -> Kept
+impl KeptUnits {
+    /// No units, which takes no memory.
+    pub(crate) fn new(alloc: Global) -> KeptUnits
         ensures { result.entries.items ≡ [] }
     {
-        Kept {
+        KeptUnits {
             entries: Vec::new(alloc),
             bytes: 0,
             places: Vec::new(alloc),
@@ -154,26 +164,35 @@ impl Kept {
         }
     }
 
-    /// What the word with these bytes gave, if it is known.
+    /// What the unit with these bytes gave, if it is kept.
     pub(crate) fn find(&self, key: &[u8]) -> Option<&[u8]>
-        ensures { (given : List Symbol → List ℕ) → AreKept given self.now.entries.items →
-            IfSome result (λ text. IsTold given key.now text.now) }
+        ensures { (dialect : Dialect) (given : List (List Symbol) → List ℕ) →
+            AreKept dialect given self.now.entries.items →
+            IfSome result (λ text. IsGiven dialect given key.now text.now) }
     {
         match find_place(self.places.as_slice(), hash_of(key)) {
             None => None,
-            Some(at) => told_at(self.entries.as_slice(), at, key),
+            Some(at) => given_at(self.entries.as_slice(), at, key),
         }
     }
 
-    /// Counts a word that was recalled.
+    /// Counts a unit that was recalled.
     pub(crate) fn count_recalled(&mut self)
         ensures { self.new.entries ≡ self.old.entries }
     {
         self.recalled = self.recalled.saturating_add(1);
     }
 
-    /// Whether a word that was looked up is worth keeping: each, unless few of the last words were
-    /// recalled.
+    /// Forgets all.
+    pub(crate) fn forget(&mut self)
+        ensures { self.new.entries.items ≡ [] }
+    {
+        self.entries.clear();
+        self.places.clear();
+        self.bytes = 0;
+    }
+
+    /// Whether a unit is worth keeping: each, unless few of the last units were recalled.
     fn is_worth(&mut self) -> bool
         ensures { self.new.entries ≡ self.old.entries }
     {
@@ -188,8 +207,9 @@ impl Kept {
 
     /// Forgets all, where there is no room for so many bytes more.
     fn make_room(&mut self, size: usize) -> Result<(), Memory>
-        ensures { (given : List Symbol → List ℕ) → AreKept given self.old.entries.items →
-            AreKept given self.new.entries.items }
+        ensures { (dialect : Dialect) (given : List (List Symbol) → List ℕ) →
+            AreKept dialect given self.old.entries.items →
+            AreKept dialect given self.new.entries.items }
     {
         if self.entries.len() >= ENTRIES_MAX || self.bytes.saturating_add(size) > BYTES_MAX {
             self.entries.clear();
@@ -203,21 +223,17 @@ impl Kept {
     }
 
     /// Adds an entry.
-    fn add(&mut self, entry: Entry) -> Result<(), Memory>
-        ensures { (given : List Symbol → List ℕ) → IsKept given entry →
-            AreKept given self.old.entries.items → AreKept given self.new.entries.items }
+    fn add(&mut self, entry: Entry, hash: u32) -> Result<(), Memory>
+        ensures { (dialect : Dialect) (given : List (List Symbol) → List ℕ) →
+            IsKept dialect given entry → AreKept dialect given self.old.entries.items →
+            AreKept dialect given self.new.entries.items }
     {
-        let size = entry
-            .key
-            .as_slice()
-            .len()
-            .saturating_add(entry.text.as_slice().len());
+        let size = entry.bytes.as_slice().len();
         self.make_room(size)?;
         let held = self.entries.len();
         if held >= ENTRIES_MAX || size > BYTES_MAX {
             return Ok(());
         }
-        let hash = hash_of(entry.key.as_slice());
         self.bytes = self.bytes.saturating_add(size);
         let entry_at = held as u32;
         set_place(
@@ -232,20 +248,24 @@ impl Kept {
     }
 
     fn keep_copy(&mut self, alloc: Global, key: &[u8], text: &[u8]) -> Result<(), Memory>
-        ensures { (given : List Symbol → List ℕ) → IsTold given key.now text.now →
-            AreKept given self.old.entries.items → AreKept given self.new.entries.items }
+        ensures { (dialect : Dialect) (given : List (List Symbol) → List ℕ) →
+            IsGiven dialect given key.now text.now → AreKept dialect given self.old.entries.items →
+            AreKept dialect given self.new.entries.items }
     {
-        let key = copy_of(alloc, key)?;
-        let text = copy_of(alloc, text)?;
-        self.add(Entry { key, text })
+        let bytes = joined(alloc, key, text)?;
+        let size = key.len();
+        self.add(Entry { size, bytes }, hash_of(key))
     }
 
-    /// Keeps what the word with these bytes gave, if it is worth it and there is memory.
+    /// Keeps what the unit with these bytes gave, if it is within the limit on a unit and worth it,
+    /// and there is memory.
     pub(crate) fn keep(&mut self, alloc: Global, key: &[u8], text: &[u8])
-        ensures { (given : List Symbol → List ℕ) → IsTold given key.now text.now →
-            AreKept given self.old.entries.items → AreKept given self.new.entries.items }
+        ensures { (dialect : Dialect) (given : List (List Symbol) → List ℕ)
+            (words : List (List Symbol)) → UnitOf dialect key.now words → text.now ≡ given words →
+            AreKept dialect given self.old.entries.items →
+            AreKept dialect given self.new.entries.items }
     {
-        if self.is_worth() {
+        if text.len() <= UNIT_MAX && self.is_worth() {
             let _ = self.keep_copy(alloc, key, text);
         }
     }
