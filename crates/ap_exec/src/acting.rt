@@ -46,7 +46,7 @@ fn run_rule<'a>(
     let here = positions_of(alloc, has_chunk, units.len())?;
     let mut state = State {
         units,
-        fresh: Vec::new(alloc),
+        fresh: Vec::with_capacity(alloc, vars.len())?,
         pieces: Sequence::new(alloc),
         room: SPAN_MAX,
     };

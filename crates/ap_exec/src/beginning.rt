@@ -107,6 +107,10 @@ pub(crate) fn units_of<'a>(alloc: Global, matched: &'a Matched) -> Result<Vec<Le
     Ok(lent)
 }
 
+/// The positions for which room is made beside those of the units: the one before them, and those
+/// of a macro.
+const PLACES_ROOM: usize = 9;
+
 /// What stands at the positions, where there are so many units, with the chunk or without.
 pub(crate) fn positions_of(
     alloc: Global,
@@ -115,7 +119,7 @@ pub(crate) fn positions_of(
 ) -> Result<Vec<Option<usize>>, Memory>
     ensures { IfOk result (λ here. here.items ≡ lead_in has_chunk ++ from_first count) }
 {
-    let mut here = Vec::new(alloc);
+    let mut here = Vec::with_capacity(alloc, count.saturating_add(PLACES_ROOM))?;
     if !has_chunk {
         here.push(None)?;
     }

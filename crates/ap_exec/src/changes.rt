@@ -19,6 +19,9 @@ use ap_rules::{Append, Clip, Let, ModifyCase, Out, Piece as StatedPiece, Place};
 use ap_symbol::{Memory, Word, case_of, recase};
 use std::alloc::Global;
 
+/// The symbols, and the bytes, of a value for which room is made at once.
+const VALUE_ROOM: usize = 8;
+
 /// What values are read from.
 pub(crate) fn view_of<'a, 'u>(
     world: World<'a>,
@@ -137,7 +140,7 @@ pub(crate) fn assign(
         (run (still world.entry) (called (still world.entry) 0) here.now
         (assign held.now.place (plain_value held.now.value)) (now world.entry state.old)) }
 {
-    let mut value = Word::new(alloc);
+    let mut value = Word::with_capacity(alloc, VALUE_ROOM, VALUE_ROOM)?;
     push_value(alloc, view_of(world, here, state), &held.value, &mut value)?;
     set_place(alloc, world, here, &held.place, value, state)?;
     Ok(())

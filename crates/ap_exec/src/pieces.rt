@@ -23,6 +23,9 @@ const WORD_ROOM: usize = 16;
 
 const BYTES_ROOM: usize = 64;
 
+/// The atoms of a chunk for which room is made at once.
+const ATOMS_ROOM: usize = 8;
+
 /// The word of a unit: its values in order.
 fn word_of(alloc: Global, view: View<'_, '_>, values: &[Value]) -> Result<Word, ExecRefusal>
     ensures { Gives (λ w. w) result (unit_of (sight view.entry) (plain_values values.now)) }
@@ -112,7 +115,7 @@ fn chunk_pieces_of<'u>(
     ensures { Gives (λ a. a) result
         (chunk_pieces_of (sight view.entry) (map plain_chunk_piece pieces.now)) }
 {
-    let mut made = Sequence::new(alloc);
+    let mut made = Sequence::from_vec(Vec::with_capacity(alloc, pieces.len())?);
     'pieces: for piece in pieces {
         made.push(chunk_piece_of(alloc, view, piece)?)?;
     }
@@ -269,7 +272,7 @@ fn value_chunk_of<'u>(
         (piece_of (sight view.entry) (value_chunk (plain_values held.now.values.items))) }
 {
     let name = word_of(alloc, view, &held.values)?;
-    let mut atoms = Sequence::new(alloc);
+    let mut atoms = Sequence::from_vec(Vec::with_capacity(alloc, ATOMS_ROOM)?);
     push_contents(alloc, view, &held.values, &mut atoms)?;
     Ok(LentPiece::chunk(LentWord::made(name), atoms))
 }
