@@ -6,7 +6,7 @@ ghost use Rattle.ap_exec.specs.Results.{Gives};
 ghost use Rattle.ap_exec.specs.States.{overlaid};
 ghost use Rattle.ap_exec.specs.declared.matched.Matched.{Matched};
 
-use crate::beginning::{action_of, positions_of, units_of, world_of};
+use crate::beginning::{action_of, positions_of, room_for, units_of, world_of};
 use crate::lending::own_template;
 use crate::lent::Lent;
 use crate::lent_template::LentTemplate;
@@ -46,7 +46,7 @@ fn run_rule<'a>(
     let here = positions_of(alloc, has_chunk, units.len())?;
     let mut state = State {
         units,
-        fresh: Vec::with_capacity(alloc, vars.len())?,
+        fresh: room_for(alloc, vars.len())?,
         pieces: Sequence::new(alloc),
         room: SPAN_MAX,
     };

@@ -1,5 +1,5 @@
 //! What a run of a rule begins with.
-ghost use Rattle.std.specs.Prelude.{◌≡◌, ◌++◌, map, length, IfOk, OnOk, is_some};
+ghost use Rattle.std.specs.Prelude.{◌≡◌, ◌++◌, [], map, length, IfOk, OnOk, is_some};
 ghost use Rattle.ap_rules.specs.Views.{plain_rules};
 ghost use Rattle.ap_exec.specs.Acting.{still_of, action_of, shown, shown_chunk, units_in};
 ghost use Rattle.ap_exec.specs.Beginning.{chunk_in, lead_in, from_first};
@@ -127,4 +127,11 @@ pub(crate) fn positions_of(
         here.push(Some(number))?;
     }
     Ok(here)
+}
+
+/// No new values, with room for those of so many variables.
+pub(crate) fn room_for(alloc: Global, count: usize) -> Result<Vec<Option<Word>>, Memory>
+    ensures { IfOk result (λ fresh. fresh.items ≡ []) }
+{
+    Ok(Vec::with_capacity(alloc, count)?)
 }

@@ -113,14 +113,14 @@ fn set_place(
 /// What stands at a place, in the case of a value.
 fn recased_at(
     alloc: Global,
-    view: View<'_, '_>,
+    view: &View<'_, '_>,
     place: &Place,
     value: &Word,
 ) -> Result<Word, Memory>
-    ensures { IfOk result (λ word. word ≡ recased_at (sight view.entry) place.now value.now) }
+    ensures { IfOk result (λ word. word ≡ recased_at (sight view.now) place.now value.now) }
 {
     let held = match place {
-        Place::Clip(clip) => part_at(view, clip.pos, clip.part, clip.side, clip.queue),
+        Place::Clip(clip) => part_at(&*view, clip.pos, clip.part, clip.side, clip.queue),
         Place::Var(var) => var_at(view.world.vars, view.fresh, var.n),
     };
     let mut word = Word::new(alloc);
@@ -141,7 +141,7 @@ pub(crate) fn assign(
         (assign held.now.place (plain_value held.now.value)) (now world.entry state.old)) }
 {
     let mut value = Word::with_capacity(alloc, VALUE_ROOM, VALUE_ROOM)?;
-    push_value(alloc, view_of(world, here, state), &held.value, &mut value)?;
+    push_value(alloc, &view_of(world, here, state), &held.value, &mut value)?;
     set_place(alloc, world, here, &held.place, value, state)?;
     Ok(())
 }
@@ -159,9 +159,9 @@ pub(crate) fn modify_case(
         (modify_case held.now.place (plain_value held.now.value)) (now world.entry state.old)) }
 {
     let mut value = Word::new(alloc);
-    push_value(alloc, view_of(world, here, state), &held.value, &mut value)?;
+    push_value(alloc, &view_of(world, here, state), &held.value, &mut value)?;
     let view = view_of(world, here, state);
-    let word = recased_at(alloc, view, &held.place, &value)?;
+    let word = recased_at(alloc, &view, &held.place, &value)?;
     set_place(alloc, world, here, &held.place, word, state)?;
     Ok(())
 }
@@ -178,7 +178,7 @@ pub(crate) fn append(
         (run (still world.entry) (called (still world.entry) 0) here.now
         (append held.now.n (plain_values held.now.values.items)) (now world.entry state.old)) }
 {
-    let word = append_to(alloc, view_of(world, here, state), held.n, &held.values)?;
+    let word = append_to(alloc, &view_of(world, here, state), held.n, &held.values)?;
     set_var(world, held.n, word, state)?;
     Ok(())
 }
@@ -277,7 +277,7 @@ fn put_pieces(
         (now world.entry state.old)) }
 {
     'pieces: for piece in pieces {
-        let made = piece_of(alloc, view_of(world, here, state), piece)?;
+        let made = piece_of(alloc, &view_of(world, here, state), piece)?;
         place(world, made, state)?;
     }
     Ok(())

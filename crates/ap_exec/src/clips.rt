@@ -269,8 +269,8 @@ pub(crate) fn unit_at<'a, 'u>(
 }
 
 /// The word at a position, which is empty where there is none.
-fn word_at<'a>(view: View<'a, '_>, pos: usize, side: Side, queue: bool) -> &'a [Symbol]
-    ensures value { result.now ≡ word_at (sight view.entry) pos side queue }
+fn word_at<'a>(view: &View<'a, '_>, pos: usize, side: Side, queue: bool) -> &'a [Symbol]
+    ensures value { result.now ≡ word_at (sight view.now) pos side queue }
     ensures proper { AreProper result.now }
 {
     match unit_at(view.here, view.units, pos) {
@@ -281,16 +281,16 @@ fn word_at<'a>(view: View<'a, '_>, pos: usize, side: Side, queue: bool) -> &'a [
 
 /// A part of the word at a position.
 pub(crate) fn part_at<'a>(
-    view: View<'a, '_>,
+    view: &View<'a, '_>,
     pos: usize,
     part: ClipPart,
     side: Side,
     queue: bool,
 ) -> &'a [Symbol]
-    ensures value { result.now ≡ part_at (sight view.entry) pos part side queue }
+    ensures value { result.now ≡ part_at (sight view.now) pos part side queue }
     ensures proper { AreProper result.now }
 {
-    let word = word_at(view, pos, side, queue);
+    let word = word_at(&*view, pos, side, queue);
     cut(span_of(view.world.attributes, part, word), word)
 }
 
@@ -312,17 +312,17 @@ fn linked<'a>(link: &'a Option<Word>, part: &'a [Symbol]) -> &'a [Symbol]
 }
 
 /// What a clip gives: a part of the word at a position, or the link in its place.
-pub(crate) fn clip_of<'a>(view: View<'a, '_>, clip: &'a Clip) -> &'a [Symbol]
-    ensures value { result.now ≡ clip_of (sight view.entry) clip.now }
+pub(crate) fn clip_of<'a>(view: &View<'a, '_>, clip: &'a Clip) -> &'a [Symbol]
+    ensures value { result.now ≡ clip_of (sight view.now) clip.now }
     ensures proper { AreProper result.now }
 {
-    let part = part_at(view, clip.pos, clip.part, clip.side, clip.queue);
+    let part = part_at(&*view, clip.pos, clip.part, clip.side, clip.queue);
     linked(&clip.link_to, part)
 }
 
 /// The case of the lemma at a position.
-pub(crate) fn case_at(view: View<'_, '_>, pos: usize) -> Case
-    ensures { result ≡ case_at (sight view.entry) pos }
+pub(crate) fn case_at(view: &View<'_, '_>, pos: usize) -> Case
+    ensures { result ≡ case_at (sight view.now) pos }
 {
-    case_of_symbols(part_at(view, pos, ClipPart::Lem, Side::Source, true))
+    case_of_symbols(part_at(&*view, pos, ClipPart::Lem, Side::Source, true))
 }

@@ -17,16 +17,16 @@ use std::alloc::Global;
 
 fn compares(
     alloc: Global,
-    view: View<'_, '_>,
+    view: &View<'_, '_>,
     way: Way,
     held: &Comparison,
 ) -> Result<bool, ExecRefusal>
-    ensures { Gives (λ b. b) result (compares way (sight view.entry) (plain_comparison held.now)) }
+    ensures { Gives (λ b. b) result (compares way (sight view.now) (plain_comparison held.now)) }
 {
     let mut first = Word::new(alloc);
     let mut second = Word::new(alloc);
-    let a = read(alloc, view, &held.first, &mut first)?;
-    let b = read(alloc, view, &held.second, &mut second)?;
+    let a = read(alloc, *view, &held.first, &mut first)?;
+    let b = read(alloc, *view, &held.second, &mut second)?;
     Ok(compared(way, held.caseless, a, b))
 }
 
@@ -41,15 +41,15 @@ fn is_listed(way: Way, caseless: bool, word: &[Symbol], lists: &[DefList], n: us
 
 fn compares_some(
     alloc: Global,
-    view: View<'_, '_>,
+    view: &View<'_, '_>,
     way: Way,
     held: &Membership,
 ) -> Result<bool, ExecRefusal>
     ensures { Gives (λ b. b) result
-        (compares_some way (sight view.entry) (plain_membership held.now)) }
+        (compares_some way (sight view.now) (plain_membership held.now)) }
 {
     let mut made = Word::new(alloc);
-    let word = read(alloc, view, &held.value, &mut made)?;
+    let word = read(alloc, *view, &held.value, &mut made)?;
     Ok(is_listed(way, held.caseless, word, view.world.lists, held.list))
 }
 
@@ -58,36 +58,36 @@ fn compares_some(
 #[cycle(hold)]
 pub(crate) fn holds(
     alloc: Global,
-    view: View<'_, '_>,
+    view: &View<'_, '_>,
     condition: &Condition,
 ) -> Result<bool, ExecRefusal>
-    ensures { Gives (λ b. b) result (holds (sight view.entry) (plain_condition condition.now)) }
+    ensures { Gives (λ b. b) result (holds (sight view.now) (plain_condition condition.now)) }
 {
     match condition {
-        Condition::And(held) => all_hold(alloc, view, &held.conditions),
-        Condition::Or(held) => one_holds(alloc, view, &held.conditions),
-        Condition::Not(held) => Ok(!holds(alloc, view, &held.condition)?),
-        Condition::Equal(held) => compares(alloc, view, Way::Equals, held),
-        Condition::BeginsWith(held) => compares(alloc, view, Way::Begins, held),
-        Condition::EndsWith(held) => compares(alloc, view, Way::Ends, held),
-        Condition::ContainsSubstring(held) => compares(alloc, view, Way::Contains, held),
-        Condition::In(held) => compares_some(alloc, view, Way::Equals, held),
-        Condition::BeginsWithList(held) => compares_some(alloc, view, Way::Begins, held),
-        Condition::EndsWithList(held) => compares_some(alloc, view, Way::Ends, held),
+        Condition::And(held) => all_hold(alloc, &*view, &held.conditions),
+        Condition::Or(held) => one_holds(alloc, &*view, &held.conditions),
+        Condition::Not(held) => Ok(!holds(alloc, &*view, &held.condition)?),
+        Condition::Equal(held) => compares(alloc, &*view, Way::Equals, held),
+        Condition::BeginsWith(held) => compares(alloc, &*view, Way::Begins, held),
+        Condition::EndsWith(held) => compares(alloc, &*view, Way::Ends, held),
+        Condition::ContainsSubstring(held) => compares(alloc, &*view, Way::Contains, held),
+        Condition::In(held) => compares_some(alloc, &*view, Way::Equals, held),
+        Condition::BeginsWithList(held) => compares_some(alloc, &*view, Way::Begins, held),
+        Condition::EndsWithList(held) => compares_some(alloc, &*view, Way::Ends, held),
     }
 }
 
 #[cycle(hold)]
 fn all_hold(
     alloc: Global,
-    view: View<'_, '_>,
+    view: &View<'_, '_>,
     conditions: &[Condition],
 ) -> Result<bool, ExecRefusal>
     ensures { Gives (λ b. b) result
-        (all_hold (sight view.entry) (conditions_of (plain_conditions conditions.now))) }
+        (all_hold (sight view.now) (conditions_of (plain_conditions conditions.now))) }
 {
     'conditions: for condition in conditions {
-        if !holds(alloc, view, condition)? {
+        if !holds(alloc, &*view, condition)? {
             return Ok(false);
         }
     }
@@ -97,14 +97,14 @@ fn all_hold(
 #[cycle(hold)]
 fn one_holds(
     alloc: Global,
-    view: View<'_, '_>,
+    view: &View<'_, '_>,
     conditions: &[Condition],
 ) -> Result<bool, ExecRefusal>
     ensures { Gives (λ b. b) result
-        (one_holds (sight view.entry) (conditions_of (plain_conditions conditions.now))) }
+        (one_holds (sight view.now) (conditions_of (plain_conditions conditions.now))) }
 {
     'conditions: for condition in conditions {
-        if holds(alloc, view, condition)? {
+        if holds(alloc, &*view, condition)? {
             return Ok(true);
         }
     }

@@ -27,11 +27,11 @@ const BYTES_ROOM: usize = 64;
 const ATOMS_ROOM: usize = 8;
 
 /// The word of a unit: its values in order.
-fn word_of(alloc: Global, view: View<'_, '_>, values: &[Value]) -> Result<Word, ExecRefusal>
-    ensures { Gives (λ w. w) result (unit_of (sight view.entry) (plain_values values.now)) }
+fn word_of(alloc: Global, view: &View<'_, '_>, values: &[Value]) -> Result<Word, ExecRefusal>
+    ensures { Gives (λ w. w) result (unit_of (sight view.now) (plain_values values.now)) }
 {
     let mut word = Word::with_capacity(alloc, WORD_ROOM, BYTES_ROOM)?;
-    push_values(alloc, view, values, &mut word)?;
+    push_values(alloc, &*view, values, &mut word)?;
     Ok(word)
 }
 
@@ -50,16 +50,16 @@ fn join(alloc: Global, word: &Word, into: &mut Word) -> Result<(), Memory>
 
 fn push_units(
     alloc: Global,
-    view: View<'_, '_>,
+    view: &View<'_, '_>,
     units: &[Lu],
     into: &mut Word,
 ) -> Result<(), ExecRefusal>
     ensures { Gives (λ _. into.new) result
         (seen (λ ws. all_joined into.old ws)
-        (units_of (sight view.entry) (map values_in units.now))) }
+        (units_of (sight view.now) (map values_in units.now))) }
 {
     'units: for unit in units {
-        let word = word_of(alloc, view, &unit.values)?;
+        let word = word_of(alloc, &*view, &unit.values)?;
         join(alloc, &word, into)?;
     }
     Ok(())
@@ -67,12 +67,12 @@ fn push_units(
 
 /// One word of several units.
 #[tactic(auto, using(crate::proofs::Compounds::all_joined_are))]
-fn compound_of(alloc: Global, view: View<'_, '_>, units: &[Lu]) -> Result<Word, ExecRefusal>
+fn compound_of(alloc: Global, view: &View<'_, '_>, units: &[Lu]) -> Result<Word, ExecRefusal>
     ensures { Gives (λ w. w) result
-        (seen compound (units_of (sight view.entry) (map values_in units.now))) }
+        (seen compound (units_of (sight view.now) (map values_in units.now))) }
 {
     let mut word = Word::new(alloc);
-    push_units(alloc, view, units, &mut word)?;
+    push_units(alloc, &*view, units, &mut word)?;
     Ok(word)
 }
 
@@ -86,21 +86,28 @@ fn blank_atom<'u>(pos: Option<usize>) -> LentAtom<'u>
     }
 }
 
+/// No atoms, with room for so many.
+fn room_for<'u>(alloc: Global, count: usize) -> Result<LentAtoms<'u>, Memory>
+    ensures { IfOk result (λ atoms. atoms ≡ []) }
+{
+    Ok(Sequence::from_vec(Vec::with_capacity(alloc, count)?))
+}
+
 fn chunk_piece_of<'u>(
     alloc: Global,
-    view: View<'_, 'u>,
+    view: &View<'_, 'u>,
     piece: &ChunkPiece,
 ) -> Result<LentAtom<'u>, ExecRefusal>
     ensures { Gives (λ a. a) result
-        (chunk_piece_of (sight view.entry) (plain_chunk_piece piece.now)) }
+        (chunk_piece_of (sight view.now) (plain_chunk_piece piece.now)) }
 {
     match piece {
         ChunkPiece::Lu(held) => {
-            let word = word_of(alloc, view, &held.values)?;
+            let word = word_of(alloc, &*view, &held.values)?;
             Ok(LentAtom::unit(LentWord::made(word)))
         }
         ChunkPiece::Mlu(held) => {
-            let word = compound_of(alloc, view, &held.units)?;
+            let word = compound_of(alloc, &*view, &held.units)?;
             Ok(LentAtom::unit(LentWord::made(word)))
         }
         ChunkPiece::B(space) => Ok(blank_atom(space.pos)),
@@ -109,37 +116,37 @@ fn chunk_piece_of<'u>(
 
 fn chunk_pieces_of<'u>(
     alloc: Global,
-    view: View<'_, 'u>,
+    view: &View<'_, 'u>,
     pieces: &[ChunkPiece],
 ) -> Result<LentAtoms<'u>, ExecRefusal>
     ensures { Gives (λ a. a) result
-        (chunk_pieces_of (sight view.entry) (map plain_chunk_piece pieces.now)) }
+        (chunk_pieces_of (sight view.now) (map plain_chunk_piece pieces.now)) }
 {
-    let mut made = Sequence::from_vec(Vec::with_capacity(alloc, pieces.len())?);
+    let mut made = room_for(alloc, pieces.len())?;
     'pieces: for piece in pieces {
-        made.push(chunk_piece_of(alloc, view, piece)?)?;
+        made.push(chunk_piece_of(alloc, &*view, piece)?)?;
     }
     Ok(made)
 }
 
 fn push_tags(
     alloc: Global,
-    view: View<'_, '_>,
+    view: &View<'_, '_>,
     tags: &[Tag],
     name: &mut Word,
 ) -> Result<(), ExecRefusal>
     ensures { Gives (λ _. name.new) result
-        (seen (λ w. name.old ++ w) (tags_of (sight view.entry) (map tag_in tags.now))) }
+        (seen (λ w. name.old ++ w) (tags_of (sight view.now) (map tag_in tags.now))) }
 {
     'tags: for tag in tags {
-        push_values(alloc, view, &tag.values, name)?;
+        push_values(alloc, &*view, &tag.values, name)?;
     }
     Ok(())
 }
 
 /// What a variable holds, where one is given.
-fn held_by<'a>(view: View<'a, '_>, n: Option<usize>) -> &'a [Symbol]
-    ensures value { result.now ≡ held_by (sight view.entry).vars n }
+fn held_by<'a>(view: &View<'a, '_>, n: Option<usize>) -> &'a [Symbol]
+    ensures value { result.now ≡ held_by (sight view.now).vars n }
     ensures proper { AreProper result.now }
 {
     match n {
@@ -149,22 +156,22 @@ fn held_by<'a>(view: View<'a, '_>, n: Option<usize>) -> &'a [Symbol]
 }
 
 /// The name that is stated, or what a variable holds.
-fn stated<'a>(view: View<'a, '_>, name: &'a Option<Word>, from: Option<usize>) -> &'a [Symbol]
-    ensures value { result.now ≡ stated (sight view.entry).vars name.now from }
+fn stated<'a>(view: &View<'a, '_>, name: &'a Option<Word>, from: Option<usize>) -> &'a [Symbol]
+    ensures value { result.now ≡ stated (sight view.now).vars name.now from }
     ensures proper { AreProper result.now }
 {
     match name {
-        None => held_by(view, from),
+        None => held_by(&*view, from),
         Some(name) => name.symbols(),
     }
 }
 
 /// A chunk's name without its tags.
-fn name_of(alloc: Global, view: View<'_, '_>, held: &Chunk) -> Result<Word, Memory>
-    ensures { IfOk result (λ name. name ≡ name_of (sight view.entry).vars (plain_chunk held.now)) }
+fn name_of(alloc: Global, view: &View<'_, '_>, held: &Chunk) -> Result<Word, Memory>
+    ensures { IfOk result (λ name. name ≡ name_of (sight view.now).vars (plain_chunk held.now)) }
 {
     let mut name = Word::with_capacity(alloc, WORD_ROOM, BYTES_ROOM)?;
-    append(alloc, stated(view, &held.name, held.namefrom), &mut name)?;
+    append(alloc, stated(&*view, &held.name, held.namefrom), &mut name)?;
     match held.case {
         None => Ok(name),
         Some(n) => {
@@ -177,14 +184,14 @@ fn name_of(alloc: Global, view: View<'_, '_>, held: &Chunk) -> Result<Word, Memo
 /// A chunk as transfer makes it.
 fn chunk_of<'u>(
     alloc: Global,
-    view: View<'_, 'u>,
+    view: &View<'_, 'u>,
     held: &Chunk,
 ) -> Result<LentPiece<'u>, ExecRefusal>
-    ensures { Gives (λ p. p) result (piece_of (sight view.entry) (chunk (plain_chunk held.now))) }
+    ensures { Gives (λ p. p) result (piece_of (sight view.now) (chunk (plain_chunk held.now))) }
 {
-    let mut name = name_of(alloc, view, held)?;
-    push_tags(alloc, view, &held.tags, &mut name)?;
-    let atoms = chunk_pieces_of(alloc, view, &held.pieces)?;
+    let mut name = name_of(alloc, &*view, held)?;
+    push_tags(alloc, &*view, &held.tags, &mut name)?;
+    let atoms = chunk_pieces_of(alloc, &*view, &held.pieces)?;
     Ok(LentPiece::chunk(LentWord::made(name), atoms))
 }
 
@@ -225,12 +232,12 @@ fn gives_content(part: ClipPart, link: &Option<Word>) -> bool
 #[tactic(auto, using(crate::proofs::Trees::views))]
 fn push_content<'u>(
     alloc: Global,
-    view: View<'_, 'u>,
+    view: &View<'_, 'u>,
     value: &Value,
     into: &mut LentAtoms<'u>,
 ) -> Result<(), Memory>
     ensures { OnOk result (into.new ≡ into.old
-        ++ content_of (sight view.entry) (plain_value value.now)) }
+        ++ content_of (sight view.now) (plain_value value.now)) }
 {
     match value {
         Value::Clip(clip) => {
@@ -249,15 +256,15 @@ fn push_content<'u>(
 
 fn push_contents<'u>(
     alloc: Global,
-    view: View<'_, 'u>,
+    view: &View<'_, 'u>,
     values: &[Value],
     into: &mut LentAtoms<'u>,
 ) -> Result<(), Memory>
     ensures { OnOk result (into.new ≡ into.old
-        ++ contents_of (sight view.entry) (plain_values values.now)) }
+        ++ contents_of (sight view.now) (plain_values values.now)) }
 {
     'values: for value in values {
-        push_content(alloc, view, value, into)?;
+        push_content(alloc, &*view, value, into)?;
     }
     Ok(())
 }
@@ -265,37 +272,37 @@ fn push_contents<'u>(
 /// A chunk as interchunk makes it.
 fn value_chunk_of<'u>(
     alloc: Global,
-    view: View<'_, 'u>,
+    view: &View<'_, 'u>,
     held: &ValueChunk,
 ) -> Result<LentPiece<'u>, ExecRefusal>
     ensures { Gives (λ p. p) result
-        (piece_of (sight view.entry) (value_chunk (plain_values held.now.values.items))) }
+        (piece_of (sight view.now) (value_chunk (plain_values held.now.values.items))) }
 {
-    let name = word_of(alloc, view, &held.values)?;
-    let mut atoms = Sequence::from_vec(Vec::with_capacity(alloc, ATOMS_ROOM)?);
-    push_contents(alloc, view, &held.values, &mut atoms)?;
+    let name = word_of(alloc, &*view, &held.values)?;
+    let mut atoms = room_for(alloc, ATOMS_ROOM)?;
+    push_contents(alloc, &*view, &held.values, &mut atoms)?;
     Ok(LentPiece::chunk(LentWord::made(name), atoms))
 }
 
 /// A piece of the output.
 pub(crate) fn piece_of<'u>(
     alloc: Global,
-    view: View<'_, 'u>,
+    view: &View<'_, 'u>,
     piece: &StatedPiece,
 ) -> Result<LentPiece<'u>, ExecRefusal>
-    ensures { Gives (λ p. p) result (piece_of (sight view.entry) (plain_piece piece.now)) }
+    ensures { Gives (λ p. p) result (piece_of (sight view.now) (plain_piece piece.now)) }
 {
     match piece {
         StatedPiece::B(space) => Ok(LentPiece::atom(blank_atom(space.pos))),
         StatedPiece::Lu(held) => {
-            let word = word_of(alloc, view, &held.values)?;
+            let word = word_of(alloc, &*view, &held.values)?;
             Ok(LentPiece::atom(LentAtom::unit(LentWord::made(word))))
         }
         StatedPiece::Mlu(held) => {
-            let word = compound_of(alloc, view, &held.units)?;
+            let word = compound_of(alloc, &*view, &held.units)?;
             Ok(LentPiece::atom(LentAtom::unit(LentWord::made(word))))
         }
-        StatedPiece::Chunk(held) => chunk_of(alloc, view, held),
-        StatedPiece::ValueChunk(held) => value_chunk_of(alloc, view, held),
+        StatedPiece::Chunk(held) => chunk_of(alloc, &*view, held),
+        StatedPiece::ValueChunk(held) => value_chunk_of(alloc, &*view, held),
     }
 }

@@ -77,15 +77,15 @@ fn view_in<'a, 'u>(
 /// others.
 fn choice<'a>(
     alloc: Global,
-    view: View<'_, '_>,
+    view: &View<'_, '_>,
     whens: &'a [When],
     otherwise: &'a [Statement],
 ) -> Result<&'a [Statement], ExecRefusal>
     ensures { Gives (λ taken. body_of taken.now) result
-        (chosen (sight view.entry) (whens_of (map plain_when whens.now)) (body_of otherwise.now)) }
+        (chosen (sight view.now) (whens_of (map plain_when whens.now)) (body_of otherwise.now)) }
 {
     'whens: for when in whens {
-        if holds(alloc, view, &when.test)? {
+        if holds(alloc, &*view, &when.test)? {
             return Ok(&when.statements);
         }
     }
@@ -114,7 +114,7 @@ fn run_choose<'a>(
 {
     let here = &stack.positions[scope.from..scope.to];
     let view = view_in(&world, here, state);
-    let taken = choice(alloc, view, &held.whens, &held.otherwise)?;
+    let taken = choice(alloc, &view, &held.whens, &held.otherwise)?;
     stack.push(taken, scope)?;
     Ok(())
 }

@@ -98,24 +98,24 @@ fn push_case(alloc: Global, case: Case, into: &mut Word) -> Result<(), ExecRefus
 #[cycle(push)]
 pub(crate) fn push_value(
     alloc: Global,
-    view: View<'_, '_>,
+    view: &View<'_, '_>,
     value: &Value,
     into: &mut Word,
 ) -> Result<(), ExecRefusal>
     ensures { Gives (λ _. into.new) result
-        (seen (λ w. into.old ++ w) (value_of (sight view.entry) (plain_value value.now))) }
+        (seen (λ w. into.old ++ w) (value_of (sight view.now) (plain_value value.now))) }
 {
     match value {
-        Value::Clip(clip) => push_symbols(alloc, clip_of(view, clip), into),
+        Value::Clip(clip) => push_symbols(alloc, clip_of(&*view, clip), into),
         Value::Lit(lit) => push_symbols(alloc, lit.v.symbols(), into),
         Value::LitTag(tags) => push_symbols(alloc, tags.v.symbols(), into),
         Value::Var(var) => push_symbols(alloc, var_at(view.world.vars, view.fresh, var.n), into),
-        Value::GetCaseFrom(held) => push_recased(alloc, view, held, into),
+        Value::GetCaseFrom(held) => push_recased(alloc, &*view, held, into),
         Value::CaseOf(of) => {
-            let part = part_at(view, of.pos, of.part, of.side, true);
+            let part = part_at(&*view, of.pos, of.part, of.side, true);
             push_case(alloc, case_of_symbols(part), into)
         }
-        Value::Concat(held) => push_concat(alloc, view, held, into),
+        Value::Concat(held) => push_concat(alloc, &*view, held, into),
         Value::B(_) => push_symbols(alloc, &[Symbol::Blank], into),
     }
 }
@@ -123,34 +123,34 @@ pub(crate) fn push_value(
 #[cycle(push)]
 fn push_concat(
     alloc: Global,
-    view: View<'_, '_>,
+    view: &View<'_, '_>,
     held: &Concat,
     into: &mut Word,
 ) -> Result<(), ExecRefusal>
     ensures { Gives (λ _. into.new) result
         (seen (λ w. into.old ++ w)
-        (value_of (sight view.entry) (concat (values_of (plain_values held.now.values.items))))) }
+        (value_of (sight view.now) (concat (values_of (plain_values held.now.values.items))))) }
 {
     let before = into.rendered().len();
-    push_values(alloc, view, &held.values, into)?;
+    push_values(alloc, &*view, &held.values, into)?;
     bound(before, into)
 }
 
 #[cycle(push)]
 fn push_recased(
     alloc: Global,
-    view: View<'_, '_>,
+    view: &View<'_, '_>,
     held: &GetCaseFrom,
     into: &mut Word,
 ) -> Result<(), ExecRefusal>
     ensures { Gives (λ _. into.new) result
         (seen (λ w. into.old ++ w)
-        (value_of (sight view.entry)
+        (value_of (sight view.now)
         (get_case_from held.now.pos (plain_value held.now.value.value)))) }
 {
     let mut made = Word::new(alloc);
-    push_value(alloc, view, &held.value, &mut made)?;
-    let word = recase(alloc, &made, case_at(view, held.pos))?;
+    push_value(alloc, &*view, &held.value, &mut made)?;
+    let word = recase(alloc, &made, case_at(&*view, held.pos))?;
     push_symbols(alloc, word.symbols(), into)
 }
 
@@ -158,16 +158,16 @@ fn push_recased(
 #[cycle(push)]
 pub(crate) fn push_values(
     alloc: Global,
-    view: View<'_, '_>,
+    view: &View<'_, '_>,
     values: &[Value],
     into: &mut Word,
 ) -> Result<(), ExecRefusal>
     ensures { Gives (λ _. into.new) result
         (seen (λ w. into.old ++ w)
-        (joined_of (sight view.entry) (values_of (plain_values values.now)))) }
+        (joined_of (sight view.now) (values_of (plain_values values.now)))) }
 {
     'values: for value in values {
-        push_value(alloc, view, value, into)?;
+        push_value(alloc, &*view, value, into)?;
     }
     Ok(())
 }
@@ -195,12 +195,12 @@ pub(crate) fn read<'a>(
     ensures { Gives (λ s. s.now) result (value_of (sight view.entry) (plain_value value.now)) }
 {
     match value {
-        Value::Clip(clip) => bounded(clip_of(view, clip)),
+        Value::Clip(clip) => bounded(clip_of(&view, clip)),
         Value::Lit(lit) => bounded(lit.v.symbols()),
         Value::LitTag(tags) => bounded(tags.v.symbols()),
         Value::Var(var) => bounded(var_at(view.world.vars, view.fresh, var.n)),
         _ => {
-            push_value(alloc, view, value, made)?;
+            push_value(alloc, &view, value, made)?;
             Ok(made.symbols())
         }
     }
@@ -220,15 +220,15 @@ fn whole_bound(word: Word) -> Result<Word, ExecRefusal>
 /// A variable with what values give behind it.
 pub(crate) fn append_to(
     alloc: Global,
-    view: View<'_, '_>,
+    view: &View<'_, '_>,
     n: usize,
     values: &[Value],
 ) -> Result<Word, ExecRefusal>
     ensures { Gives (λ w. w) result
-        (appended (sight view.entry) n (values_of (plain_values values.now))) }
+        (appended (sight view.now) n (values_of (plain_values values.now))) }
 {
     let mut word = Word::new(alloc);
     append(alloc, var_at(view.world.vars, view.fresh, n), &mut word)?;
-    push_values(alloc, view, values, &mut word)?;
+    push_values(alloc, &*view, values, &mut word)?;
     whole_bound(word)
 }
