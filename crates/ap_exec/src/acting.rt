@@ -44,9 +44,10 @@ fn run_rule<'a>(
 {
     let world = world_of(rules, vars);
     let here = positions_of(alloc, has_chunk, units.len())?;
+    let fresh = room_for(alloc, vars)?;
     let mut state = State {
         units,
-        fresh: room_for(alloc, vars.len())?,
+        fresh,
         pieces: Sequence::new(alloc),
         room: SPAN_MAX,
     };

@@ -129,9 +129,9 @@ pub(crate) fn positions_of(
     Ok(here)
 }
 
-/// No new values, with room for those of so many variables.
-pub(crate) fn room_for(alloc: Global, count: usize) -> Result<Vec<Option<Word>>, Memory>
+/// No new values, with room for those of these variables.
+pub(crate) fn room_for(alloc: Global, vars: &[Word]) -> Result<Vec<Option<Word>>, Memory>
     ensures { IfOk result (λ fresh. fresh.items ≡ []) }
 {
-    Ok(Vec::with_capacity(alloc, count)?)
+    Ok(Vec::with_capacity(alloc, vars.len())?)
 }

@@ -21,9 +21,9 @@ returns-in_err-run_body c = λ m units_are chunk_is.
     let w = c.world_of-world.result in
     let s = now w (record {
       units = c.args.units;
-      fresh = c.new.result;
+      fresh = c.in_ok-fresh.fresh;
       pieces =
-          c.new-2.result;
+          c.new.result;
       room = 16777216;
     }) in
     let macros : length w.macros.now ≡ length r.macros =
@@ -35,9 +35,9 @@ returns-in_err-run_body c = λ m units_are chunk_is.
     c.in_ok-here.ensures ∙ ap (λ (b : Bool). lead_in b ++ from_first c.len.result) chunk_is
     ∙ ap (λ (n : ℕ). lead_in (is_some m.chunk) ++ from_first n) count
     ∙ here_is m.chunk m.units in
-    let start = now_is m c.args.vars.now w.vars.now c.args.units.items c.new.result.items
-    c.new-2.result units_are c.world_of-world.ensures.vars c.new.ensures.items
-    c.new-2.ensures in
+    let start = now_is m c.args.vars.now w.vars.now c.args.units.items c.in_ok-fresh.fresh.items
+    c.new.result units_are c.world_of-world.ensures.vars c.in_ok-fresh.ensures
+    c.new.ensures in
     let whole = act_is r c.args.rule m c.args.vars.now (still w) (length w.macros.now)
     c.in_ok-here.here.items (body_of c.action_of.result.now) s c.world_of-world.ensures.still
     macros here c.action_of.ensures start in
@@ -52,9 +52,9 @@ returns c = λ m units_are chunk_is.
     let w = c.world_of-world.result in
     let s = now w (record {
       units = c.args.units;
-      fresh = c.new.result;
+      fresh = c.in_ok-fresh.fresh;
       pieces =
-          c.new-2.result;
+          c.new.result;
       room = 16777216;
     }) in
     let macros : length w.macros.now ≡ length r.macros =
@@ -66,9 +66,9 @@ returns c = λ m units_are chunk_is.
     c.in_ok-here.ensures ∙ ap (λ (b : Bool). lead_in b ++ from_first c.len.result) chunk_is
     ∙ ap (λ (n : ℕ). lead_in (is_some m.chunk) ++ from_first n) count
     ∙ here_is m.chunk m.units in
-    let start = now_is m c.args.vars.now w.vars.now c.args.units.items c.new.result.items
-    c.new-2.result units_are c.world_of-world.ensures.vars c.new.ensures.items
-    c.new-2.ensures in
+    let start = now_is m c.args.vars.now w.vars.now c.args.units.items c.in_ok-fresh.fresh.items
+    c.new.result units_are c.world_of-world.ensures.vars c.in_ok-fresh.ensures
+    c.new.ensures in
     let whole = act_is r c.args.rule m c.args.vars.now (still w) (length w.macros.now)
     c.in_ok-here.here.items (body_of c.action_of.result.now) s c.world_of-world.ensures.still
     macros here c.action_of.ensures start in
