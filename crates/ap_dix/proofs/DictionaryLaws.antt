@@ -1,5 +1,5 @@
 -- A text is read as the grammar spells it, and refused as its sentences say.
-use Rattle.std.proofs.Common.{◌≡◌, ◌⊎◌, ◌↔◌, inl, inr, ℕ, ◌+◌, ◌<◌, ◌≤◌, Bool, cond, true, false, ◌==◌, List, [], length, refl, sym, ap, ◌∙◌, subst, arith, codes, Option, Some, None, Result, Ok, Err}
+use Rattle.std.proofs.Common.{◌≡◌, ◌⊎◌, inl, inr, ℕ, ◌+◌, Bool, cond, true, false, ◌==◌, List, [], length, refl, sym, ap, ◌∙◌, subst, arith, codes, Option, Some, None, Result, Ok, Err}
 use Rattle.std.specs.Option.{option_map}
 use Rattle.std.specs.Str.{IsUtf8}
 use Rattle.ap_markup.specs.Deep.{pruned}
@@ -9,8 +9,7 @@ use Rattle.ap_markup.specs.Forms.{SpellsText}
 use Rattle.ap_markup.specs.Kinds.{number_of}
 use Rattle.ap_markup.specs.Least.{IsLeast}
 use Rattle.ap_markup.specs.Marks.{mark_order}
-use Rattle.ap_markup.specs.NameLists.{has_name}
-use Rattle.ap_markup.specs.Sentences.{HasFaultUnder, GivesTree, IsRefusedBy}
+use Rattle.ap_markup.specs.Sentences.{HasFaultUnder, GivesTree}
 use Rattle.ap_markup.specs.Sooner.{is_before, sooner}
 use Rattle.ap_markup.specs.Spelling.{line_at}
 use Rattle.ap_markup.specs.Tree.{Tag, Parts, Done, Run, Element}
@@ -22,11 +21,10 @@ use Rattle.ap_markup.proofs.ElementLaws.{first_least, tree_found, tree_read, ref
 use Rattle.ap_markup.proofs.LeastOf.{or_next, least_then, least_alike, least_of_both, least_mapped, least_one}
 use Rattle.ap_markup.proofs.Ordered.{InOrder, text_order, pruned_order}
 use Rattle.ap_dix.specs.Faults.{DixMark, tag_kind, marked, or_else, defined_after, defined_in, declared_in, first_in, first_mark}
-use Rattle.ap_dix.specs.Mistakes.{Fault, order_of, HasNamed, HasFault, IsAtTag}
+use Rattle.ap_dix.specs.Mistakes.{Fault, order_of, HasFault, IsAtTag}
 use Rattle.ap_dix.specs.Refusals.{kind_number}
 use Rattle.ap_dix.specs.Sentences.{HasNotationFault, HasOwnFault, HasAnyFault, SpellsDictionary, HasFirstFault, IsRefusedFor}
-use Rattle.ap_dix.specs.Spelling.{kind_of, mark_of, fault_of, root_parts, decided, judged, spelled, Spells, IsFirstFault}
-use Rattle.ap_dix.specs.Value.{dictionary}
+use Rattle.ap_dix.specs.Spelling.{kind_of, mark_of, fault_of, decided, judged, spelled, Spells, IsFirstFault}
 use Rattle.ap_dix.specs.declared.dictionary.Dictionary.{Dictionary}
 use Rattle.ap_dix.specs.declared.refusal.DixFault.{DixFault}
 use Rattle.ap_dix.specs.declared.refusal.DixKind.{DixKind}

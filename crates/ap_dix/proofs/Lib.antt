@@ -11,3 +11,4 @@ pub mod Read
 pub mod NamesAbove
 pub mod OwnFaults
 pub mod DictionaryLaws
+pub mod Taken

@@ -3,15 +3,14 @@ use Rattle.std.proofs.Common.{◌≡◌, ◌⊎◌, inl, inr, ℕ, ◌+◌, ◌<
 use Rattle.std.specs.Option.{option_map}
 use Rattle.std.specs.Str.{bytes_eq}
 use Rattle.std.proofs.lemmas.Slice.Eq.{bytes_eq-Decides}
-use Rattle.ap_markup.specs.Least.{IsNoLater, IsLeast}
+use Rattle.ap_markup.specs.Least.{IsLeast}
 use Rattle.ap_markup.specs.NameLists.{has_name}
 use Rattle.ap_markup.specs.Pieces.{Pair}
 use Rattle.ap_markup.specs.Said.{value_of, name_of, is_named}
-use Rattle.ap_markup.specs.Spelling.{line_at}
 use Rattle.ap_markup.specs.Tree.{Tag, Parts, Done, Run, Element}
 use Rattle.ap_markup.proofs.LeastOf.{or_next, least_then, least_alike}
 use Rattle.ap_markup.proofs.Ordered.{InOrder, order_within}
-use Rattle.ap_dix.specs.Faults.{DixMark, has_attribute, has_unsupported, is_unsupported, is_bad_regex, tag_kind, marked, or_else, defined_after, defined_in, first_in, first_mark, declared_in}
+use Rattle.ap_dix.specs.Faults.{DixMark, has_attribute, has_unsupported, is_unsupported, is_bad_regex, tag_kind, marked, or_else, defined_after, defined_in, first_in}
 use Rattle.ap_dix.specs.Forms.{Form}
 use Rattle.ap_dix.specs.Grammar.{SpellsExpr}
 use Rattle.ap_dix.specs.Machines.{expression}

@@ -1,18 +1,17 @@
 -- One part of a tree after another.
-use Rattle.std.proofs.Common.{◌≡◌, ℕ, ◌+◌, ◌<◌, ◌≤◌, true, false, cond, filter, not, List, [], ◌∷◌, ◌++◌, drop, length, get_or, sym, ap, ◌∙◌, append_assoc, append-nil, Option, Some, None, codes}
-use Rattle.std.proofs.lemmas.List.{drop_all}
+use Rattle.std.proofs.Common.{◌≡◌, ℕ, ◌+◌, ◌<◌, ◌≤◌, true, false, cond, filter, not, List, [], ◌∷◌, ◌++◌, drop, length, get_or, sym, ap, ◌∙◌, Option, Some, None, codes}
 use Rattle.std.specs.Option.{option_to_list}
 use Rattle.ap_symbol.specs.Words.{is_white}
 use Rattle.ap_symbol.specs.declared.symbol.Symbol.TheVariants.{Queue}
-use Rattle.ap_markup.specs.Tree.{Done, Run as text_then, Element as element_then}
-use Rattle.ap_markup.specs.View.{part_then, parts_of, node_then, tag_of}
+use Rattle.ap_markup.specs.Tree.{Done}
+use Rattle.ap_markup.specs.View.{parts_of, node_then, tag_of}
 use Rattle.ap_markup.specs.declared.node.Node.{Node}
 use Rattle.ap_markup.specs.declared.node.Part.{Part, Run, Element}
 use Rattle.ap_markup.proofs.PartSteps.{at_run, at_node, at_end}
 use Rattle.ap_markup.specs.NameLists.{with_name}
 use Rattle.ap_markup.specs.Said.{is_named, name_of}
 use Rattle.ap_dix.specs.Faults.{DixMark, tag_kind, marked, or_else, defined_after, defined_in, first_in, first_mark, declared_by, declared_in}
-use Rattle.ap_dix.specs.Value.{entry_part, entry_parts, entry, entries, pardef, pardefs, names_with, section, sections, alphabet}
+use Rattle.ap_dix.specs.Value.{entry_part, entry_parts, entry, entries, pardef, pardefs, names_with, alphabet}
 use Rattle.ap_dix.specs.WordText.{letters, mark, symbols, texts}
 use Rattle.ap_dix.specs.declared.dictionary.EntryPart.{EntryPart}
 
@@ -123,29 +122,6 @@ pub names_with_end : (names : List (List ℕ)) (parts : List Part) (i : ℕ) →
     names_with names (parts_of (drop i parts)) ≡ names
 unfolding names_with
 names_with_end names parts i over = ap (names_with names) (at_end parts i over)
-
--- the sections
-pub sections_run : (names : List (List ℕ)) (parts : List Part) (i : ℕ) (p : Part) (text : List ℕ)
-    (at : ℕ) → i < length parts → p ≡ get_or parts i p → p ≡ Run text at →
-    sections names (parts_of (drop i parts)) ≡ sections names (parts_of (drop (i + 1) parts))
-unfolding sections
-sections_run names parts i p text at lt is shape =
-    ap (sections names) (at_run parts i p text at lt is shape)
-
-pub sections_node : (names : List (List ℕ)) (parts : List Part) (i : ℕ) (p : Part) (n : Node) →
-    i < length parts → p ≡ get_or parts i p → p ≡ Element n →
-    sections names (parts_of (drop i parts))
-    ≡ cond (is_named (codes "section") (tag_of n))
-    (section names (tag_of n) (parts_of n.parts.items)
-    ∷ sections names (parts_of (drop (i + 1) parts)))
-    (sections names (parts_of (drop (i + 1) parts)))
-unfolding sections
-sections_node names parts i p n lt is shape = ap (sections names) (at_node parts i p n lt is shape)
-
-pub sections_end : (names : List (List ℕ)) (parts : List Part) (i : ℕ) → length parts ≤ i →
-    sections names (parts_of (drop i parts)) ≡ []
-unfolding sections
-sections_end names parts i over = ap (sections names) (at_end parts i over)
 
 -- the alphabet
 pub alphabet_run : (parts : List Part) (i : ℕ) (p : Part) (text : List ℕ) (at : ℕ) →
@@ -284,25 +260,6 @@ entries_no names parts i p n lt is shape named = entries_node names parts i p n 
     ∙ ap (λ b. cond b (entry names (tag_of n) (parts_of n.parts.items)
     ∷ entries names (parts_of (drop (i + 1) parts)))
     (entries names (parts_of (drop (i + 1) parts)))) named
-
-pub sections_yes : (names : List (List ℕ)) (parts : List Part) (i : ℕ) (p : Part) (n : Node) →
-    i < length parts → p ≡ get_or parts i p → p ≡ Element n → is_named (codes "section") (tag_of n)
-    ≡ true → sections names (parts_of (drop i parts))
-    ≡ section names (tag_of n) (parts_of n.parts.items)
-    ∷ sections names (parts_of (drop (i + 1) parts))
-sections_yes names parts i p n lt is shape named = sections_node names parts i p n lt is shape
-    ∙ ap (λ b. cond b (section names (tag_of n) (parts_of n.parts.items)
-    ∷ sections names (parts_of (drop (i + 1) parts)))
-    (sections names (parts_of (drop (i + 1) parts)))) named
-
-pub sections_no : (names : List (List ℕ)) (parts : List Part) (i : ℕ) (p : Part) (n : Node) →
-    i < length parts → p ≡ get_or parts i p → p ≡ Element n → is_named (codes "section") (tag_of n)
-    ≡ false → sections names (parts_of (drop i parts))
-    ≡ sections names (parts_of (drop (i + 1) parts))
-sections_no names parts i p n lt is shape named = sections_node names parts i p n lt is shape
-    ∙ ap (λ b. cond b (section names (tag_of n) (parts_of n.parts.items)
-    ∷ sections names (parts_of (drop (i + 1) parts)))
-    (sections names (parts_of (drop (i + 1) parts)))) named
 
 pub pardefs_yes : (names : List (List ℕ)) (parts : List Part) (i : ℕ) (p : Part) (n : Node) →
     i < length parts → p ≡ get_or parts i p → p ≡ Element n → is_named (codes "pardef") (tag_of n)

@@ -1,7 +1,7 @@
 -- What the code is proved to compute of the faults of a dictionary's names, weights and extensions:
 -- the first start tag that has one. Each fault has its sentence in `Mistakes`, and the laws tie the
 -- two.
-use Rattle.std.specs.Prelude.{ℕ, Bool, not, ◌&&◌, ◌||◌, ◌==◌, nat_lt, List, [], Option, Some, None, is_some, codes, if◌then◌else◌}
+use Rattle.std.specs.Prelude.{ℕ, Bool, not, ◌&&◌, ◌||◌, List, [], Option, Some, None, is_some, codes, if◌then◌else◌}
 use Rattle.ap_markup.specs.Pieces.{Pair}
 use Rattle.ap_markup.specs.Tree.{Tag, Parts, Done, Run, Element}
 use Rattle.ap_dix.specs.Machines.{expression}

@@ -121,3 +121,23 @@ pub fn entries(alloc: Global, names: &Names, parts: &[Part]) -> Result<Entries, 
     }
     Ok(fitted(made))
 }
+
+/// The entries among the parts, as `entries` makes them: each part is let go once its entry is
+/// made.
+#[tactic(auto, using(crate::proofs::Taken::entries_run, crate::proofs::Taken::entries_yes, crate::proofs::Taken::entries_no), unfolding(crate::specs::Value::entries))]
+pub fn into_entries(alloc: Global, names: &Names, parts: Vec<Part>) -> Result<Entries, Memory>
+    ensures { IfOk result (λ made. made ≡ entries names.now (parts_of parts.items)) }
+{
+    let mut made = Sequence::new(alloc);
+    'parts: for part in parts {
+        match part {
+            Part::Run(_, _) => {}
+            Part::Element(node) => {
+                if is_named("e", &node) {
+                    made.push(entry(alloc, names, &node)?)?;
+                }
+            }
+        }
+    }
+    Ok(fitted(made))
+}

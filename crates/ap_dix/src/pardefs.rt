@@ -1,4 +1,5 @@
-ghost use Rattle.std.specs.Prelude.{◌≡◌, IfOk, OnOk};
+ghost use Rattle.std.specs.Prelude.{◌≡◌, [], IfOk, OnOk, fold, map};
+ghost use Rattle.ap_markup.specs.NameLists.{with_name};
 ghost use Rattle.ap_markup.specs.View.{parts_of, tag_of};
 ghost use Rattle.ap_dix.specs.Value.{pardef, pardefs, names_with};
 
@@ -40,4 +41,16 @@ pub fn pardefs<'a>(
         }
     }
     Ok(made)
+}
+
+/// The names of the paradigms.
+pub fn names_of<'a>(alloc: Global, pardefs: &'a [Pardef]) -> Result<Names<'a>, Memory>
+    ensures { IfOk result (λ made. made
+        ≡ fold with_name [] (map (λ pardef. pardef.name) pardefs.now)) }
+{
+    let mut names = Names::new(alloc);
+    'pardefs: for pardef in pardefs {
+        names.add(pardef.name.as_slice())?;
+    }
+    Ok(names)
 }

@@ -52,13 +52,14 @@ fn judged(alloc: Global, tree: Elements) -> Result<Dictionary, DixRefusal>
     ensures fault { IfErr result
         (λ e. IfFault e (λ f. judged (Ok (node_then tree.root Done, tree.first)) ≡ Err f)) }
 {
-    let own = first_mark(alloc, &tree.root)?;
-    let first = match tree.first {
+    let Elements { root, first } = tree;
+    let own = first_mark(alloc, &root)?;
+    let first = match first {
         None => own,
         Some(fault) => sooner(Some(mark_of(fault)), own),
     };
     match first {
-        None => Ok(dictionary(alloc, &tree.root.parts)?),
+        None => Ok(dictionary(alloc, root.parts)?),
         Some(mark) => Err(refusal(mark)),
     }
 }

@@ -1,8 +1,7 @@
-use Rattle.std.proofs.Common.{◌≡◌, ◌++◌, drop}
+use Rattle.std.proofs.Common.{◌≡◌}
 use Rattle.ap_markup.specs.View.{parts_of}
 use Rattle.ap_dix.specs.Value.{sections}
 use Rattle.ap_dix.proofs.sections.sections.Given as goal
 
 abbrev pub invariant-parts : goal.invariant-parts
-invariant-parts l = l.made ++ sections l.names (parts_of (drop l.part-index l.parts))
-    ≡ sections l.names (parts_of l.parts)
+invariant-parts l = l.made ≡ sections l.names (parts_of l.yielded)
