@@ -1,6 +1,6 @@
 //! Units that were written before, with what they gave. What is kept is a hint alone: what is found
 //! is compared with the bytes of the unit that is sought.
-ghost use Rattle.std.specs.Prelude.{◌≡◌, ◌++◌, ℕ, List, [], length, bytes_eq, IfOk, IfSome};
+ghost use Rattle.std.specs.Prelude.{◌≡◌, ◌≤◌, ◌++◌, ℕ, List, [], length, bytes_eq, IfOk, IfSome};
 ghost use Rattle.ap_symbol.specs.declared.symbol.Symbol.{Symbol};
 ghost use Rattle.ap_stream.specs.declared.dialect.Dialect.{Dialect};
 ghost use Rattle.ap_stream.specs.KeptUnits.{IsGiven, IsKept, AreKept};
@@ -52,13 +52,51 @@ pub(crate) struct KeptUnits {
     sparse: bool,
 }
 
-/// The bytes go into one number, each five places from the one before, and its upper half is told.
-fn hash_of(key: &[u8]) -> u32 {
-    let mut hash: u64 = 0;
+/// One byte more goes into a number, five places from the one before it.
+fn mixed(number: u64, byte: u8) -> u64 {
+    number.rotate_left(5) ^ u64::from(byte)
+}
+
+/// The upper half of what a number is multiplied to.
+fn told(number: u64) -> u32 {
+    (number.wrapping_mul(11400714819323198485) >> 32) as u32
+}
+
+/// The hash of a unit with these bytes.
+pub(crate) fn hash_of(key: &[u8]) -> u32 {
+    let mut number: u64 = 0;
     for byte in key {
-        hash = hash.rotate_left(5) ^ u64::from(*byte);
+        number = mixed(number, *byte);
     }
-    (hash.wrapping_mul(11400714819323198485) >> 32) as u32
+    told(number)
+}
+
+/// The number of bytes of a front, and its hash.
+#[derive(Clone, Copy)]
+pub(crate) struct Front {
+    pub(crate) size: usize,
+    pub(crate) hash: u32,
+}
+
+/// The front up to the first `$` of what begins with `^`; else none, of no bytes.
+pub(crate) fn front_of(piece: &[u8]) -> Front
+    ensures { result.size ≤ length piece.now }
+{
+    let none = Front { size: 0, hash: 0 };
+    if piece.is_empty() || piece[0] != b'^' {
+        return none;
+    }
+    let mut number: u64 = 0;
+    for at in 0..piece.len() {
+        number = mixed(number, piece[at]);
+        if piece[at] == b'$' {
+            return Front {
+                size: at + 1,
+                hash: told(number),
+            };
+        }
+    }
+    none
 }
 
 /// The place that is tried at this turn.
@@ -164,13 +202,13 @@ impl KeptUnits {
         }
     }
 
-    /// What the unit with these bytes gave, if it is kept.
-    pub(crate) fn find(&self, key: &[u8]) -> Option<&[u8]>
+    /// What the unit with these bytes and this hash gave, if it is kept.
+    pub(crate) fn find(&self, key: &[u8], hash: u32) -> Option<&[u8]>
         ensures { (dialect : Dialect) (given : List (List Symbol) → List ℕ) →
             AreKept dialect given self.now.entries.items →
             IfSome result (λ text. IsGiven dialect given key.now text.now) }
     {
-        match find_place(self.places.as_slice(), hash_of(key)) {
+        match find_place(self.places.as_slice(), hash) {
             None => None,
             Some(at) => given_at(self.entries.as_slice(), at, key),
         }

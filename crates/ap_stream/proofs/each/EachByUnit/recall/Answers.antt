@@ -7,7 +7,7 @@ use Rattle.ap_stream.proofs.each.EachByUnit.recall.Goals as goal
 pub returns-in_ok-extend-in-Some-clause-wrote : goal.returns-in_ok-extend-in-Some-clause-wrote
 returns-in_ok-extend-in-Some-clause-wrote g c = λ some.
     let given = g.W.UnitWriter.given c.self.inside.writer in
-    let key : List ℕ = take c.front_size-size.result c.args.piece.now in
+    let key : List ℕ = take c.front_of-front.result.size c.args.piece.now in
     let is = c.in-Some.ensures c.self.inside.dialect given c.self.invariant.1 in
     record {
       words = is.words;
