@@ -1,5 +1,5 @@
 -- What is kept of units that a tool wrote: the bytes of a unit, and what it gave.
-use Rattle.std.specs.Prelude.{◌≡◌, ◌≤◌, ℕ, List, take, drop, length}
+use Rattle.std.specs.Prelude.{◌≡◌, ◌≤◌, ◌-◌, ℕ, List, take, drop, length}
 use Rattle.std.specs.List.{AllByRecursion}
 use Rattle.ap_symbol.specs.declared.symbol.Symbol.{Symbol}
 use Rattle.ap_stream.specs.Limits.{unit_max}
@@ -15,10 +15,14 @@ pub record IsGiven (dialect : Dialect) (given : List (List Symbol) → List ℕ)
   pub is : text ≡ given words
   pub short : length text ≤ unit_max
 
--- an entry has the bytes of the unit, and behind them its text
-abbrev pub IsKept : Dialect → (List (List Symbol) → List ℕ) → Entry → Type 0
-IsKept dialect given entry =
-    IsGiven dialect given (take entry.size entry.bytes.items) (drop entry.size entry.bytes.items)
+-- At the entry's places the bytes of the unit stand, and behind them its text.
+pub record IsKept (dialect : Dialect) (given : List (List Symbol) → List ℕ) (bytes : List ℕ)
+    (entry : Entry) : Type 0 where
+  pub first : entry.from ≤ entry.behind
+  pub second : entry.behind ≤ entry.to
+  pub within : entry.to ≤ length bytes
+  pub is : IsGiven dialect given (take (entry.behind - entry.from) (drop entry.from bytes))
+      (take (entry.to - entry.behind) (drop entry.behind bytes))
 
-abbrev pub AreKept : Dialect → (List (List Symbol) → List ℕ) → List Entry → Type 0
-AreKept dialect given entries = AllByRecursion (IsKept dialect given) entries
+abbrev pub AreKept : Dialect → (List (List Symbol) → List ℕ) → List ℕ → List Entry → Type 0
+AreKept dialect given bytes entries = AllByRecursion (IsKept dialect given bytes) entries

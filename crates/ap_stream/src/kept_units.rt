@@ -1,6 +1,6 @@
 //! Units that were written before, with what they gave. What is kept is a hint alone: what is found
 //! is compared with the bytes of the unit that is sought.
-ghost use Rattle.std.specs.Prelude.{◌≡◌, ◌≤◌, ◌++◌, ℕ, List, [], length, bytes_eq, IfOk, IfSome};
+ghost use Rattle.std.specs.Prelude.{◌≡◌, ◌≤◌, ◌++◌, ◌∷◌, ◌⊎◌, ℕ, List, [], length, bytes_eq, OnOk, IfSome};
 ghost use Rattle.ap_symbol.specs.declared.symbol.Symbol.{Symbol};
 ghost use Rattle.ap_stream.specs.declared.dialect.Dialect.{Dialect};
 ghost use Rattle.ap_stream.specs.KeptUnits.{IsGiven, IsKept, AreKept};
@@ -11,13 +11,13 @@ use ap_symbol::Memory;
 use std::alloc::Global;
 
 /// The most units that are kept.
-const ENTRIES_MAX: usize = 65536;
+const ENTRIES_MAX: usize = 32768;
 
 /// The most bytes that they and what they gave may have.
 const BYTES_MAX: usize = 16777216;
 
 /// The number of places, and how many of them are tried for a unit.
-const PLACES: usize = 131072;
+const PLACES: usize = 65536;
 
 const TRIES: usize = 4;
 
@@ -27,11 +27,12 @@ const WINDOW: u32 = 1024;
 /// No entry has this number.
 const NO_ENTRY: u32 = 4294967295;
 
-/// The bytes of a unit, so many, and behind them what it gave.
-#[derive(Drop)]
+/// Where the bytes of a unit stand, and behind them what it gave: both places and that behind both.
+#[derive(Clone, Copy)]
 pub(crate) struct Entry {
-    pub(crate) size: usize,
-    pub(crate) bytes: Vec<u8>,
+    pub(crate) from: u32,
+    pub(crate) behind: u32,
+    pub(crate) to: u32,
 }
 
 /// Where the entry of a unit with this hash may be found.
@@ -41,11 +42,12 @@ struct Place {
     entry: u32,
 }
 
-/// What is kept of units. Where few units are recalled, only some are kept.
+/// What is kept of units, whose bytes and texts stand one behind another. Where few units are
+/// recalled, only some are kept.
 #[derive(Drop)]
 pub(crate) struct KeptUnits {
     pub(crate) entries: Vec<Entry>,
-    bytes: usize,
+    pub(crate) bytes: Vec<u8>,
     places: Vec<Place>,
     recalled: u32,
     missed: u32,
@@ -150,16 +152,6 @@ fn free_places(places: &mut Vec<Place>) -> Result<(), Memory> {
     Ok(())
 }
 
-/// Two lists of bytes, one behind the other.
-fn joined(alloc: Global, key: &[u8], text: &[u8]) -> Result<Vec<u8>, Memory>
-    ensures { IfOk result (λ made. made.items ≡ key.now ++ text.now) }
-{
-    let mut made = Vec::with_capacity(alloc, key.len().saturating_add(text.len()))?;
-    made.extend_from_slice(key)?;
-    made.extend_from_slice(text)?;
-    Ok(made)
-}
-
 /// Whether two lists of bytes are equal.
 fn is_same(a: &[u8], b: &[u8]) -> bool
     ensures { result ≡ bytes_eq a.now b.now }
@@ -168,23 +160,35 @@ fn is_same(a: &[u8], b: &[u8]) -> bool
 }
 
 /// What the unit with these bytes gave, if this entry is the unit's.
-fn given_at<'a>(entries: &'a [Entry], at: usize, key: &[u8]) -> Option<&'a [u8]>
+fn given_at<'a>(bytes: &'a [u8], entries: &[Entry], at: usize, key: &[u8]) -> Option<&'a [u8]>
     ensures { (dialect : Dialect) (given : List (List Symbol) → List ℕ) →
-        AreKept dialect given entries.now →
+        AreKept dialect given bytes.now entries.now →
         IfSome result (λ text. IsGiven dialect given key.now text.now) }
 {
     if at >= entries.len() {
         return None;
     }
     let entry = &entries[at];
-    let bytes = entry.bytes.as_slice();
-    if entry.size > bytes.len() {
+    let from = entry.from as usize;
+    let behind = entry.behind as usize;
+    let to = entry.to as usize;
+    if from > behind || behind > to || to > bytes.len() {
         return None;
     }
-    if is_same(&bytes[..entry.size], key) {
-        return Some(&bytes[entry.size..]);
+    if is_same(&bytes[from..behind], key) {
+        return Some(&bytes[behind..to]);
     }
     None
+}
+
+/// Appends the bytes of a unit and its text, after which so many bytes stand there at most.
+fn append_both(bytes: &mut Vec<u8>, key: &[u8], text: &[u8]) -> Result<(), Memory>
+    ensures ok { OnOk result (bytes.new.items ≡ bytes.old.items ++ key.now ++ text.now) }
+    ensures grown { (rest : List ℕ) × (bytes.new.items ≡ bytes.old.items ++ rest) }
+{
+    bytes.extend_from_slice(key)?;
+    bytes.extend_from_slice(text)?;
+    Ok(())
 }
 
 impl KeptUnits {
@@ -194,7 +198,7 @@ impl KeptUnits {
     {
         KeptUnits {
             entries: Vec::new(alloc),
-            bytes: 0,
+            bytes: Vec::new(alloc),
             places: Vec::new(alloc),
             recalled: 0,
             missed: 0,
@@ -205,18 +209,19 @@ impl KeptUnits {
     /// What the unit with these bytes and this hash gave, if it is kept.
     pub(crate) fn find(&self, key: &[u8], hash: u32) -> Option<&[u8]>
         ensures { (dialect : Dialect) (given : List (List Symbol) → List ℕ) →
-            AreKept dialect given self.now.entries.items →
+            AreKept dialect given self.now.bytes.items self.now.entries.items →
             IfSome result (λ text. IsGiven dialect given key.now text.now) }
     {
         match find_place(self.places.as_slice(), hash) {
             None => None,
-            Some(at) => given_at(self.entries.as_slice(), at, key),
+            Some(at) => given_at(self.bytes.as_slice(), self.entries.as_slice(), at, key),
         }
     }
 
     /// Counts a unit that was recalled.
     pub(crate) fn count_recalled(&mut self)
-        ensures { self.new.entries ≡ self.old.entries }
+        ensures entries { self.new.entries ≡ self.old.entries }
+        ensures bytes { self.new.bytes ≡ self.old.bytes }
     {
         self.recalled = self.recalled.saturating_add(1);
     }
@@ -227,12 +232,13 @@ impl KeptUnits {
     {
         self.entries.clear();
         self.places.clear();
-        self.bytes = 0;
+        self.bytes.clear();
     }
 
     /// Whether a unit is worth keeping: each, unless few of the last units were recalled.
     fn is_worth(&mut self) -> bool
-        ensures { self.new.entries ≡ self.old.entries }
+        ensures entries { self.new.entries ≡ self.old.entries }
+        ensures bytes { self.new.bytes ≡ self.old.bytes }
     {
         self.missed = self.missed.wrapping_add(1);
         if self.missed >= WINDOW {
@@ -246,12 +252,12 @@ impl KeptUnits {
     /// Forgets all, where there is no room for so many bytes more.
     fn make_room(&mut self, size: usize) -> Result<(), Memory>
         ensures { (dialect : Dialect) (given : List (List Symbol) → List ℕ) →
-            AreKept dialect given self.old.entries.items →
-            AreKept dialect given self.new.entries.items }
+            AreKept dialect given self.old.bytes.items self.old.entries.items →
+            AreKept dialect given self.new.bytes.items self.new.entries.items }
     {
-        if self.entries.len() >= ENTRIES_MAX || self.bytes.saturating_add(size) > BYTES_MAX {
+        if self.entries.len() >= ENTRIES_MAX || self.bytes.len().saturating_add(size) > BYTES_MAX {
             self.entries.clear();
-            self.bytes = 0;
+            self.bytes.clear();
             free_places(&mut self.places)?;
         }
         if self.places.len() < PLACES {
@@ -260,19 +266,16 @@ impl KeptUnits {
         Ok(())
     }
 
-    /// Adds an entry.
+    /// Adds an entry, whose place this hash tells.
     fn add(&mut self, entry: Entry, hash: u32) -> Result<(), Memory>
-        ensures { (dialect : Dialect) (given : List (List Symbol) → List ℕ) →
-            IsKept dialect given entry → AreKept dialect given self.old.entries.items →
-            AreKept dialect given self.new.entries.items }
+        ensures entries { self.new.entries.items ≡ self.old.entries.items
+            ⊎ (self.new.entries.items ≡ self.old.entries.items ++ entry ∷ []) }
+        ensures bytes { self.new.bytes ≡ self.old.bytes }
     {
-        let size = entry.bytes.as_slice().len();
-        self.make_room(size)?;
         let held = self.entries.len();
-        if held >= ENTRIES_MAX || size > BYTES_MAX {
+        if held >= ENTRIES_MAX {
             return Ok(());
         }
-        self.bytes = self.bytes.saturating_add(size);
         let entry_at = held as u32;
         set_place(
             &mut self.places,
@@ -285,26 +288,38 @@ impl KeptUnits {
         Ok(())
     }
 
-    fn keep_copy(&mut self, alloc: Global, key: &[u8], text: &[u8]) -> Result<(), Memory>
+    fn keep_copy(&mut self, key: &[u8], text: &[u8]) -> Result<(), Memory>
         ensures { (dialect : Dialect) (given : List (List Symbol) → List ℕ) →
-            IsGiven dialect given key.now text.now → AreKept dialect given self.old.entries.items →
-            AreKept dialect given self.new.entries.items }
+            IsGiven dialect given key.now text.now →
+            AreKept dialect given self.old.bytes.items self.old.entries.items →
+            AreKept dialect given self.new.bytes.items self.new.entries.items }
     {
-        let bytes = joined(alloc, key, text)?;
-        let size = key.len();
-        self.add(Entry { size, bytes }, hash_of(key))
+        self.make_room(key.len().saturating_add(text.len()))?;
+        let from = self.bytes.len();
+        if from > BYTES_MAX || key.len() > BYTES_MAX || text.len() > BYTES_MAX {
+            return Ok(());
+        }
+        append_both(&mut self.bytes, key, text)?;
+        let behind = from + key.len();
+        let to = behind + text.len();
+        let entry = Entry {
+            from: from as u32,
+            behind: behind as u32,
+            to: to as u32,
+        };
+        self.add(entry, hash_of(key))
     }
 
     /// Keeps what the unit with these bytes gave, if it is within the limit on a unit and worth it,
     /// and there is memory.
-    pub(crate) fn keep(&mut self, alloc: Global, key: &[u8], text: &[u8])
+    pub(crate) fn keep(&mut self, key: &[u8], text: &[u8])
         ensures { (dialect : Dialect) (given : List (List Symbol) → List ℕ)
             (words : List (List Symbol)) → UnitOf dialect key.now words → text.now ≡ given words →
-            AreKept dialect given self.old.entries.items →
-            AreKept dialect given self.new.entries.items }
+            AreKept dialect given self.old.bytes.items self.old.entries.items →
+            AreKept dialect given self.new.bytes.items self.new.entries.items }
     {
         if text.len() <= UNIT_MAX && self.is_worth() {
-            let _ = self.keep_copy(alloc, key, text);
+            let _ = self.keep_copy(key, text);
         }
     }
 }
