@@ -78,9 +78,8 @@ fn kept_at(unit: &Unit, at: usize, words: &KeptWords) -> Result<Option<Rc<Word>>
 fn made_at(unit: &Unit, at: usize, room: &mut Room) -> Result<Rc<Word>, Memory>
     ensures { IfOk result (λ word. word.value ≡ word_of at unit.now) }
 {
-    let mut word = Word::with_capacity(room.alloc, 16, 64)?;
-    put_word(unit, &mut room.names, at, &mut word)?;
-    let shared = Rc::new(room.alloc, word)?;
+    put_word(unit, &mut room.names, at, &mut room.word)?;
+    let shared = Rc::new(room.alloc, room.word.copy(room.alloc)?)?;
     room.words.keep(&shared);
     Ok(shared)
 }

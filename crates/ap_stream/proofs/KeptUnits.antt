@@ -42,8 +42,10 @@ module _ (dialect : Dialect) (given : List (List Symbol) → List ℕ) where
         first = a;
         second = b;
         within = omega (arith, w, l);
-        is = rw (slice_on bytes more entry.from (entry.behind - entry.from) (omega (arith, a, b, w)),
-            slice_on bytes more entry.behind (entry.to - entry.behind) (omega (arith, b, w))) k.is;
+        is = rw (
+          slice_on bytes more entry.from (entry.behind - entry.from) (omega (arith, a, b, w)),
+          slice_on bytes more entry.behind (entry.to - entry.behind) (omega (arith, b, w)),
+        ) k.is;
       }
 
   -- the entries stay true where more is appended

@@ -1,4 +1,4 @@
-use Rattle.std.proofs.Common.{arith, ap, ◌≡◌, ◌<◌, ℕ, Ok}
+use Rattle.std.proofs.Common.{arith, ap, ◌≡◌, ◌<◌, Ok}
 use Rattle.ap_stream.proofs.copying.give_front.Goals as goal
 
 pub returns-clause-wrote : goal.returns-clause-wrote

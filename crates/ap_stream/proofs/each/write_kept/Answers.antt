@@ -1,5 +1,4 @@
 use Rattle.std.proofs.Common.{ap, sym, ◌∙◌, ◌≡◌, List, ℕ, ◌++◌}
-use Rattle.ap_symbol.specs.declared.symbol.Symbol.{Symbol}
 use Rattle.ap_stream.proofs.UnitWords.{words_are}
 use Rattle.ap_stream.proofs.each.write_kept.Goals as goal
 

@@ -1,4 +1,4 @@
-use Rattle.std.proofs.Common.{◌≡◌, ◌++◌, ap, sym, ◌∙◌, length, drop}
+use Rattle.std.proofs.Common.{◌≡◌, ◌∙◌, length, drop}
 use Rattle.std.proofs.lemmas.List.{take_rest}
 use Rattle.std.proofs.Math.Seq.{drop-append_seam}
 use Rattle.ap_stream.proofs.each.write_new.Goals as goal

@@ -1,4 +1,4 @@
-use Rattle.std.proofs.Common.{arith, ap, refl, subst, ◌∙◌, ◌≡◌, ◌<◌, List, ℕ, ◌++◌, take}
+use Rattle.std.proofs.Common.{ap, refl, subst, ◌∙◌, List, ℕ, ◌++◌, take}
 use Rattle.ap_stream.specs.UnitBytes.{UnitOf}
 use Rattle.ap_stream.specs.declared.dialect.Dialect.{Dialect}
 use Rattle.ap_stream.proofs.EachLaws as laws
