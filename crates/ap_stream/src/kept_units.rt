@@ -11,13 +11,13 @@ use ap_symbol::Memory;
 use std::alloc::Global;
 
 /// The most units that are kept.
-const ENTRIES_MAX: usize = 32768;
+const ENTRIES_MAX: usize = 65536;
 
 /// The most bytes that they and what they gave may have.
 const BYTES_MAX: usize = 16777216;
 
 /// The number of places, and how many of them are tried for a unit.
-const PLACES: usize = 65536;
+const PLACES: usize = 131072;
 
 const TRIES: usize = 4;
 
