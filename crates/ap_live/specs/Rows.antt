@@ -76,7 +76,13 @@ pub record IsNext (edges : List Edge) (pick : Option Input) (last : List ℕ)
   pub taken : Spread edges pick last [] [] base row.taken.items
   pub closed : Closed edges base [] row.states.items row.silent.items
 
--- One known row leads to another by an input.
+-- the known row with this number has these states
+pub record HasStates (known : List Row) (number : ℕ) (states : List ℕ) : Type 0 where
+  pub row : Row
+  pub there : slice_get known number ≡ Some row
+  pub same : row.states.items ≡ states
+
+-- One known row leads to another by an input, and a known row has the states of the other.
 pub record Leads (edges : List Edge) (known : List Row) (link : Link) : Type 0 where
   pub last : Row
   pub row : Row
@@ -84,19 +90,20 @@ pub record Leads (edges : List Edge) (known : List Row) (link : Link) : Type 0 w
   pub row_at : slice_get known link.to ≡ Some row
   pub next : IsNext edges (Some (let input : Input =
       record { symbol = link.symbol; sensitive = link.sensitive } in input)) last.states.items row
+  pub alike : HasStates known link.set row.states.items
 
--- a known row is the one after so many inputs
+-- a known row has the states of the row after so many inputs
 pub record Stands (rows known : List Row) (at number : ℕ) : Type 0 where
   pub row : Row
   pub there : slice_get rows at ≡ Some row
-  pub as_known : slice_get known number ≡ Some row
+  pub alike : HasStates known number row.states.items
 
 -- The row says whether one of its states is final.
 abbrev pub Tells : List ℕ → Row → Type 0
 Tells finals row = IsTrue row.ends ↔ ((s : ℕ) × (IsIn s row.states.items × IsIn s finals))
 
--- Links between known rows lead as they say, the path has the numbers of the first rows, and rows
--- say whether they end.
+-- Links between known rows lead as they say, the path has the numbers of known rows with the states
+-- of the first rows, and rows say whether they end.
 pub record IsKnown (edges : List Edge) (finals : List ℕ) (rows known : List Row) (links : List Link)
     (path : List ℕ) : Type 0 where
   pub leads : (link : Link) → IsIn link links → Leads edges known link
@@ -104,24 +111,27 @@ pub record IsKnown (edges : List Edge) (finals : List ℕ) (rows known : List Ro
   pub told : (at : ℕ) (row : Row) → slice_get rows at ≡ Some row → Tells finals row
   pub known_told : (at : ℕ) (row : Row) → slice_get known at ≡ Some row → Tells finals row
 
--- one of the links is from this number to the other, by this input
-pub record IsLinked (links : List Link) (from : ℕ) (input : Input) (to : ℕ) : Type 0 where
+-- one of the links is from this number to the other, by this input, and to that set
+pub record IsLinked (links : List Link) (from : ℕ) (input : Input) (to set : ℕ) : Type 0 where
   pub link : Link
   pub listed : IsIn link links
   pub from_is : link.from ≡ from
   pub to_is : link.to ≡ to
+  pub set_is : link.set ≡ set
   pub symbol_is : link.symbol ≡ input.symbol
   pub sensitive_is : link.sensitive ≡ input.sensitive
 
--- The known row with this number comes after the last row by this input. All rows so far are known.
+-- The known row with this number comes after the last row by this input, and the other has its
+-- states. The states of all rows so far are known.
 pub record Follows (edges : List Edge) (rows known : List Row) (path : List ℕ) (input : Input)
-    (to : ℕ) : Type 0 where
+    (to set : ℕ) : Type 0 where
   pub last : Row
   pub row : Row
   pub count : length path ≡ length rows
   pub last_at : slice_get rows (length rows - 1) ≡ Some last
   pub row_at : slice_get known to ≡ Some row
   pub next : IsNext edges (Some input) last.states.items row
+  pub alike : HasStates known set row.states.items
 
 -- what is seen of a live set: its rows, the known rows with their links and the numbers of the
 -- first rows among them, and whether the transducer has no final state

@@ -50,6 +50,12 @@ impl SharedRow {
         })
     }
 
+    pub(crate) fn states(&self) -> &[usize]
+        ensures { result.now ≡ self.now.states.items }
+    {
+        self.row.states.as_slice()
+    }
+
     /// How many bytes its lists have room for.
     pub(crate) fn bytes(&self) -> usize {
         let states = self.row.states.capacity();
@@ -186,14 +192,6 @@ impl HeldRow {
             None => Ok(None),
             Some(shared) => Ok(Some(shared.copy()?)),
         }
-    }
-
-    /// How many states and edges it holds.
-    pub(crate) fn size(&self) -> usize {
-        self.states()
-            .len()
-            .saturating_add(self.taken().len())
-            .saturating_add(self.silent().len())
     }
 }
 

@@ -25,8 +25,8 @@ use std::marker::Model;
 /// A transducer reads its left sides. Its symbols fit the inputs one by one, each under the flag
 /// for case of its own step.
 ///
-/// Rows that were computed are kept, unless they are small, and taken again where the same inputs
-/// come again. Where they have become too many, `cut` to no input lets them go.
+/// Rows that were computed are kept, and taken again where the same input comes at the same states.
+/// Where they have become too many, `cut` to no input lets them go.
 ///
 /// `hints` has the places where the edges of states begin, in the transducer that it was started
 /// for. They are tried before they are used, so that a wrong one costs time alone.

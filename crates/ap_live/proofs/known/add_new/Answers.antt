@@ -1,10 +1,13 @@
-use Rattle.std.proofs.Common.{◌≡◌, ◌++◌, ◌∷◌, [], sym, subst, refl, Some, List, ℕ, length}
+use Rattle.std.specs.declared.alloc.Global.{Global}
+use Rattle.std.specs.declared.vec.Vec.{Vec}
+use Rattle.std.proofs.Common.{ap, ◌≡◌, ◌++◌, ◌∷◌, [], sym, subst, refl, Some, List, ℕ, length}
 use Rattle.ap_fst.specs.declared.label.Edge.{Edge}
 use Rattle.ap_live.specs.Fitting.{Input}
 use Rattle.ap_live.specs.Rows.{IsNext, AreRows, IsKnown, Tells}
 use Rattle.ap_live.specs.declared.rows.Row.{Row}
+use Rattle.ap_live.specs.declared.known.Link.{Link}
 use Rattle.ap_live.proofs.RowLaws.{last_there, step_law}
-use Rattle.ap_live.proofs.KnownLaws.{known_grown}
+use Rattle.ap_live.proofs.KnownLaws.{known_grown, known_same}
 use Rattle.ap_live.proofs.known.add_new.Goals as goal
 
 pub returns-clause-ok : goal.returns-clause-ok
@@ -32,11 +35,19 @@ returns-clause-ok c = λ seen live is.
     c.remember.new.known.links.items c.remember.new.known.path.items =
     c.remember.ensures.known edges finals rows last row grown at next
     (subst (λ (z : List Row). IsKnown edges finals z c.plant.new.known.rows.items
-    c.plant.new.known.links.items c.plant.new.known.path.items) c.as_slice.ensures planted) in (
+    c.plant.new.known.links.items c.plant.new.known.path.items) c.as_slice.ensures planted) in
+    let noted : IsKnown edges finals rows' c.note.new.known.rows.items
+    c.note.new.known.links.items c.note.new.known.path.items =
+    known_same edges finals rows' c.remember.new.known.rows.items c.note.new.known.rows.items
+    c.remember.new.known.links.items c.note.new.known.links.items
+    c.remember.new.known.path.items c.note.new.known.path.items
+    (ap (λ (z : Vec Row Global). z.items) c.note.ensures.rows)
+    (ap (λ (z : Vec Link Global). z.items) c.note.ensures.links)
+    (ap (λ (z : Vec ℕ Global). z.items) c.note.ensures.path) kept in (
       subst (λ (z : List Row). AreRows edges (seen ++ input ∷ []) z) (sym c.remember.ensures.same)
           (step_law edges seen input rows rows rows rows' last row last.states.items live refl refl
           (sym at) refl next grown),
-      subst (λ (z : List Row). IsKnown edges finals z c.remember.new.known.rows.items
-          c.remember.new.known.links.items c.remember.new.known.path.items)
-          (sym c.remember.ensures.same) kept,
+      subst (λ (z : List Row). IsKnown edges finals z c.note.new.known.rows.items
+          c.note.new.known.links.items c.note.new.known.path.items)
+          (sym c.remember.ensures.same) noted,
     )

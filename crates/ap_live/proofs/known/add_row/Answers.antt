@@ -8,4 +8,4 @@ returns-in-Some-clause-ok c = if_ok_more c.add_known.result _ _
     record { symbol = c.args.input.now; sensitive = c.args.sensitive } in
     h c.args.fst.now.edges c.args.fst.now.finals seen input live is
     (c.find.ensures c.args.fst.now.edges c.args.fst.now.finals c.args.rows.now c.in-Some.to
-    c.in-Some.is c.len.ensures is)) c.add_known.ensures.ok
+    c.in-Some.set c.in-Some.is c.len.ensures is)) c.add_known.ensures.ok

@@ -4,7 +4,7 @@ use Rattle.ap_live.proofs.KnownLaws.{follows}
 use Rattle.ap_live.proofs.known.find.Goals as goal
 
 pub returns : goal.returns
-returns c = λ edges finals rows to t n is.
+returns c = λ edges finals rows to set t n is.
     let pn : length c.args.known.now.path.items ≡ c.args.count =
     omega (arith, ap (length {A = ℕ}) c.as_slice.ensures.value, c.if-as_slice-count.false) in
     let at : slice_get c.args.known.now.path.items (length c.args.known.now.path.items - 1)
@@ -14,5 +14,5 @@ returns c = λ edges finals rows to t n is.
     let input : Input = record { symbol = c.args.input.now; sensitive = c.args.sensitive } in
     follows edges finals rows c.args.known.now.rows.items c.args.known.now.links.items
     c.args.known.now.path.items c.args.input.now c.args.sensitive c.args.count
-    c.in-Some.from.now to pn n at is
-    (c.linked.ensures to t)
+    c.in-Some.from.now to set pn n at is
+    (c.linked.ensures to set t)

@@ -1,6 +1,6 @@
 use Rattle.std.proofs.Common.{◌≡◌, ◌-◌, ap, ◌∙◌, sym, subst, arith, Some, List, ℕ, length, slice_get}
 use Rattle.ap_live.specs.Fitting.{Input}
-use Rattle.ap_live.specs.Rows.{IsNext}
+use Rattle.ap_live.specs.Rows.{IsNext, HasStates}
 use Rattle.ap_live.specs.declared.rows.Row.{Row}
 use Rattle.ap_live.proofs.KnownLaws.{last_known, end_there}
 use Rattle.ap_live.proofs.known.remember.Goals as goal
@@ -26,7 +26,9 @@ returns-clause-known c = λ edges finals before last row e at next is.
     ∙ c.in_ok-row.ensures kept c.in-Some-2.is in
     let ends : (kept ≡ row) × (slice_get rows (length path) ≡ Some kept) =
     end_there rows before path row kept e pn (sym there) in
-    c.keep.ensures edges finals rows last
-    (last_known edges finals rows before c.args.known.now.rows.items
-    c.args.known.now.links.items path last row c.in-Some.from.now e at pn from_at is)
-    ends.1 (subst (λ (z : Row). IsNext edges (Some input) last.states.items z) (sym ends.0) next) is
+    let k : HasStates c.args.known.now.rows.items c.in-Some.from.now last.states.items =
+    last_known edges finals rows before c.args.known.now.rows.items
+    c.args.known.now.links.items path last row c.in-Some.from.now e at pn from_at is in
+    c.keep.ensures edges finals rows k.row k.there ends.1
+    (subst (λ (z : List ℕ). IsNext edges (Some input) z kept) (sym k.same)
+    (subst (λ (z : Row). IsNext edges (Some input) last.states.items z) (sym ends.0) next)) is
