@@ -8,7 +8,7 @@ use crate::dictionary::{Entries, Entry, EntryPart, EntryParts, Side};
 use crate::expressions::read_expression;
 use crate::words::{texts, word_of};
 use ap_markup::{Names, Node, Part, child, fitted, is_named, is_text, name_of, value_of};
-use ap_symbol::{Memory, Sequence};
+use ap_symbol::{Memory, Sequence, Text};
 use std::alloc::Global;
 
 /// The expression that the text of an element is.
@@ -18,7 +18,10 @@ fn expression_part(alloc: Global, node: &Node) -> Result<Option<EntryPart>, Memo
     let text = texts(alloc, &node.parts)?;
     match read_expression(alloc, text.as_slice())? {
         None => Ok(None),
-        Some(expression) => Ok(Some(EntryPart::Expression(expression, text))),
+        Some(expression) => {
+            let text = Text::from_slice(alloc, text.as_slice())?;
+            Ok(Some(EntryPart::Expression(expression, text)))
+        }
     }
 }
 

@@ -6,7 +6,7 @@ ghost use Rattle.ap_dix.specs.Value.{pardef, pardefs, names_with};
 use crate::dictionary::{Pardef, Pardefs};
 use crate::entries::entries;
 use ap_markup::{Names, Node, Part, is_named, name_of};
-use ap_symbol::{Memory, Sequence};
+use ap_symbol::{Memory, Sequence, Text};
 use std::alloc::Global;
 
 fn pardef(alloc: Global, names: &Names, node: &Node) -> Result<Pardef, Memory>
@@ -14,7 +14,7 @@ fn pardef(alloc: Global, names: &Names, node: &Node) -> Result<Pardef, Memory>
         ≡ pardef names.now (tag_of node.now) (parts_of node.now.parts.items)) }
 {
     Ok(Pardef {
-        name: Sequence::from_vec(Vec::from_slice(alloc, name_of(node))?),
+        name: Text::from_slice(alloc, name_of(node))?,
         entries: entries(alloc, names, &node.parts)?,
     })
 }

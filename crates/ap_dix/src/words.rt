@@ -5,7 +5,7 @@ ghost use Rattle.ap_markup.specs.View.{parts_of, tag_of};
 ghost use Rattle.ap_dix.specs.WordText.{letter, letters, mark, tag_named, symbols, texts};
 
 use ap_markup::{Node, Part, is_named, name_of};
-use ap_symbol::{Memory, Sequence, Symbol, TagName, Text, Word, is_white};
+use ap_symbol::{Letters, Memory, Sequence, Symbol, TagName, Word, is_white};
 use std::alloc::Global;
 
 /// Appends what a character of a text is.
@@ -91,7 +91,7 @@ fn add_symbols(alloc: Global, word: &mut Word, parts: &[Part]) -> Result<(), Mem
 }
 
 /// Appends characters.
-fn add_characters(made: &mut Text, text: &[char]) -> Result<(), Memory>
+fn add_characters(made: &mut Letters, text: &[char]) -> Result<(), Memory>
     ensures { OnOk result (made.new ≡ made.old ++ text.now) }
 {
     'text: for c in text {
@@ -101,7 +101,7 @@ fn add_characters(made: &mut Text, text: &[char]) -> Result<(), Memory>
 }
 
 /// The characters of the texts among the parts, one after another.
-pub fn texts(alloc: Global, parts: &[Part]) -> Result<Text, Memory>
+pub fn texts(alloc: Global, parts: &[Part]) -> Result<Letters, Memory>
     ensures { IfOk result (λ made. made ≡ texts (parts_of parts.now)) }
 {
     let mut made = Sequence::new(alloc);
