@@ -73,19 +73,6 @@ impl Text {
         })
     }
 
-    /// The text of these characters, whose block it takes over where there are more than three.
-    pub fn from_vec(alloc: Global, characters: Vec<char>) -> Result<Text, Memory>
-        ensures { IfOk result (λ made. made ≡ characters.items) }
-    {
-        if characters.len() <= 3 {
-            return Text::from_slice(alloc, &characters);
-        }
-        Ok(Text {
-            kept: Kept::More(Rc::new(alloc, characters)?),
-            alloc,
-        })
-    }
-
     /// An equal text. What stands in a block is shared and not copied, so that no memory is taken
     /// today.
     pub fn copy(&self) -> Result<Text, Memory>
