@@ -125,13 +125,21 @@ pub fn entries(alloc: Global, names: &Names, parts: &[Part]) -> Result<Entries, 
     Ok(fitted(made))
 }
 
+/// How many of the parts are elements.
+fn elements_in(parts: &[Part]) -> usize {
+    parts
+        .iter()
+        .filter(|part| matches!(part, Part::Element(_)))
+        .count()
+}
+
 /// The entries among the parts, as `entries` makes them: each part is let go once its entry is
-/// made.
+/// made. Room for all entries is taken first.
 #[tactic(auto, using(crate::proofs::Taken::entries_run, crate::proofs::Taken::entries_yes, crate::proofs::Taken::entries_no), unfolding(crate::specs::Value::entries))]
 pub fn into_entries(alloc: Global, names: &Names, parts: Vec<Part>) -> Result<Entries, Memory>
     ensures { IfOk result (λ made. made ≡ entries names.now (parts_of parts.items)) }
 {
-    let mut made = Sequence::new(alloc);
+    let mut made = Sequence::from_vec(Vec::with_capacity(alloc, elements_in(&parts))?);
     'parts: for part in parts {
         match part {
             Part::Run(_, _) => {}
