@@ -16,9 +16,9 @@ use std::alloc::Global;
 /// dictionary take 32 MiB at most. Where a row would go beyond, it and later ones aren't kept.
 const MOST_BYTES: usize = 8 * 1_024 * 1_024;
 
-/// So many bytes a known row takes beside the room of its lists: it is 96 bytes itself, and its
-/// place among the rows, its head and its link are 80, in lists that may have room for as many
-/// again.
+/// So many bytes a known row takes beside the room of its lists: it is 96 bytes itself, its place
+/// among the rows and its link are 64, in lists that may have room for as many again, and where
+/// both are looked for takes 32.
 const ROW_BYTES: usize = 256;
 
 /// The places for links, and for sets, that there are at first. There are always twice as many as
