@@ -49,8 +49,8 @@ pub struct Link {
 /// `path` has the numbers of known rows with the states of the rows so far, as long as there are
 /// such. `places` has one more than the number of a link where its row and its symbol tell, and
 /// `sets` one more than the number of a row where its states tell, or 0: both are hints, which are
-/// checked when they are used. So many links are `placed`, and so many rows `listed`. `bytes` counts what all of it takes: the room of each known row's
-/// lists, and `ROW_BYTES` for each known row.
+/// checked when they are used. So many links are `placed`, and so many rows `listed`. `bytes`
+/// counts what all of it takes: the room of each known row's lists, and `ROW_BYTES` for each row.
 #[derive(Debug, Drop)]
 pub struct Known {
     pub rows: Vec<SharedRow>,
