@@ -8,6 +8,7 @@ ghost use Rattle.ap_chunk.specs.Tests.{row_of};
 
 use crate::categories::row;
 use crate::kept::{KeptRows, KeptWords};
+use ap_exec::Spare;
 use ap_rules::{Form, Rules};
 use ap_stream::{Item, Names, Unit};
 use ap_symbol::{Memory, Word, one_rendering};
@@ -24,7 +25,7 @@ pub(crate) enum Kind {
 }
 
 /// Room for a word and for the row that a unit is matched by, which is kept from item to item, and
-/// the names and words that were met before.
+/// the names and words that were met before; and words in whose room a rule makes others.
 #[derive(Drop)]
 pub(crate) struct Room {
     pub(crate) alloc: Global,
@@ -32,6 +33,7 @@ pub(crate) struct Room {
     pub(crate) words: KeptWords,
     pub(crate) word: Word,
     pub(crate) row: Vec<bool>,
+    pub(crate) spare: Spare,
 }
 
 impl Room {
@@ -43,6 +45,7 @@ impl Room {
             words: KeptWords::new(alloc),
             word: Word::new(alloc),
             row: Vec::new(alloc),
+            spare: Spare::new(alloc),
         }
     }
 }

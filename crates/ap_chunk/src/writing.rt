@@ -17,7 +17,7 @@ use crate::matches::{blanks_of, has_chunk, lent_of};
 use crate::parts::Room;
 use crate::search::Front;
 use crate::unmatched::write_unmatched;
-use ap_exec::{ExecRefusal, LentTemplate, Vars, act_lent, fill_lent};
+use ap_exec::{ExecRefusal, LentTemplate, Vars, act_lent, fill_lent, let_go};
 use ap_rules::Rules;
 use ap_stream::{LimitKind, Queue, Read, UNIT_MAX};
 use ap_symbol::{Bytes, Memory, Word};
@@ -45,7 +45,9 @@ fn run<'a>(
         (act_of (plain_rules rules.now) rule (matched_of rules.now.form reads.now) vars.old) }
 {
     let units = lent_of(alloc, rules.form, reads, words, room)?;
-    act_lent(alloc, rules, rule, has_chunk(rules.form), units, vars)
+    let chunk = has_chunk(rules.form);
+    let spare = &mut room.spare;
+    act_lent(alloc, rules, rule, chunk, units, vars, spare)
 }
 
 /// The text of a template, filled with the blanks of these items, in the room of `text`.
@@ -80,7 +82,9 @@ fn output(
         (rule_step rules.now rule vars.old reads.now) }
 {
     let template = run(alloc, rules, rule, reads, words, room, vars)?;
-    filled(alloc, &template, reads, text)
+    let made = filled(alloc, &template, reads, text);
+    let_go(template, &mut room.spare);
+    made
 }
 
 /// A step that a rule refuses.

@@ -8,11 +8,12 @@ ghost use Rattle.ap_exec.specs.declared.matched.Matched.{Matched};
 
 use crate::beginning::{action_of, positions_of, room_for, units_of, world_of};
 use crate::lending::own_template;
-use crate::lent::Lent;
+use crate::lent::{Lent, let_units_go};
 use crate::lent_template::LentTemplate;
 use crate::matched::Matched;
 use crate::refusal::ExecRefusal;
 use crate::running::run_body;
+use crate::spare::Spare;
 use crate::state::State;
 use crate::template::Template;
 use crate::vars::Vars;
@@ -37,6 +38,7 @@ fn run_rule<'a>(
     has_chunk: bool,
     units: Vec<Lent<'a>>,
     vars: &[Word],
+    spare: &mut Spare,
 ) -> Result<Given<'a>, ExecRefusal>
     ensures { (m : Matched) → units.entry.items ≡ units_in m.chunk m.units → has_chunk ≡ is_some m.chunk →
         Gives (λ g. record { pieces = g.pieces; vars = overlaid vars.now g.fresh.items })
@@ -51,19 +53,28 @@ fn run_rule<'a>(
         pieces: Sequence::new(alloc),
         room: SPAN_MAX,
     };
-    run_body(alloc, world, here, action_of(rules, rule), &mut state)?;
+    run_body(
+        alloc,
+        world,
+        here,
+        action_of(rules, rule),
+        &mut state,
+        spare,
+    )?;
     let State {
-        units: _,
+        units,
         fresh,
         pieces,
         room: _,
     } = state;
+    let_units_go(units, spare);
     Ok(Given { pieces, fresh })
 }
 
 /// What a rule does to a match, as `act` says it, where the units of the match by number are these
 /// lent ones: the chunk first, where there is one. The template keeps words of the match as they
-/// stand there.
+/// stand there. Words are made in the room of spare ones, and those that were put in place of
+/// others or written to are spare afterwards.
 pub fn act_lent<'a>(
     alloc: Global,
     rules: &Rules,
@@ -71,6 +82,7 @@ pub fn act_lent<'a>(
     has_chunk: bool,
     units: Vec<Lent<'a>>,
     vars: &mut Vars,
+    spare: &mut Spare,
 ) -> Result<LentTemplate<'a>, ExecRefusal>
     ensures gives { (m : Matched) → units.entry.items ≡ units_in m.chunk m.units →
         has_chunk ≡ is_some m.chunk →
@@ -78,9 +90,9 @@ pub fn act_lent<'a>(
         (act_of (plain_rules rules.now) rule m vars.old) }
     ensures refused { OnErr result (vars.new ≡ vars.old) }
 {
-    let given = run_rule(alloc, rules, rule, has_chunk, units, vars.as_slice())?;
+    let given = run_rule(alloc, rules, rule, has_chunk, units, vars.as_slice(), spare)?;
     let Given { pieces, fresh } = given;
-    vars.put(fresh);
+    vars.put(fresh, spare);
     Ok(pieces)
 }
 
@@ -106,9 +118,10 @@ pub fn act(
 {
     let units = units_of(alloc, matched)?;
     let chunk = matched.chunk.is_some();
-    let given = run_rule(alloc, rules, rule, chunk, units, vars.as_slice())?;
+    let mut kept = Spare::new(alloc);
+    let given = run_rule(alloc, rules, rule, chunk, units, vars.as_slice(), &mut kept)?;
     let Given { pieces, fresh } = given;
     let template = own_template(alloc, pieces.as_slice())?;
-    vars.put(fresh);
+    vars.put(fresh, &mut kept);
     Ok(template)
 }

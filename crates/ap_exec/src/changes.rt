@@ -12,15 +12,13 @@ use crate::clips::{number_at, part_at};
 use crate::lent_template::{AtomHeld, LentAtom, LentPiece, LentWord, PieceHeld};
 use crate::pieces::piece_of;
 use crate::refusal::ExecRefusal;
+use crate::spare::Spare;
 use crate::state::{State, View, World};
 use crate::values::{append as append_symbols, append_to, push_value, var_at};
 use crate::writing::write_part;
 use ap_rules::{Append, Clip, Let, ModifyCase, Out, Piece as StatedPiece, Place};
 use ap_symbol::{Memory, Word, case_of, recase};
 use std::alloc::Global;
-
-/// The symbols, and the bytes, of a value for which room is made at once.
-const VALUE_ROOM: usize = 8;
 
 /// What values are read from.
 pub(crate) fn view_of<'a, 'u>(
@@ -76,6 +74,7 @@ fn set_part(
     clip: &Clip,
     value: &Word,
     state: &mut State<'_>,
+    spare: &mut Spare,
 ) -> Result<(), Memory>
     ensures { OnOk result (now world.entry state.new
         ≡ with_part (still world.entry) here.now clip.now value.now (now world.entry state.old)) }
@@ -87,7 +86,15 @@ fn set_part(
                 return Ok(());
             }
             let unit = &mut state.units[n];
-            write_part(alloc, world.form, world.attributes, clip, value, unit)
+            write_part(
+                alloc,
+                world.form,
+                world.attributes,
+                clip,
+                value,
+                unit,
+                spare,
+            )
         }
     }
 }
@@ -100,12 +107,17 @@ fn set_place(
     place: &Place,
     value: Word,
     state: &mut State<'_>,
+    spare: &mut Spare,
 ) -> Result<(), Memory>
     ensures { OnOk result (now world.entry state.new
         ≡ with_place (still world.entry) here.now place.now value (now world.entry state.old)) }
 {
     match place {
-        Place::Clip(clip) => set_part(alloc, world, here, clip, &value, state),
+        Place::Clip(clip) => {
+            set_part(alloc, world, here, clip, &value, state, spare)?;
+            spare.put(value);
+            Ok(())
+        }
         Place::Var(var) => set_var(world, var.n, value, state),
     }
 }
@@ -114,6 +126,7 @@ fn set_place(
 fn recased_at(
     alloc: Global,
     view: &View<'_, '_>,
+    spare: &mut Spare,
     place: &Place,
     value: &Word,
 ) -> Result<Word, Memory>
@@ -123,9 +136,11 @@ fn recased_at(
         Place::Clip(clip) => part_at(&*view, clip.pos, clip.part, clip.side, clip.queue),
         Place::Var(var) => var_at(view.world.vars, view.fresh, var.n),
     };
-    let mut word = Word::new(alloc);
+    let mut word = spare.take(alloc)?;
     append_symbols(alloc, held, &mut word)?;
-    recase(alloc, &word, case_of(value))
+    let made = recase(alloc, &word, case_of(value))?;
+    spare.put(word);
+    Ok(made)
 }
 
 /// `let`: a place is set to a value.
@@ -135,14 +150,15 @@ pub(crate) fn assign(
     here: &[Option<usize>],
     held: &Let,
     state: &mut State<'_>,
+    spare: &mut Spare,
 ) -> Result<(), ExecRefusal>
     ensures { Gives (λ _. now world.entry state.new) result
         (run (still world.entry) (called (still world.entry) 0) here.now
         (assign held.now.place (plain_value held.now.value)) (now world.entry state.old)) }
 {
-    let mut value = Word::with_capacity(alloc, VALUE_ROOM, VALUE_ROOM)?;
+    let mut value = spare.take(alloc)?;
     push_value(alloc, &view_of(world, here, state), &held.value, &mut value)?;
-    set_place(alloc, world, here, &held.place, value, state)?;
+    set_place(alloc, world, here, &held.place, value, state, spare)?;
     Ok(())
 }
 
@@ -153,16 +169,18 @@ pub(crate) fn modify_case(
     here: &[Option<usize>],
     held: &ModifyCase,
     state: &mut State<'_>,
+    spare: &mut Spare,
 ) -> Result<(), ExecRefusal>
     ensures { Gives (λ _. now world.entry state.new) result
         (run (still world.entry) (called (still world.entry) 0) here.now
         (modify_case held.now.place (plain_value held.now.value)) (now world.entry state.old)) }
 {
-    let mut value = Word::new(alloc);
+    let mut value = spare.take(alloc)?;
     push_value(alloc, &view_of(world, here, state), &held.value, &mut value)?;
     let view = view_of(world, here, state);
-    let word = recased_at(alloc, &view, &held.place, &value)?;
-    set_place(alloc, world, here, &held.place, word, state)?;
+    let word = recased_at(alloc, &view, spare, &held.place, &value)?;
+    set_place(alloc, world, here, &held.place, word, state, spare)?;
+    spare.put(value);
     Ok(())
 }
 
@@ -173,12 +191,19 @@ pub(crate) fn append(
     here: &[Option<usize>],
     held: &Append,
     state: &mut State<'_>,
+    spare: &mut Spare,
 ) -> Result<(), ExecRefusal>
     ensures { Gives (λ _. now world.entry state.new) result
         (run (still world.entry) (called (still world.entry) 0) here.now
         (append held.now.n (plain_values held.now.values.items)) (now world.entry state.old)) }
 {
-    let word = append_to(alloc, &view_of(world, here, state), held.n, &held.values)?;
+    let word = append_to(
+        alloc,
+        &view_of(world, here, state),
+        spare,
+        held.n,
+        &held.values,
+    )?;
     set_var(world, held.n, word, state)?;
     Ok(())
 }
@@ -271,13 +296,14 @@ fn put_pieces(
     here: &[Option<usize>],
     pieces: &[StatedPiece],
     state: &mut State<'_>,
+    spare: &mut Spare,
 ) -> Result<(), ExecRefusal>
     ensures { Gives (λ _. now world.entry state.new) result
         (outs (still world.entry) here.now (map plain_piece pieces.now)
         (now world.entry state.old)) }
 {
     'pieces: for piece in pieces {
-        let made = piece_of(alloc, &view_of(world, here, state), piece)?;
+        let made = piece_of(alloc, &view_of(world, here, state), spare, piece)?;
         place(world, made, state)?;
     }
     Ok(())
@@ -290,10 +316,11 @@ pub(crate) fn put_out(
     here: &[Option<usize>],
     held: &Out,
     state: &mut State<'_>,
+    spare: &mut Spare,
 ) -> Result<(), ExecRefusal>
     ensures { Gives (λ _. now world.entry state.new) result
         (run (still world.entry) (called (still world.entry) 0) here.now
         (out (map plain_piece held.now.pieces.items)) (now world.entry state.old)) }
 {
-    put_pieces(alloc, world, here, &held.pieces, state)
+    put_pieces(alloc, world, here, &held.pieces, state, spare)
 }

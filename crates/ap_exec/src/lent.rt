@@ -1,9 +1,11 @@
 ghost use Rattle.std.specs.Prelude.{◌≡◌, ◌≤◌, length};
 ghost use Rattle.ap_exec.specs.Held.{word_in};
 
+use crate::spare::Spare;
 use ap_stream::Inner;
 use ap_symbol::Word;
 use std::marker::Model;
+use std::mem;
 use std::rc::Rc;
 
 /// A word of the match, or one that was made in its place.
@@ -22,6 +24,14 @@ impl<'a> Held<'a> {
             Held::Lent(word) => word,
             Held::Shared(word) => word,
             Held::Made(word) => word,
+        }
+    }
+
+    /// Lets the word go; one that was made is spare.
+    fn let_go(self, spare: &mut Spare) {
+        match self {
+            Held::Made(word) => spare.put(word),
+            Held::Lent(_) | Held::Shared(_) => {}
         }
     }
 }
@@ -101,17 +111,38 @@ impl<'a> Lent<'a> {
         self.content
     }
 
-    pub(crate) fn set_source(&mut self, word: Word)
+    pub(crate) fn set_source(&mut self, word: Word, spare: &mut Spare)
         ensures { self.new ≡ record self.old { source = word } }
     {
-        self.source = Held::Made(word);
+        let old = mem::replace(&mut self.source, Held::Made(word));
+        old.let_go(spare);
     }
 
-    pub(crate) fn set_target(&mut self, word: Word, border: usize)
+    pub(crate) fn set_target(&mut self, word: Word, border: usize, spare: &mut Spare)
         requires { border ≤ length word }
         ensures { self.new ≡ record self.old { target = word; border = border } }
     {
-        self.target = Held::Made(word);
+        let old = mem::replace(&mut self.target, Held::Made(word));
         self.border = border;
+        old.let_go(spare);
+    }
+
+    /// Lets the unit go; its words that were made are spare.
+    fn let_go(self, spare: &mut Spare) {
+        let Lent {
+            source,
+            target,
+            border: _,
+            content: _,
+        } = self;
+        source.let_go(spare);
+        target.let_go(spare);
+    }
+}
+
+/// Lets units go; their words that were made are spare.
+pub(crate) fn let_units_go(units: Vec<Lent<'_>>, spare: &mut Spare) {
+    for unit in units {
+        unit.let_go(spare);
     }
 }

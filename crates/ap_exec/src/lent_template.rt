@@ -6,6 +6,7 @@ ghost use Rattle.ap_exec.specs.Pieces.{first_word};
 ghost use Rattle.ap_exec.specs.declared.template.Atom.TheVariants as atom;
 ghost use Rattle.ap_exec.specs.declared.template.Piece.TheVariants as piece;
 
+use crate::spare::Spare;
 use ap_stream::{Names, Unit};
 use ap_symbol::{Memory, Sequence, Word};
 use std::alloc::Global;
@@ -114,6 +115,14 @@ impl<'a> LentWord<'a> {
             Wording::First(_, _) => false,
         }
     }
+
+    /// Lets the word go; one that was made is spare.
+    fn let_go(self, spare: &mut Spare) {
+        match self.held {
+            Wording::Made(word) => spare.put(word),
+            Wording::Lent(_) | Wording::First(_, _) => {}
+        }
+    }
 }
 
 #[derive(Debug, Drop)]
@@ -162,6 +171,13 @@ impl<'a> LentAtom<'a> {
             held: AtomHeld::Space,
         }
     }
+
+    fn let_go(self, spare: &mut Spare) {
+        match self.held {
+            AtomHeld::Unit(word) => word.let_go(spare),
+            AtomHeld::Slot | AtomHeld::Space => {}
+        }
+    }
 }
 
 /// The atoms of a chunk, in order.
@@ -204,7 +220,30 @@ impl<'a> LentPiece<'a> {
             held: PieceHeld::Chunk(name, atoms),
         }
     }
+
+    fn let_go(self, spare: &mut Spare) {
+        match self.held {
+            PieceHeld::Atom(atom) => atom.let_go(spare),
+            PieceHeld::Chunk(name, atoms) => {
+                name.let_go(spare);
+                let_atoms_go(atoms, spare);
+            }
+        }
+    }
+}
+
+fn let_atoms_go(atoms: LentAtoms<'_>, spare: &mut Spare) {
+    for atom in atoms.into_vec() {
+        atom.let_go(spare);
+    }
 }
 
 /// What a rule writes, before its slots are filled, which contracts see as a `Template`.
 pub type LentTemplate<'a> = Sequence<LentPiece<'a>>;
+
+/// Lets a template go; its words that were made are spare.
+pub fn let_go(template: LentTemplate<'_>, spare: &mut Spare) {
+    for piece in template.into_vec() {
+        piece.let_go(spare);
+    }
+}

@@ -11,6 +11,7 @@ ghost use Rattle.ap_exec.specs.States.{sight};
 use crate::clips::unit_at;
 use crate::lent_template::{LentAtom, LentAtoms, LentPiece, LentWord};
 use crate::refusal::ExecRefusal;
+use crate::spare::Spare;
 use crate::state::View;
 use crate::values::{append, push_values, var_at};
 use ap_rules::{Chunk, ChunkPiece, ClipPart, Lu, Piece as StatedPiece, Tag, Value, ValueChunk};
@@ -18,19 +19,19 @@ use ap_stream::Inner;
 use ap_symbol::{Memory, Sequence, Symbol, Word, case_of_symbols, recase};
 use std::alloc::Global;
 
-/// The symbols, and the bytes, of a word for which room is made at once.
-const WORD_ROOM: usize = 16;
-
-const BYTES_ROOM: usize = 64;
-
 /// The atoms of a chunk for which room is made at once.
 const ATOMS_ROOM: usize = 8;
 
 /// The word of a unit: its values in order.
-fn word_of(alloc: Global, view: &View<'_, '_>, values: &[Value]) -> Result<Word, ExecRefusal>
+fn word_of(
+    alloc: Global,
+    view: &View<'_, '_>,
+    spare: &mut Spare,
+    values: &[Value],
+) -> Result<Word, ExecRefusal>
     ensures { Gives (λ w. w) result (unit_of (sight view.now) (plain_values values.now)) }
 {
-    let mut word = Word::with_capacity(alloc, WORD_ROOM, BYTES_ROOM)?;
+    let mut word = spare.take(alloc)?;
     push_values(alloc, &*view, values, &mut word)?;
     Ok(word)
 }
@@ -51,6 +52,7 @@ fn join(alloc: Global, word: &Word, into: &mut Word) -> Result<(), Memory>
 fn push_units(
     alloc: Global,
     view: &View<'_, '_>,
+    spare: &mut Spare,
     units: &[Lu],
     into: &mut Word,
 ) -> Result<(), ExecRefusal>
@@ -59,20 +61,26 @@ fn push_units(
         (units_of (sight view.now) (map values_in units.now))) }
 {
     'units: for unit in units {
-        let word = word_of(alloc, &*view, &unit.values)?;
+        let word = word_of(alloc, &*view, spare, &unit.values)?;
         join(alloc, &word, into)?;
+        spare.put(word);
     }
     Ok(())
 }
 
 /// One word of several units.
 #[tactic(auto, using(crate::proofs::Compounds::all_joined_are))]
-fn compound_of(alloc: Global, view: &View<'_, '_>, units: &[Lu]) -> Result<Word, ExecRefusal>
+fn compound_of(
+    alloc: Global,
+    view: &View<'_, '_>,
+    spare: &mut Spare,
+    units: &[Lu],
+) -> Result<Word, ExecRefusal>
     ensures { Gives (λ w. w) result
         (seen compound (units_of (sight view.now) (map values_in units.now))) }
 {
-    let mut word = Word::new(alloc);
-    push_units(alloc, &*view, units, &mut word)?;
+    let mut word = spare.take(alloc)?;
+    push_units(alloc, &*view, spare, units, &mut word)?;
     Ok(word)
 }
 
@@ -96,6 +104,7 @@ fn room_for<'u>(alloc: Global, count: usize) -> Result<LentAtoms<'u>, Memory>
 fn chunk_piece_of<'u>(
     alloc: Global,
     view: &View<'_, 'u>,
+    spare: &mut Spare,
     piece: &ChunkPiece,
 ) -> Result<LentAtom<'u>, ExecRefusal>
     ensures { Gives (λ a. a) result
@@ -103,11 +112,11 @@ fn chunk_piece_of<'u>(
 {
     match piece {
         ChunkPiece::Lu(held) => {
-            let word = word_of(alloc, &*view, &held.values)?;
+            let word = word_of(alloc, &*view, spare, &held.values)?;
             Ok(LentAtom::unit(LentWord::made(word)))
         }
         ChunkPiece::Mlu(held) => {
-            let word = compound_of(alloc, &*view, &held.units)?;
+            let word = compound_of(alloc, &*view, spare, &held.units)?;
             Ok(LentAtom::unit(LentWord::made(word)))
         }
         ChunkPiece::B(space) => Ok(blank_atom(space.pos)),
@@ -117,6 +126,7 @@ fn chunk_piece_of<'u>(
 fn chunk_pieces_of<'u>(
     alloc: Global,
     view: &View<'_, 'u>,
+    spare: &mut Spare,
     pieces: &[ChunkPiece],
 ) -> Result<LentAtoms<'u>, ExecRefusal>
     ensures { Gives (λ a. a) result
@@ -124,7 +134,7 @@ fn chunk_pieces_of<'u>(
 {
     let mut made = room_for(alloc, pieces.len())?;
     'pieces: for piece in pieces {
-        made.push(chunk_piece_of(alloc, &*view, piece)?)?;
+        made.push(chunk_piece_of(alloc, &*view, spare, piece)?)?;
     }
     Ok(made)
 }
@@ -167,16 +177,23 @@ fn stated<'a>(view: &View<'a, '_>, name: &'a Option<Word>, from: Option<usize>) 
 }
 
 /// A chunk's name without its tags.
-fn name_of(alloc: Global, view: &View<'_, '_>, held: &Chunk) -> Result<Word, Memory>
+fn name_of(
+    alloc: Global,
+    view: &View<'_, '_>,
+    spare: &mut Spare,
+    held: &Chunk,
+) -> Result<Word, Memory>
     ensures { IfOk result (λ name. name ≡ name_of (sight view.now).vars (plain_chunk held.now)) }
 {
-    let mut name = Word::with_capacity(alloc, WORD_ROOM, BYTES_ROOM)?;
+    let mut name = spare.take(alloc)?;
     append(alloc, stated(&*view, &held.name, held.namefrom), &mut name)?;
     match held.case {
         None => Ok(name),
         Some(n) => {
             let case = case_of_symbols(var_at(view.world.vars, view.fresh, n));
-            recase(alloc, &name, case)
+            let made = recase(alloc, &name, case)?;
+            spare.put(name);
+            Ok(made)
         }
     }
 }
@@ -185,13 +202,14 @@ fn name_of(alloc: Global, view: &View<'_, '_>, held: &Chunk) -> Result<Word, Mem
 fn chunk_of<'u>(
     alloc: Global,
     view: &View<'_, 'u>,
+    spare: &mut Spare,
     held: &Chunk,
 ) -> Result<LentPiece<'u>, ExecRefusal>
     ensures { Gives (λ p. p) result (piece_of (sight view.now) (chunk (plain_chunk held.now))) }
 {
-    let mut name = name_of(alloc, &*view, held)?;
+    let mut name = name_of(alloc, &*view, spare, held)?;
     push_tags(alloc, &*view, &held.tags, &mut name)?;
-    let atoms = chunk_pieces_of(alloc, &*view, &held.pieces)?;
+    let atoms = chunk_pieces_of(alloc, &*view, spare, &held.pieces)?;
     Ok(LentPiece::chunk(LentWord::made(name), atoms))
 }
 
@@ -273,12 +291,13 @@ fn push_contents<'u>(
 fn value_chunk_of<'u>(
     alloc: Global,
     view: &View<'_, 'u>,
+    spare: &mut Spare,
     held: &ValueChunk,
 ) -> Result<LentPiece<'u>, ExecRefusal>
     ensures { Gives (λ p. p) result
         (piece_of (sight view.now) (value_chunk (plain_values held.now.values.items))) }
 {
-    let name = word_of(alloc, &*view, &held.values)?;
+    let name = word_of(alloc, &*view, spare, &held.values)?;
     let mut atoms = room_for(alloc, ATOMS_ROOM)?;
     push_contents(alloc, &*view, &held.values, &mut atoms)?;
     Ok(LentPiece::chunk(LentWord::made(name), atoms))
@@ -288,6 +307,7 @@ fn value_chunk_of<'u>(
 pub(crate) fn piece_of<'u>(
     alloc: Global,
     view: &View<'_, 'u>,
+    spare: &mut Spare,
     piece: &StatedPiece,
 ) -> Result<LentPiece<'u>, ExecRefusal>
     ensures { Gives (λ p. p) result (piece_of (sight view.now) (plain_piece piece.now)) }
@@ -295,14 +315,14 @@ pub(crate) fn piece_of<'u>(
     match piece {
         StatedPiece::B(space) => Ok(LentPiece::atom(blank_atom(space.pos))),
         StatedPiece::Lu(held) => {
-            let word = word_of(alloc, &*view, &held.values)?;
+            let word = word_of(alloc, &*view, spare, &held.values)?;
             Ok(LentPiece::atom(LentAtom::unit(LentWord::made(word))))
         }
         StatedPiece::Mlu(held) => {
-            let word = compound_of(alloc, &*view, &held.units)?;
+            let word = compound_of(alloc, &*view, spare, &held.units)?;
             Ok(LentPiece::atom(LentAtom::unit(LentWord::made(word))))
         }
-        StatedPiece::Chunk(held) => chunk_of(alloc, &*view, held),
-        StatedPiece::ValueChunk(held) => value_chunk_of(alloc, &*view, held),
+        StatedPiece::Chunk(held) => chunk_of(alloc, &*view, spare, held),
+        StatedPiece::ValueChunk(held) => value_chunk_of(alloc, &*view, spare, held),
     }
 }

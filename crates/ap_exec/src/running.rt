@@ -13,6 +13,7 @@ use crate::changes::{append, assign, modify_case, put_out};
 use crate::clips::number_at;
 use crate::conditions::holds;
 use crate::refusal::ExecRefusal;
+use crate::spare::Spare;
 use crate::stack::{Frame, Scope, Stack};
 use crate::state::{State, View, World};
 use ap_rules::{CallMacro, Choose, DefMacro, Statement, When};
@@ -157,6 +158,7 @@ fn run_statement<'a>(
     statement: &'a Statement,
     stack: &mut Stack<'a>,
     state: &mut State<'_>,
+    spare: &mut Spare,
 ) -> Result<(), ExecRefusal>
     requires { StandsOn stack.old scope }
     ensures leads { Leads result
@@ -171,10 +173,10 @@ fn run_statement<'a>(
 {
     let here = &stack.positions[scope.from..scope.to];
     match statement {
-        Statement::Let(held) => assign(alloc, world, here, held, state),
-        Statement::Append(held) => append(alloc, world, here, held, state),
-        Statement::Out(held) => put_out(alloc, world, here, held, state),
-        Statement::ModifyCase(held) => modify_case(alloc, world, here, held, state),
+        Statement::Let(held) => assign(alloc, world, here, held, state, spare),
+        Statement::Append(held) => append(alloc, world, here, held, state, spare),
+        Statement::Out(held) => put_out(alloc, world, here, held, state, spare),
+        Statement::ModifyCase(held) => modify_case(alloc, world, here, held, state, spare),
         Statement::Choose(held) => run_choose(alloc, world, scope, held, stack, state),
         Statement::CallMacro(held) => {
             run_call(world, scope, held, stack)?;
@@ -190,6 +192,7 @@ fn run_first<'a>(
     frame: Frame<'a>,
     stack: &mut Stack<'a>,
     state: &mut State<'_>,
+    spare: &mut Spare,
 ) -> Result<(), ExecRefusal>
     requires { StandsOn stack.old frame.scope }
     ensures leads { Leads result
@@ -205,7 +208,7 @@ fn run_first<'a>(
         None => Ok(()),
         Some((statement, more)) => {
             stack.push(more, frame.scope)?;
-            run_statement(alloc, world, frame.scope, statement, stack, state)
+            run_statement(alloc, world, frame.scope, statement, stack, state, spare)
         }
     }
 }
@@ -217,6 +220,7 @@ pub(crate) fn run_body<'a>(
     here: Vec<Option<usize>>,
     action: &'a [Statement],
     state: &mut State<'_>,
+    spare: &mut Spare,
 ) -> Result<(), ExecRefusal>
     ensures { Gives (λ _. now world.entry state.new) result
         (run_all (still world.entry) (called (still world.entry) (length world.entry.macros.now))
@@ -233,7 +237,7 @@ pub(crate) fn run_body<'a>(
     };
     stack.push(action, scope)?;
     'frames: while let Some(frame) = stack.frames.pop() {
-        run_first(alloc, world, frame, &mut stack, state)?;
+        run_first(alloc, world, frame, &mut stack, state, spare)?;
     }
     Ok(())
 }

@@ -13,6 +13,7 @@ ghost use Rattle.ap_exec.specs.Values.{sized, bounded, case_word, value_of, join
 use crate::clips::{case_at, clip_of, part_at};
 use crate::refusal::ExecRefusal;
 use crate::sizes::are_short;
+use crate::spare::Spare;
 use crate::state::View;
 use ap_rules::{Concat, GetCaseFrom, Value};
 use ap_stream::UNIT_MAX;
@@ -221,13 +222,14 @@ fn whole_bound(word: Word) -> Result<Word, ExecRefusal>
 pub(crate) fn append_to(
     alloc: Global,
     view: &View<'_, '_>,
+    spare: &mut Spare,
     n: usize,
     values: &[Value],
 ) -> Result<Word, ExecRefusal>
     ensures { Gives (λ w. w) result
         (appended (sight view.now) n (values_of (plain_values values.now))) }
 {
-    let mut word = Word::new(alloc);
+    let mut word = spare.take(alloc)?;
     append(alloc, var_at(view.world.vars, view.fresh, n), &mut word)?;
     push_values(alloc, &*view, values, &mut word)?;
     whole_bound(word)

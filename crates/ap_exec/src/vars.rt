@@ -3,10 +3,12 @@ ghost use Rattle.std.specs.Option.{option_copied};
 ghost use Rattle.ap_exec.specs.Starting.{start_of, with_new};
 ghost use Rattle.ap_exec.specs.States.{overlaid};
 
+use crate::spare::Spare;
 use ap_rules::Rules;
 use ap_symbol::{Memory, Word};
 use std::alloc::Global;
 use std::marker::Model;
+use std::mem;
 
 /// What the variables of rules hold, each by its number, counted from 0. It is seen as the list of
 /// their words.
@@ -24,24 +26,25 @@ impl Model for Vars {
     ghost view = { λ v. v.words.items };
 }
 
-/// Puts in a new value, where there is one.
-fn put_one(words: &mut Vec<Word>, at: usize, new: Option<Word>)
+/// Puts in a new value, where there is one. The old one is spare.
+fn put_one(words: &mut Vec<Word>, at: usize, new: Option<Word>, spare: &mut Spare)
     ensures { words.new.items ≡ with_new words.old.items at new }
 {
     if let Some(word) = new {
         if at < words.len() {
-            words[at] = word;
+            let old = mem::replace(&mut words[at], word);
+            spare.put(old);
         }
     }
 }
 
 /// Puts in new values, from the last one on.
-fn put_all(words: &mut Vec<Word>, fresh: Vec<Option<Word>>)
+fn put_all(words: &mut Vec<Word>, fresh: Vec<Option<Word>>, spare: &mut Spare)
     ensures { words.new.items ≡ overlaid words.old.items fresh.items }
 {
     let mut rest = fresh;
     'rest: while let Some(new) = rest.pop() {
-        put_one(words, rest.len(), new);
+        put_one(words, rest.len(), new, spare);
     }
 }
 
@@ -58,11 +61,11 @@ impl Vars {
         Ok(Vars { words })
     }
 
-    /// Gives variables their new values. It takes no memory.
-    pub(crate) fn put(&mut self, fresh: Vec<Option<Word>>)
+    /// Gives variables their new values; the old ones are spare.
+    pub(crate) fn put(&mut self, fresh: Vec<Option<Word>>, spare: &mut Spare)
         ensures { self.new ≡ overlaid self.old fresh.items }
     {
-        put_all(&mut self.words, fresh);
+        put_all(&mut self.words, fresh, spare);
     }
 
     /// The number of variables.

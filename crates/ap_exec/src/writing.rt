@@ -6,6 +6,7 @@ ghost use Rattle.ap_exec.specs.Writing.{spliced, moved, replaced, written, is_ke
 
 use crate::clips::{Range, side_in, span_of, word_on};
 use crate::lent::Lent;
+use crate::spare::Spare;
 use crate::values::append;
 use ap_rules::{Clip, ClipPart, DefAttr, Form, Side};
 use ap_symbol::{Memory, Word};
@@ -13,14 +14,19 @@ use std::alloc::Global;
 
 /// The word with a value in place of a range.
 #[tactic(auto, using(crate::proofs::Proper::proper_take, crate::proofs::Proper::proper_drop))]
-fn spliced(alloc: Global, range: Range, value: &Word, word: &Word) -> Result<Word, Memory>
+fn spliced(
+    alloc: Global,
+    spare: &mut Spare,
+    range: Range,
+    value: &Word,
+    word: &Word,
+) -> Result<Word, Memory>
     requires { range.start + range.count ≤ length word.now }
     ensures value { IfOk result (λ made. made ≡ spliced (span range) value.now word.now) }
     ensures grown { IfOk result (λ made. length made + range.count
         ≡ length word.now + length value.now) }
 {
-    let bytes = word.rendered().len().saturating_add(value.rendered().len());
-    let mut made = Word::with_capacity(alloc, word.len().saturating_add(value.len()), bytes)?;
+    let mut made = spare.take(alloc)?;
     let symbols = word.symbols();
     append(alloc, &symbols[..range.start], &mut made)?;
     append(alloc, value.symbols(), &mut made)?;
@@ -63,19 +69,20 @@ fn replace(
     range: Range,
     value: &Word,
     unit: &mut Lent<'_>,
+    spare: &mut Spare,
 ) -> Result<(), Memory>
     requires { range.start + range.count ≤ length (word_on side true unit.old) }
     ensures { OnOk result (unit.new ≡ replaced side (span range) value.now unit.old) }
 {
     match side {
         Side::Source => {
-            let made = spliced(alloc, range, value, unit.source())?;
-            unit.set_source(made);
+            let made = spliced(alloc, spare, range, value, unit.source())?;
+            unit.set_source(made, spare);
         }
         Side::Target => {
-            let made = spliced(alloc, range, value, unit.target())?;
+            let made = spliced(alloc, spare, range, value, unit.target())?;
             let border = moved(range, value, unit.border(), unit.target().len(), made.len());
-            unit.set_target(made, border);
+            unit.set_target(made, border, spare);
         }
     }
     Ok(())
@@ -89,6 +96,7 @@ pub(crate) fn write_part(
     clip: &Clip,
     value: &Word,
     unit: &mut Lent<'_>,
+    spare: &mut Spare,
 ) -> Result<(), Memory>
     ensures { OnOk result (unit.new ≡ written form attributes.now clip.now value.now unit.old) }
 {
@@ -97,5 +105,5 @@ pub(crate) fn write_part(
     if is_kept(clip.part, range.count) {
         return Ok(());
     }
-    replace(alloc, side, range, value, unit)
+    replace(alloc, side, range, value, unit, spare)
 }

@@ -17,7 +17,7 @@ returns c =
     let at = sight_of w here s in
     after_value _ (value_of at (plain_value c.args.held.now.value)) c.push_value.new.into
     (λ x. with_place w here place (recased_at at place x) s) _
-    (rw (← c.view_of.ensures) c.in_ok-push_value.ensures) c.new-value.ensures
+    (rw (← c.view_of.ensures) c.in_ok-push_value.ensures) c.in_ok-value.ensures
     (c.in_ok-set_place.ensures
     ∙ ap (λ (x : List Symbol). with_place w here place x s)
     (c.in_ok-word.ensures ∙ ap (λ (z : Sight). recased_at z place c.push_value.new.into)
