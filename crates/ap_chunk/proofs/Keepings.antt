@@ -8,7 +8,7 @@ use Rattle.ap_symbol.specs.declared.symbol.Symbol.{Symbol}
 use Rattle.ap_chunk.specs.Kept.{IsTold, IsKept, AreKept}
 use Rattle.ap_chunk.specs.declared.kept.KeptRow.{KeptRow}
 
-all_at : {X : Type 0} (P : X → Type 0) (xs : List X) (i : ℕ) (x : X) → i < length xs →
+pub all_at : {X : Type 0} (P : X → Type 0) (xs : List X) (i : ℕ) (x : X) → i < length xs →
     x ≡ get_or xs i x → AllByRecursion P xs → P x
 all_at P [] i x lt is all = absurd (omega arith)
 all_at P (y ∷ xs) zero x lt is all = subst P (sym is) all.0
@@ -18,6 +18,13 @@ all_on : {X : Type 0} (P : X → Type 0) (xs : List X) (x : X) → AllByRecursio
     AllByRecursion P (xs ++ x ∷ [])
 all_on P [] x all is = (is, tt)
 all_on P (y ∷ xs) x all is = (all.0, all_on P xs x all.1 is)
+
+-- one more, if there was memory for it
+pub all_pushed : {X T E : Type 0} (P : X → Type 0) (r : Result T E) (xs new : List X) (x : X) →
+    new ≡ (if is_ok r then xs ++ x ∷ [] else xs) → P x → AllByRecursion P xs →
+    AllByRecursion P new
+all_pushed P (Ok y) xs new x e is all = subst (AllByRecursion P) (sym e) (all_on P xs x all is)
+all_pushed P (Err y) xs new x e is all = subst (AllByRecursion P) (sym e) all
 
 -- one row more, if there was memory for it
 pub kept_pushed : {T E : Type 0} (r : Result T E) (given : List Symbol → List Bool)

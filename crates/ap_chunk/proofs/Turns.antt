@@ -14,10 +14,10 @@ use Rattle.ap_stream.specs.declared.item.Read.{Read}
 use Rattle.ap_stream.proofs.StepLaws.{fewer_left, fewer_bytes, all_pushed, bytes_append}
 use Rattle.ap_rules.specs.declared.rules.Rules.{Rules}
 use Rattle.ap_chunk.specs.Carrying.{Held}
-use Rattle.ap_chunk.specs.Kept.{AreKept}
+use Rattle.ap_chunk.specs.Kept.{AllKept}
 use Rattle.ap_chunk.specs.Searching.{IsKnown}
 use Rattle.ap_chunk.specs.Tests.{row_of}
-use Rattle.ap_chunk.specs.declared.kept.KeptRow.{KeptRow}
+use Rattle.ap_chunk.specs.declared.kept.Kept.{Kept}
 use Rattle.ap_chunk.specs.Stages.{span, chunk_step, chunked, dialect_of}
 use Rattle.ap_chunk.specs.Working.{Working, chunk_work, IsFirstStep, IsFirstPlace}
 use Rattle.ap_chunk.specs.declared.search.Search.{Search}
@@ -91,21 +91,21 @@ module _ (h : Working) (vars : Held) (some : 0 < length h.items) where
 
 -- An item more, or none for want of memory.
 
-abbrev pub IsWork : Rules → Search → List KeptRow → List Read → Type 0
-IsWork rules search rows items = AllByRecursion (IsRead (dialect_of rules.form)) items
-    × (IsKnown rules items search × AreKept (row_of rules) rows)
+abbrev pub IsWork : Rules → Search → Kept → List Read → Type 0
+IsWork rules search kept items = AllByRecursion (IsRead (dialect_of rules.form)) items
+    × (IsKnown rules items search × AllKept (row_of rules) kept)
 
 pub work_pushed : {T E : Type 0} (r : Result T E) (rules : Rules) (search : Search)
-    (rows : List KeptRow) (items new : List Read) (read : Read) → IsRead (dialect_of rules.form) read →
-    OnOk r (new ≡ items ++ read ∷ []) → OnErr r (new ≡ items) → IsWork rules search rows items →
-    IsWork rules search rows new
-work_pushed (Ok x) rules search rows items new read is ok err work =
-    subst (λ (z : List Read). IsWork rules search rows z) (sym ok) (
+    (kept : Kept) (items new : List Read) (read : Read) → IsRead (dialect_of rules.form) read →
+    OnOk r (new ≡ items ++ read ∷ []) → OnErr r (new ≡ items) → IsWork rules search kept items →
+    IsWork rules search kept new
+work_pushed (Ok x) rules search kept items new read is ok err work =
+    subst (λ (z : List Read). IsWork rules search kept z) (sym ok) (
       all_pushed (IsRead (dialect_of rules.form)) items read work.0 is,
       (known_more rules items (read ∷ []) search work.1.0, work.1.1),
     )
-work_pushed (Err x) rules search rows items new read is ok err work =
-    subst (λ (z : List Read). IsWork rules search rows z) (sym err) work
+work_pushed (Err x) rules search kept items new read is ok err work =
+    subst (λ (z : List Read). IsWork rules search kept z) (sym err) work
 
 pub bytes_on : {T E : Type 0} (r : Result T E) (items now new : List Read) (read : Read) →
     items ≡ now → OnOk r (new ≡ items ++ read ∷ []) →

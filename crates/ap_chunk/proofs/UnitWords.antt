@@ -6,7 +6,8 @@ use Rattle.ap_symbol.specs.Words.{AreProper}
 use Rattle.ap_symbol.specs.declared.symbol.Symbol.{Symbol}
 use Rattle.ap_stream.specs.UnitBytes.{IsAt}
 use Rattle.ap_stream.specs.PlainBytes.{IsRendered}
-use Rattle.ap_chunk.specs.Kept.{IsOf}
+use Rattle.ap_chunk.specs.Known.{IsOf, IsKeyed, IsWorded}
+use Rattle.ap_chunk.specs.declared.known.Known.{Known}
 use Rattle.ap_chunk.specs.Parts.{word_of}
 
 there : (words : List (List Symbol)) (at : ℕ) (word : List Symbol) →
@@ -37,13 +38,19 @@ word_stands words at bytes is = there words at is.word is.stands
 abbrev OneRendering : Type 0
 OneRendering = (a b : List Symbol) → AreProper a → AreProper b → rendering a ≡ rendering b → a ≡ b
 
--- what was found by the bytes of a word of a unit is that word
-pub found_word : OneRendering → {W E : Type 0} (seen : W → List Symbol)
-    (words : List (List Symbol)) (at : ℕ) (bytes : List ℕ) → IsRendered words at bytes →
-    (r : Result (Option W) E) → IfOk r (λ found. IfSome found (λ w. IsOf bytes (seen w))) →
-    IfOk r (λ found. IfSome found (λ w. seen w ≡ word_of at words))
-found_word law seen words at bytes is (Ok (Some w)) of =
-    law (seen w) is.word of.proper is.proper (sym of.bytes ∙ is.rendered)
+is_word : OneRendering → (words : List (List Symbol)) (at : ℕ) (bytes : List ℕ)
+    (word : List Symbol) → IsRendered words at bytes → IsOf bytes word → word ≡ word_of at words
+is_word law words at bytes word is of =
+    law word is.word of.proper is.proper (sym of.bytes ∙ is.rendered)
     ∙ there words at is.word is.stands
-found_word law seen words at bytes is (Ok None) of = tt
-found_word law seen words at bytes is (Err e) of = tt
+
+-- what was found by the bytes of a unit's words has these words
+pub found_unit : OneRendering → {W : Type 0} (seen : W → Known) (words : List (List Symbol))
+    (source target : List ℕ) → IsRendered words 0 source → IsRendered words 1 target →
+    (r : Option W) → IfSome r (λ w. IsKeyed source target (seen w)) →
+    IfSome r (λ w. IsWorded words (seen w))
+found_unit law seen words source target first second (Some w) keyed = record {
+  first = is_word law words 0 source (seen w).source first keyed.first;
+  second = is_word law words 1 target (seen w).target second keyed.second;
+}
+found_unit law seen words source target first second None keyed = tt

@@ -4,12 +4,9 @@ use Rattle.std.specs.List.{AllByRecursion}
 use Rattle.ap_symbol.specs.Rendering.{rendering}
 use Rattle.ap_symbol.specs.Words.{AreProper}
 use Rattle.ap_symbol.specs.declared.symbol.Symbol.{Symbol}
+use Rattle.ap_chunk.specs.Known.{AreRowed}
+use Rattle.ap_chunk.specs.declared.kept.Kept.{Kept}
 use Rattle.ap_chunk.specs.declared.kept.KeptRow.{KeptRow}
-
--- these are the word's bytes
-pub record IsOf (key : List ℕ) (word : List Symbol) : Type 0 where
-  pub bytes : key ≡ rendering word
-  pub proper : AreProper word
 
 -- each word with these bytes has this row; words with equal bytes are equal
 abbrev pub IsTold : (List Symbol → List Bool) → List ℕ → List Bool → Type 0
@@ -21,3 +18,8 @@ IsKept given kept = IsTold given kept.key.items kept.row.items
 
 abbrev pub AreKept : (List Symbol → List Bool) → List KeptRow → Type 0
 AreKept given rows = AllByRecursion (IsKept given) rows
+
+-- each row that is kept is the word's
+pub record AllKept (given : List Symbol → List Bool) (kept : Kept) : Type 0 where
+  pub rows : AreKept given kept.rows.rows.items
+  pub units : AreRowed given kept.units.units.items

@@ -6,7 +6,7 @@ ghost use Rattle.ap_exec.specs.Starting.{start_of};
 ghost use Rattle.ap_chunk.specs.Stages.{span, dialect_of};
 ghost use Rattle.ap_chunk.specs.Working.{chunk_work, IsFirstStep, IsFirstPlace, none_fits};
 
-use crate::kept::KeptRows;
+use crate::kept::Kept;
 use crate::search::Search;
 use crate::writing::{Written, first_step};
 use ap_exec::Vars;
@@ -29,7 +29,7 @@ pub struct ChunkWork {
     vars: Vars,
     items: Queue,
     search: Search,
-    rows: KeptRows,
+    kept: Kept,
     finished: bool,
     text: Bytes,
 }
@@ -48,7 +48,7 @@ impl Model for ChunkWork {
     ghost use Rattle.ap_stream.specs.Reading.{IsRead};
     ghost use Rattle.ap_chunk.specs.Stages.{dialect_of};
     ghost use Rattle.ap_chunk.specs.Searching.{IsKnown};
-    ghost use Rattle.ap_chunk.specs.Kept.{AreKept};
+    ghost use Rattle.ap_chunk.specs.Kept.{AllKept};
     ghost use Rattle.ap_chunk.specs.Tests.{row_of};
     ghost use Rattle.std.specs.Coded.{codes};
     ghost use Rattle.ap_rules.specs.contracts.statement.Statement as statement;
@@ -66,7 +66,7 @@ impl Model for ChunkWork {
     } };
 
     ghost invariant = { λ w. AllByRecursion (IsRead (dialect_of w.rules.form)) w.items
-        × (IsKnown w.rules w.items w.search × AreKept (row_of w.rules) w.rows.rows.items) };
+        × (IsKnown w.rules w.items w.search × AllKept (row_of w.rules) w.kept) };
 }
 
 impl ChunkWork {
@@ -89,7 +89,7 @@ impl ChunkWork {
             vars,
             items: Queue::new(alloc),
             search,
-            rows: KeptRows::new(alloc),
+            kept: Kept::new(alloc),
             finished: false,
             text: Bytes::new(alloc),
         })
@@ -157,7 +157,7 @@ impl ChunkWork {
         let reads = self.items.as_slice();
         match self
             .search
-            .look(&self.rules, reads, self.finished, &mut self.rows)?
+            .look(&self.rules, reads, self.finished, &mut self.kept)?
         {
             None => Ok(None),
             Some(front) => {
@@ -167,6 +167,7 @@ impl ChunkWork {
                     &self.rules,
                     &self.items,
                     front,
+                    &self.kept.units,
                     &mut self.search.room,
                     &mut self.vars,
                     text,

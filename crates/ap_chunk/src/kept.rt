@@ -1,16 +1,14 @@
-//! Words that were met before, and their rows. What is kept is a hint alone: what is found is
+//! Rows of words that were met before. What is kept is a hint alone: what is found is
 //! compared with the bytes of the word that is sought.
-ghost use Rattle.std.specs.Prelude.{◌≡◌, [], bytes_eq, List, Bool, true, IfOk, IfSome};
-ghost use Rattle.ap_symbol.specs.Rendering.{rendering};
-ghost use Rattle.ap_symbol.specs.Words.{AreProper};
+ghost use Rattle.std.specs.Prelude.{◌≡◌, [], bytes_eq, List, Bool, IfOk, IfSome};
 ghost use Rattle.ap_symbol.specs.declared.symbol.Symbol.{Symbol};
-ghost use Rattle.ap_chunk.specs.Kept.{IsOf, IsTold, IsKept, AreKept};
+ghost use Rattle.ap_chunk.specs.Kept.{IsTold, IsKept, AreKept};
 
+use crate::known::KnownUnits;
 use ap_symbol::{Memory, Word, one_rendering};
 use std::alloc::Global;
-use std::rc::Rc;
 
-/// The number of places for words, and for rows; so many are kept at most.
+/// The number of places; so many rows are kept at most.
 const PLACES: usize = 65536;
 
 /// No row has this number.
@@ -31,72 +29,6 @@ fn is_same(a: &[u8], b: &[u8]) -> bool
     ensures { result ≡ bytes_eq a.now b.now }
 {
     a == b
-}
-
-/// The words that were made last, each at a place that its bytes tell. A word that is found is
-/// shared, and takes no memory.
-#[derive(Drop)]
-pub(crate) struct KeptWords {
-    places: Vec<Option<Rc<Word>>>,
-}
-
-/// Whether these are the bytes of the word.
-fn is_word(word: &Word, key: &[u8]) -> bool
-    ensures bytes { result ≡ true → key.now ≡ rendering word.now }
-    ensures proper { AreProper word.now }
-{
-    let _ = word.symbols();
-    is_same(word.rendered(), key)
-}
-
-impl KeptWords {
-    /// No words, which takes no memory.
-    pub(crate) fn new(alloc: Global) -> KeptWords {
-        KeptWords {
-            places: Vec::new(alloc),
-        }
-    }
-
-    /// The kept word with these bytes.
-    pub(crate) fn find(&self, key: &[u8]) -> Result<Option<Rc<Word>>, Memory>
-        ensures { IfOk result (λ found. IfSome found (λ word. IsOf key.now word.value)) }
-    {
-        match self.places.get(place_of(key)) {
-            None => Ok(None),
-            Some(None) => Ok(None),
-            Some(Some(word)) => {
-                if is_word(word, key) {
-                    return Ok(Some(word.clone()?));
-                }
-                Ok(None)
-            }
-        }
-    }
-
-    /// Makes the places, where there are none.
-    fn set_out(&mut self) -> Result<(), Memory> {
-        if self.places.is_empty() {
-            for _ in 0..PLACES {
-                self.places.push(None)?;
-            }
-        }
-        Ok(())
-    }
-
-    /// Keeps a word at its place.
-    fn put(&mut self, word: &Rc<Word>) -> Result<(), Memory> {
-        self.set_out()?;
-        let at = place_of(word.rendered());
-        if at < self.places.len() {
-            self.places[at] = Some(word.clone()?);
-        }
-        Ok(())
-    }
-
-    /// Keeps a word, if there is memory for it.
-    pub(crate) fn keep(&mut self, word: &Rc<Word>) {
-        let _ = self.put(word);
-    }
 }
 
 /// The bytes of a word, and its row.
@@ -134,7 +66,7 @@ fn copy_of_key(alloc: Global, key: &[u8]) -> Result<Vec<u8>, Memory>
     Ok(Vec::from_slice(alloc, key)?)
 }
 
-fn copy_of_row(alloc: Global, row: &[bool]) -> Result<Vec<bool>, Memory>
+pub(crate) fn copy_of_row(alloc: Global, row: &[bool]) -> Result<Vec<bool>, Memory>
     ensures { IfOk result (λ copy. copy.items ≡ row.now) }
 {
     Ok(Vec::from_slice(alloc, row)?)
@@ -224,5 +156,25 @@ impl KeptRows {
         let _ = word.symbols();
         one_rendering();
         let _ = self.keep_copy(alloc, word.rendered(), row);
+    }
+}
+
+/// What is kept of the items that were met: the rows of names of chunks, and the units of transfer.
+#[derive(Drop)]
+pub(crate) struct Kept {
+    pub(crate) rows: KeptRows,
+    pub(crate) units: KnownUnits,
+}
+
+impl Kept {
+    /// Nothing is kept yet, which takes no memory.
+    pub(crate) fn new(alloc: Global) -> Kept
+        ensures rows { result.rows.rows.items ≡ [] }
+        ensures units { result.units.units.items ≡ [] }
+    {
+        Kept {
+            rows: KeptRows::new(alloc),
+            units: KnownUnits::new(alloc),
+        }
     }
 }

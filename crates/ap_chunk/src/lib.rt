@@ -9,6 +9,7 @@ mod chunks;
 mod interchunk;
 mod keeping;
 mod kept;
+mod known;
 mod laws;
 mod matches;
 mod parts;

@@ -7,7 +7,8 @@ ghost use Rattle.ap_exec.specs.Held.{word_in};
 ghost use Rattle.ap_chunk.specs.Chunks.{first_words};
 ghost use Rattle.ap_chunk.specs.Matches.{translated, worded, named, item_name, first_name, matched_item, matched_items, shown_items, shown_word, matched_of, inner_blanks, item_blanks, blanks_of};
 
-use crate::parts::{Room, shared_at};
+use crate::known::KnownUnits;
+use crate::parts::{Room, word_at};
 use ap_exec::{Blanks, Held, Lent};
 use ap_rules::Form;
 use ap_stream::{Blank, Chunk, Inner, Item, Read, Unit};
@@ -33,20 +34,35 @@ fn named<'a>(alloc: Global, chunk: &'a Chunk) -> Lent<'a>
     lone(alloc, &chunk.name, chunk.content.as_slice())
 }
 
-/// A unit of transfer, as a rule is run on it.
-fn translated<'a>(unit: &Unit, room: &mut Room) -> Result<Lent<'a>, Memory>
+/// A unit that isn't kept, as a rule is run on it.
+fn made<'a>(unit: &Unit, room: &mut Room) -> Result<Lent<'a>, Memory>
     ensures { IfOk result (λ made. made ≡ shown (translated unit.now)) }
 {
-    let source = shared_at(unit, 0, room)?;
-    let head = shared_at(unit, 1, room)?;
+    let source = word_at(unit, 0, room)?;
+    let head = word_at(unit, 1, room)?;
     let border = head.len();
-    Ok(Lent::new(Held::Shared(source), Held::Shared(head), border, &[]))
+    Ok(Lent::new(Held::Made(source), Held::Made(head), border, &[]))
+}
+
+/// A unit of transfer, as a rule is run on it. The words of a kept one are lent.
+fn translated<'a>(unit: &Unit, units: &'a KnownUnits, room: &mut Room) -> Result<Lent<'a>, Memory>
+    ensures { IfOk result (λ made. made ≡ shown (translated unit.now)) }
+{
+    match units.known(unit) {
+        None => made(unit, room),
+        Some(known) => {
+            let source = Held::Lent(&known.source);
+            let border = known.target.len();
+            Ok(Lent::new(source, Held::Lent(&known.target), border, &[]))
+        }
+    }
 }
 
 /// Appends what an item gives to a rule.
 fn push_matched<'a>(
     alloc: Global,
     item: &'a Item,
+    units: &'a KnownUnits,
     room: &mut Room,
     into: &mut Vec<Lent<'a>>,
 ) -> Result<(), Memory>
@@ -55,7 +71,7 @@ fn push_matched<'a>(
     match item {
         Item::Plain(_) | Item::Blank(_) => Ok(()),
         Item::Unit(unit) => {
-            into.push(translated(unit, room)?)?;
+            into.push(translated(unit, units, room)?)?;
             Ok(())
         }
         Item::Chunk(chunk) => {
@@ -69,24 +85,30 @@ fn push_matched<'a>(
 fn push_items<'a>(
     alloc: Global,
     reads: &'a [Read],
+    units: &'a KnownUnits,
     room: &mut Room,
     into: &mut Vec<Lent<'a>>,
 ) -> Result<(), Memory>
     ensures { OnOk result (into.new.items ≡ into.old.items ++ shown_items reads.now) }
 {
     for read in reads {
-        push_matched(alloc, &read.item, room, into)?;
+        push_matched(alloc, &read.item, units, room, into)?;
     }
     Ok(())
 }
 
 /// The units of transfer or interchunk that a rule is run on, where these items are the match.
-fn units_of<'a>(alloc: Global, reads: &'a [Read], room: &mut Room) -> Result<Vec<Lent<'a>>, Memory>
+fn units_of<'a>(
+    alloc: Global,
+    reads: &'a [Read],
+    units: &'a KnownUnits,
+    room: &mut Room,
+) -> Result<Vec<Lent<'a>>, Memory>
     ensures { IfOk result (λ made. made.items ≡ map shown (matched_items reads.now)) }
 {
-    let mut units = Vec::with_capacity(alloc, reads.len())?;
-    push_items(alloc, reads, room, &mut units)?;
-    Ok(units)
+    let mut made = Vec::with_capacity(alloc, reads.len())?;
+    push_items(alloc, reads, units, room, &mut made)?;
+    Ok(made)
 }
 
 /// A word of a chunk in postchunk, as a rule is run on it.
@@ -167,6 +189,7 @@ pub(crate) fn lent_of<'a>(
     form: Form,
     reads: &'a [Read],
     words: &'a [Word],
+    units: &'a KnownUnits,
     room: &mut Room,
 ) -> Result<Vec<Lent<'a>>, Memory>
     requires { words.now ≡ first_words form reads.now }
@@ -174,7 +197,7 @@ pub(crate) fn lent_of<'a>(
         ≡ units_in (matched_of form reads.now).chunk (matched_of form reads.now).units) }
 {
     match form {
-        Form::Transfer | Form::Interchunk => units_of(alloc, reads, room),
+        Form::Transfer | Form::Interchunk => units_of(alloc, reads, units, room),
         Form::Postchunk => words_of(alloc, reads, words),
     }
 }

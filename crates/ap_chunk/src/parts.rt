@@ -1,19 +1,20 @@
 //! What items are in a match.
-ghost use Rattle.std.specs.Prelude.{◌≡◌, List, Bool, true, Ok, IfOk, IfSome, OnOk};
+ghost use Rattle.std.specs.Prelude.{◌≡◌, List, Bool, true, Ok, IfOk, OnOk};
 ghost use Rattle.ap_symbol.specs.declared.symbol.Symbol.{Symbol};
-ghost use Rattle.ap_chunk.specs.Kept.{IsTold, AreKept};
+ghost use Rattle.ap_chunk.specs.Kept.{IsTold, AreKept, AllKept};
+ghost use Rattle.ap_chunk.specs.Known.{AreRowed};
 ghost use Rattle.ap_chunk.specs.Parts.{word_of, part_of, unit_part, chunk_part};
 ghost use Rattle.ap_chunk.specs.Searching.{IsKind};
 ghost use Rattle.ap_chunk.specs.Tests.{row_of};
 
 use crate::categories::row;
-use crate::kept::{KeptRows, KeptWords};
+use crate::kept::{Kept, KeptRows, copy_of_row};
+use crate::known::{Known, KnownUnits};
 use ap_exec::Spare;
 use ap_rules::{Form, Rules};
 use ap_stream::{Item, Names, Unit};
-use ap_symbol::{Memory, Word, one_rendering};
+use ap_symbol::{Memory, Word};
 use std::alloc::Global;
-use std::rc::Rc;
 
 /// What an item is in a match: a unit, whose row tells its categories, a blank, or what no match
 /// holds.
@@ -25,12 +26,11 @@ pub(crate) enum Kind {
 }
 
 /// Room for a word and for the row that a unit is matched by, which is kept from item to item, and
-/// the names and words that were met before; and words in whose room a rule makes others.
+/// the names that were met before; and words in whose room a rule makes others.
 #[derive(Drop)]
 pub(crate) struct Room {
     pub(crate) alloc: Global,
     pub(crate) names: Names,
-    pub(crate) words: KeptWords,
     pub(crate) word: Word,
     pub(crate) row: Vec<bool>,
     pub(crate) spare: Spare,
@@ -42,7 +42,6 @@ impl Room {
         Room {
             alloc,
             names: Names::new(alloc),
-            words: KeptWords::new(alloc),
             word: Word::new(alloc),
             row: Vec::new(alloc),
             spare: Spare::new(alloc),
@@ -66,36 +65,13 @@ pub(crate) fn put_word(
     Ok(())
 }
 
-/// The kept word at a place of a unit.
-fn kept_at(unit: &Unit, at: usize, words: &KeptWords) -> Result<Option<Rc<Word>>, Memory>
-    ensures { IfOk result (λ found. IfSome found (λ word. word.value ≡ word_of at unit.now)) }
-{
-    one_rendering();
-    match unit.bytes_at(at) {
-        None => Ok(None),
-        Some(bytes) => words.find(bytes),
-    }
-}
-
-/// The word at a place of a unit, newly made and kept; the empty one where there is none.
-fn made_at(unit: &Unit, at: usize, room: &mut Room) -> Result<Rc<Word>, Memory>
-    ensures { IfOk result (λ word. word.value ≡ word_of at unit.now) }
+/// The word at a place of a unit, newly made; the empty one where there is none.
+pub(crate) fn word_at(unit: &Unit, at: usize, room: &mut Room) -> Result<Word, Memory>
+    ensures word { IfOk result (λ word. word ≡ word_of at unit.now) }
+    ensures row { room.new.row ≡ room.old.row }
 {
     put_word(unit, &mut room.names, at, &mut room.word)?;
-    let shared = Rc::new(room.alloc, room.word.copy(room.alloc)?)?;
-    room.words.keep(&shared);
-    Ok(shared)
-}
-
-/// The word at a place of a unit, shared with those that are kept; the empty one where there is
-/// none.
-pub(crate) fn shared_at(unit: &Unit, at: usize, room: &mut Room) -> Result<Rc<Word>, Memory>
-    ensures { IfOk result (λ word. word.value ≡ word_of at unit.now) }
-{
-    match kept_at(unit, at, &room.words)? {
-        Some(word) => Ok(word),
-        None => made_at(unit, at, room),
-    }
+    room.word.copy(room.alloc)
 }
 
 /// Puts the row of the word with these bytes into `row`, if it is kept, and answers whether it is.
@@ -150,49 +126,75 @@ fn put_row(
 }
 
 /// Puts the row of the first word of a unit into `row`, if it is kept, and answers whether it is.
-fn recall_first(rows: &KeptRows, unit: &Unit, row: &mut Vec<bool>) -> Result<bool, Memory>
-    ensures { (given : List Symbol → List Bool) → AreKept given rows.now.rows.items →
+fn recall_first(units: &KnownUnits, unit: &Unit, row: &mut Vec<bool>) -> Result<bool, Memory>
+    ensures { (given : List Symbol → List Bool) → AreRowed given units.now.units.items →
         result ≡ Ok true → row.new.items ≡ given (word_of 0 unit.now) }
 {
-    match unit.bytes_at(0) {
+    match units.known(unit) {
         None => Ok(false),
-        Some(bytes) => recall(rows, bytes, row),
+        Some(known) => {
+            row.clear();
+            row.extend_from_slice(known.row.as_slice())?;
+            Ok(true)
+        }
     }
+}
+
+/// Keeps a unit with this source, which has this row. The room is used for its target.
+fn keep_unit(
+    unit: &Unit,
+    source: Word,
+    units: &mut KnownUnits,
+    room: &mut Room,
+) -> Result<(), Memory>
+    ensures units { (given : List Symbol → List Bool) → room.old.row.items ≡ given source →
+        AreRowed given units.old.units.items → AreRowed given units.new.units.items }
+    ensures row { room.new.row ≡ room.old.row }
+{
+    let target = word_at(unit, 1, room)?;
+    let row = copy_of_row(room.alloc, room.row.as_slice())?;
+    units.keep(Known {
+        source,
+        target,
+        row,
+    })
 }
 
 /// Puts the row of the first word of a unit into the room.
 fn put_first_row(
     rules: &Rules,
     unit: &Unit,
-    rows: &mut KeptRows,
+    units: &mut KnownUnits,
     room: &mut Room,
 ) -> Result<(), Memory>
-    requires { AreKept (row_of rules.now) rows.old.rows.items }
+    requires { AreRowed (row_of rules.now) units.old.units.items }
     ensures row { OnOk result (room.new.row.items ≡ row_of rules.now (word_of 0 unit.now)) }
-    ensures rows { AreKept (row_of rules.now) rows.new.rows.items }
+    ensures units { AreRowed (row_of rules.now) units.new.units.items }
 {
-    if recall_first(rows, unit, &mut room.row)? {
+    if recall_first(units, unit, &mut room.row)? {
         return Ok(());
     }
-    let word = shared_at(unit, 0, room)?;
-    put_new_row(rules, &word, rows, &mut room.row, room.alloc)
+    let source = word_at(unit, 0, room)?;
+    row(rules, source.symbols(), &mut room.row)?;
+    let _ = keep_unit(unit, source, units, room);
+    Ok(())
 }
 
 /// A unit of transfer is matched by its first word.
 fn look_at_unit(
     rules: &Rules,
     unit: &Unit,
-    rows: &mut KeptRows,
+    kept: &mut Kept,
     room: &mut Room,
 ) -> Result<Kind, Memory>
-    requires { AreKept (row_of rules.now) rows.old.rows.items }
+    requires { AllKept (row_of rules.now) kept.old }
     ensures kind { IfOk result
         (λ kind. IsKind kind room.new.row.items (unit_part rules.now rules.now.form unit.now)) }
-    ensures rows { AreKept (row_of rules.now) rows.new.rows.items }
+    ensures kept { AllKept (row_of rules.now) kept.new }
 {
     match rules.form {
         Form::Transfer => {
-            put_first_row(rules, unit, rows, room)?;
+            put_first_row(rules, unit, &mut kept.units, room)?;
             Ok(Kind::Unit)
         }
         Form::Interchunk | Form::Postchunk => Ok(Kind::Other),
@@ -203,18 +205,18 @@ fn look_at_unit(
 fn look_at_chunk(
     rules: &Rules,
     name: &Word,
-    rows: &mut KeptRows,
+    kept: &mut Kept,
     room: &mut Room,
 ) -> Result<Kind, Memory>
-    requires { AreKept (row_of rules.now) rows.old.rows.items }
+    requires { AllKept (row_of rules.now) kept.old }
     ensures kind { IfOk result
         (λ kind. IsKind kind room.new.row.items (chunk_part rules.now rules.now.form name.now)) }
-    ensures rows { AreKept (row_of rules.now) rows.new.rows.items }
+    ensures kept { AllKept (row_of rules.now) kept.new }
 {
     match rules.form {
         Form::Transfer => Ok(Kind::Other),
         Form::Interchunk | Form::Postchunk => {
-            put_row(rules, name, rows, &mut room.row, room.alloc)?;
+            put_row(rules, name, &mut kept.rows, &mut room.row, room.alloc)?;
             Ok(Kind::Unit)
         }
     }
@@ -224,18 +226,18 @@ fn look_at_chunk(
 pub(crate) fn look(
     rules: &Rules,
     item: &Item,
-    rows: &mut KeptRows,
+    kept: &mut Kept,
     room: &mut Room,
 ) -> Result<Kind, Memory>
-    requires { AreKept (row_of rules.now) rows.old.rows.items }
+    requires { AllKept (row_of rules.now) kept.old }
     ensures kind { IfOk result
         (λ kind. IsKind kind room.new.row.items (part_of rules.now item.now)) }
-    ensures rows { AreKept (row_of rules.now) rows.new.rows.items }
+    ensures kept { AllKept (row_of rules.now) kept.new }
 {
     match item {
         Item::Plain(_) => Ok(Kind::Other),
         Item::Blank(_) => Ok(Kind::Blank),
-        Item::Unit(unit) => look_at_unit(rules, unit, rows, room),
-        Item::Chunk(chunk) => look_at_chunk(rules, &chunk.name, rows, room),
+        Item::Unit(unit) => look_at_unit(rules, unit, kept, room),
+        Item::Chunk(chunk) => look_at_chunk(rules, &chunk.name, kept, room),
     }
 }

@@ -3,7 +3,7 @@ ghost use Rattle.std.specs.Prelude.{◌≡◌, ◌≢◌, ◌⊎◌, ◌+◌, �
 ghost use Rattle.ap_rules.specs.declared.rules.Rules.{Rules};
 ghost use Rattle.ap_stream.specs.declared.item.Read.{Read};
 ghost use Rattle.ap_chunk.specs.Choice.{unit_of};
-ghost use Rattle.ap_chunk.specs.Kept.{AreKept};
+ghost use Rattle.ap_chunk.specs.Kept.{AllKept};
 ghost use Rattle.ap_chunk.specs.Live.{SomeLive};
 ghost use Rattle.ap_chunk.specs.Parts.{Part, unit, gap, wall, parts_of};
 ghost use Rattle.ap_chunk.specs.Patterns.{patterns_of};
@@ -13,7 +13,7 @@ ghost use Rattle.ap_chunk.specs.Searching.{IsNext, IsWalk, IsLiveWalk, IsEnd, Is
 
 use crate::choice::Choice;
 use crate::choosing::Choosing;
-use crate::kept::KeptRows;
+use crate::kept::Kept;
 use crate::parts::{Kind, Room, look};
 use ap_rules::Rules;
 use ap_stream::Read;
@@ -126,19 +126,19 @@ impl Walk {
         &mut self,
         rules: &Rules,
         reads: &[Read],
-        rows: &mut KeptRows,
+        kept: &mut Kept,
         room: &mut Room,
     ) -> Result<bool, Memory>
-        requires rows { AreKept (row_of rules.now) rows.old.rows.items }
+        requires kept { AllKept (row_of rules.now) kept.old }
         requires walk { IsLiveWalk (parts_of rules.now reads.now) self.old }
         requires more { self.old.seen < length reads.now }
         ensures patterns { self.new.choosing.patterns ≡ self.old.choosing.patterns }
         ensures on { result ≡ Ok true → IsWalk (parts_of rules.now reads.now) self.new }
         ensures further { result ≡ Ok true → self.new.seen ≡ self.old.seen + 1 }
         ensures ends { result ≡ Ok false → IsEnd false (parts_of rules.now reads.now) self.new }
-        ensures rows { AreKept (row_of rules.now) rows.new.rows.items }
+        ensures kept { AllKept (row_of rules.now) kept.new }
     {
-        match look(rules, &reads[self.seen].item, rows, room)? {
+        match look(rules, &reads[self.seen].item, kept, room)? {
             Kind::Other => Ok(false),
             Kind::Blank => Ok(self.step_blank()),
             Kind::Unit => self.step_unit(room.row.as_slice()),
@@ -161,22 +161,22 @@ impl Walk {
         &mut self,
         rules: &Rules,
         reads: &[Read],
-        rows: &mut KeptRows,
+        kept: &mut Kept,
         room: &mut Room,
     ) -> Result<bool, Memory>
         requires walk { IsWalk (parts_of rules.now reads.now) self.old }
-        requires rows { AreKept (row_of rules.now) rows.old.rows.items }
+        requires kept { AllKept (row_of rules.now) kept.old }
         ensures patterns { self.new.choosing.patterns ≡ self.old.choosing.patterns }
         ensures ends { result ≡ Ok true → IsEnd false (parts_of rules.now reads.now) self.new }
         ensures all { result ≡ Ok false → IsWalk (parts_of rules.now reads.now) self.new }
         ensures at { result ≡ Ok false → self.new.seen ≡ length reads.now }
-        ensures rows { AreKept (row_of rules.now) rows.new.rows.items }
+        ensures kept { AllKept (row_of rules.now) kept.new }
     {
         while self.is_live() {
             if self.seen == reads.len() {
                 return Ok(false);
             }
-            let on = self.step(rules, reads, rows, room)?;
+            let on = self.step(rules, reads, kept, room)?;
             if !on {
                 return Ok(true);
             }
@@ -234,20 +234,20 @@ impl Search {
         rules: &Rules,
         reads: &[Read],
         finished: bool,
-        rows: &mut KeptRows,
+        kept: &mut Kept,
     ) -> Result<Option<Front>, Memory>
         requires known { IsKnown rules.now reads.now self.old }
-        requires rows { AreKept (row_of rules.now) rows.old.rows.items }
+        requires kept { AllKept (row_of rules.now) kept.old }
         ensures known { IsKnown rules.now reads.now self.new }
         ensures found { IfOk result (λ look. IfSome look (IsFront finished rules.now reads.now)) }
         ensures waits { result ≡ Ok None → finished ≡ false }
         ensures all { result ≡ Ok None → span rules.now reads.now ≡ length reads.now }
         ensures grows { result ≡ Ok None → (xs : List Read) →
             length reads.now ≤ span rules.now (reads.now ++ xs) }
-        ensures rows { AreKept (row_of rules.now) rows.new.rows.items }
+        ensures kept { AllKept (row_of rules.now) kept.new }
     {
         self.set_out();
-        let ends = self.walk.step_on(rules, reads, rows, &mut self.room)?;
+        let ends = self.walk.step_on(rules, reads, kept, &mut self.room)?;
         if !ends && !finished {
             self.lost = false;
             return Ok(None);

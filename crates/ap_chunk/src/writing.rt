@@ -13,6 +13,7 @@ ghost use Rattle.ap_chunk.specs.Working.{meant, Gave, IsRefused};
 ghost use Rattle.ap_chunk.specs.Searching.{IsTaken, IsFront};
 
 use crate::chunks::{first_words, is_overfull};
+use crate::known::KnownUnits;
 use crate::matches::{blanks_of, has_chunk, lent_of};
 use crate::parts::Room;
 use crate::search::Front;
@@ -37,6 +38,7 @@ fn run<'a>(
     rule: usize,
     reads: &'a [Read],
     words: &'a [Word],
+    known: &'a KnownUnits,
     room: &mut Room,
     vars: &mut Vars,
 ) -> Result<LentTemplate<'a>, ExecRefusal>
@@ -44,7 +46,7 @@ fn run<'a>(
     ensures { Ran (λ pieces. record { pieces = pieces; vars = vars.new }) result
         (act_of (plain_rules rules.now) rule (matched_of rules.now.form reads.now) vars.old) }
 {
-    let units = lent_of(alloc, rules.form, reads, words, room)?;
+    let units = lent_of(alloc, rules.form, reads, words, known, room)?;
     let chunk = has_chunk(rules.form);
     let spare = &mut room.spare;
     act_lent(alloc, rules, rule, chunk, units, vars, spare)
@@ -72,6 +74,7 @@ fn output(
     rule: usize,
     reads: &[Read],
     words: &[Word],
+    known: &KnownUnits,
     room: &mut Room,
     vars: &mut Vars,
     text: Bytes,
@@ -81,7 +84,7 @@ fn output(
     ensures { Gave result vars.new (length reads.now)
         (rule_step rules.now rule vars.old reads.now) }
 {
-    let template = run(alloc, rules, rule, reads, words, room, vars)?;
+    let template = run(alloc, rules, rule, reads, words, known, room, vars)?;
     let made = filled(alloc, &template, reads, text);
     let_go(template, &mut room.spare);
     made
@@ -109,6 +112,7 @@ pub(crate) fn rule_step(
     rule: usize,
     reads: &[Read],
     words: &[Word],
+    known: &KnownUnits,
     room: &mut Room,
     vars: &mut Vars,
     text: Bytes,
@@ -118,7 +122,7 @@ pub(crate) fn rule_step(
     ensures { IfOk result
         (λ made. meant made vars.new ≡ rule_step rules.now rule vars.old reads.now) }
 {
-    match output(alloc, rules, rule, reads, words, room, vars, text) {
+    match output(alloc, rules, rule, reads, words, known, room, vars, text) {
         Ok(text) => {
             let count = reads.len();
             Ok(Written::Gives { count, text })
@@ -158,6 +162,7 @@ fn chosen_step(
     reads: &[Read],
     front: Front,
     words: &[Word],
+    known: &KnownUnits,
     room: &mut Room,
     vars: &mut Vars,
     text: Bytes,
@@ -177,7 +182,17 @@ fn chosen_step(
                 return unmatched_step(alloc, rules, reads, words, room, text);
             }
             let taken = &reads[..front.taken];
-            rule_step(alloc, rules, choice.rule, taken, words, room, vars, text)
+            rule_step(
+                alloc,
+                rules,
+                choice.rule,
+                taken,
+                words,
+                known,
+                room,
+                vars,
+                text,
+            )
         }
     }
 }
@@ -189,6 +204,7 @@ pub(crate) fn first_step(
     rules: &Rules,
     items: &Queue,
     front: Front,
+    known: &KnownUnits,
     room: &mut Room,
     vars: &mut Vars,
     mut text: Bytes,
@@ -216,6 +232,7 @@ pub(crate) fn first_step(
         reads,
         front,
         words.as_slice(),
+        known,
         room,
         vars,
         text,

@@ -1,6 +1,6 @@
 use Rattle.std.proofs.Common.{◌≡◌, ◌-◌, length}
 use Rattle.ap_chunk.specs.Parts.{parts_of}
-use Rattle.ap_chunk.specs.Kept.{AreKept}
+use Rattle.ap_chunk.specs.Kept.{AllKept}
 use Rattle.ap_chunk.specs.Searching.{IsWalk}
 use Rattle.ap_chunk.specs.Tests.{row_of}
 use Rattle.ap_chunk.proofs.search.Walk.step_on.Given as goal
@@ -9,7 +9,7 @@ abbrev pub invariant-loop-self : goal.invariant-loop-self
 invariant-loop-self l = record {
   walk : IsWalk (parts_of l.rules l.reads) l.self;
   patterns : l.self.choosing.patterns ≡ l.fn.self.choosing.patterns;
-  rows : AreKept (row_of l.rules) l.rows.rows.items;
+  kept : AllKept (row_of l.rules) l.kept;
 }
 
 abbrev pub decreases-loop-self : goal.decreases-loop-self

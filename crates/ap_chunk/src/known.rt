@@ -1,0 +1,170 @@
+//! Units of transfer that were met before. What is kept is a hint alone: what is found is compared
+//! with the bytes of the unit that is sought.
+ghost use Rattle.std.specs.Prelude.{◌≡◌, ◌×◌, [], bytes_eq, List, Bool, true, IfSome};
+ghost use Rattle.ap_symbol.specs.Rendering.{rendering};
+ghost use Rattle.ap_symbol.specs.Words.{AreProper};
+ghost use Rattle.ap_symbol.specs.declared.symbol.Symbol.{Symbol};
+ghost use Rattle.ap_chunk.specs.Known.{IsOf, IsKeyed, IsWorded, IsRowed, AreRowed};
+
+use ap_stream::Unit;
+use ap_symbol::{Memory, Word, one_rendering};
+use std::alloc::Global;
+
+/// The number of places; so many units are kept at most.
+const PLACES: usize = 65536;
+
+/// No unit has this number.
+const NO_UNIT: u32 = 4294967295;
+
+/// A unit: its source and its target, and the row of the source.
+#[derive(Drop)]
+pub(crate) struct Known {
+    pub(crate) source: Word,
+    pub(crate) target: Word,
+    pub(crate) row: Vec<bool>,
+}
+
+/// The units that were met. When there are too many, all are forgotten.
+#[derive(Drop)]
+pub(crate) struct KnownUnits {
+    pub(crate) units: Vec<Known>,
+    places: Vec<u32>,
+}
+
+/// The bytes go into one number, each five places from the one before.
+fn mixed(number: u64, bytes: &[u8]) -> u64 {
+    let mut hash = number;
+    for byte in bytes {
+        hash = hash.rotate_left(5) ^ u64::from(*byte);
+    }
+    hash
+}
+
+/// The place of a unit with this source and this target: of the number that their bytes make, the
+/// upper half tells it.
+fn place_of(source: &[u8], target: &[u8]) -> usize {
+    let hash = mixed(mixed(0, source), target);
+    (hash.wrapping_mul(11400714819323198485) >> 32) as usize % PLACES
+}
+
+/// Whether two lists of bytes are equal.
+fn is_same(a: &[u8], b: &[u8]) -> bool
+    ensures { result ≡ bytes_eq a.now b.now }
+{
+    a == b
+}
+
+/// Whether these are the bytes of the word.
+fn is_word(word: &Word, key: &[u8]) -> bool
+    ensures { result ≡ true → IsOf key.now word.now }
+{
+    let _ = word.symbols();
+    is_same(key, word.rendered())
+}
+
+/// Whether these are the bytes of the unit's source and of its target.
+fn is_unit(known: &Known, source: &[u8], target: &[u8]) -> bool
+    ensures { result ≡ true → IsKeyed source.now target.now known.now }
+{
+    is_word(&known.source, source) && is_word(&known.target, target)
+}
+
+/// The unit at a number, if these are the bytes of its source and of its target.
+fn known_at<'a>(units: &'a [Known], at: usize, source: &[u8], target: &[u8]) -> Option<&'a Known>
+    ensures keyed { IfSome result (λ known. IsKeyed source.now target.now known.now) }
+    ensures rowed { (given : List Symbol → List Bool) → AreRowed given units.now →
+        IfSome result (λ known. IsRowed given known.now) }
+{
+    if at >= units.len() {
+        return None;
+    }
+    let known = &units[at];
+    if is_unit(known, source, target) {
+        return Some(known);
+    }
+    None
+}
+
+/// Frees all places.
+fn free_places(places: &mut Vec<u32>) -> Result<(), Memory> {
+    places.clear();
+    for _ in 0..PLACES {
+        places.push(NO_UNIT)?;
+    }
+    Ok(())
+}
+
+/// Writes the number of a unit.
+fn set_place(places: &mut [u32], known: &Known, number: u32) {
+    let at = place_of(known.source.rendered(), known.target.rendered());
+    if at < places.len() {
+        places[at] = number;
+    }
+}
+
+impl KnownUnits {
+    /// No units, which takes no memory.
+    pub(crate) fn new(alloc: Global) -> KnownUnits
+        ensures { result.units.items ≡ [] }
+    {
+        KnownUnits {
+            units: Vec::new(alloc),
+            places: Vec::new(alloc),
+        }
+    }
+
+    /// The kept unit whose source and target have these bytes.
+    fn find(&self, source: &[u8], target: &[u8]) -> Option<&Known>
+        ensures keyed { IfSome result (λ known. IsKeyed source.now target.now known.now) }
+        ensures rowed { (given : List Symbol → List Bool) → AreRowed given self.now.units.items →
+            IfSome result (λ known. IsRowed given known.now) }
+    {
+        match self.places.get(place_of(source, target)) {
+            None => None,
+            Some(at) => known_at(self.units.as_slice(), *at as usize, source, target),
+        }
+    }
+
+    /// The unit with the same source and target as this one, if it is kept.
+    pub(crate) fn known(&self, unit: &Unit) -> Option<&Known>
+        ensures worded { IfSome result (λ known. IsWorded unit.now known.now) }
+        ensures rowed { (given : List Symbol → List Bool) → AreRowed given self.now.units.items →
+            IfSome result (λ known. IsRowed given known.now) }
+    {
+        one_rendering();
+        match unit.bytes_at(0) {
+            None => None,
+            Some(source) => match unit.bytes_at(1) {
+                None => None,
+                Some(target) => self.find(source, target),
+            },
+        }
+    }
+
+    /// Forgets all, where there are no places yet or as many units as places.
+    fn make_room(&mut self) -> Result<(), Memory>
+        ensures { (given : List Symbol → List Bool) → AreRowed given self.old.units.items →
+            AreRowed given self.new.units.items }
+    {
+        if self.places.len() == PLACES && self.units.len() < PLACES {
+            return Ok(());
+        }
+        self.units.clear();
+        free_places(&mut self.places)
+    }
+
+    /// Keeps a unit. The error means want of memory.
+    pub(crate) fn keep(&mut self, known: Known) -> Result<(), Memory>
+        ensures { (given : List Symbol → List Bool) → IsRowed given known →
+            AreRowed given self.old.units.items → AreRowed given self.new.units.items }
+    {
+        self.make_room()?;
+        let held = self.units.len();
+        if held >= PLACES {
+            return Ok(());
+        }
+        set_place(&mut self.places, &known, held as u32);
+        self.units.push(known)?;
+        Ok(())
+    }
+}
