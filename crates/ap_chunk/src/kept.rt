@@ -1,5 +1,5 @@
-//! Rows of words that were met before. What is kept is a hint alone: what is found is
-//! compared with the bytes of the word that is sought.
+//! Rows of words that were met before. What is kept is a hint alone: what is found is compared
+//! with the bytes of the word that is sought.
 ghost use Rattle.std.specs.Prelude.{◌≡◌, [], bytes_eq, List, Bool, IfOk, IfSome};
 ghost use Rattle.ap_symbol.specs.declared.symbol.Symbol.{Symbol};
 ghost use Rattle.ap_chunk.specs.Kept.{IsTold, IsKept, AreKept};

@@ -1,11 +1,10 @@
 //! Units of transfer that were met before. What is kept is a hint alone: what is found is compared
 //! with the bytes of the unit that is sought.
-ghost use Rattle.std.specs.Prelude.{◌≡◌, ◌×◌, [], bytes_eq, List, Bool, true, IfSome};
-ghost use Rattle.ap_symbol.specs.Rendering.{rendering};
-ghost use Rattle.ap_symbol.specs.Words.{AreProper};
+ghost use Rattle.std.specs.Prelude.{◌≡◌, [], bytes_eq, List, Bool, true, IfSome};
 ghost use Rattle.ap_symbol.specs.declared.symbol.Symbol.{Symbol};
 ghost use Rattle.ap_chunk.specs.Known.{IsOf, IsKeyed, IsWorded, IsRowed, AreRowed};
 
+use ap_exec::Divided;
 use ap_stream::Unit;
 use ap_symbol::{Memory, Word, one_rendering};
 use std::alloc::Global;
@@ -19,8 +18,8 @@ const NO_UNIT: u32 = 4294967295;
 /// A unit: its source and its target, and the row of the source.
 #[derive(Drop)]
 pub(crate) struct Known {
-    pub(crate) source: Word,
-    pub(crate) target: Word,
+    pub(crate) source: Divided,
+    pub(crate) target: Divided,
     pub(crate) row: Vec<bool>,
 }
 
@@ -66,7 +65,7 @@ fn is_word(word: &Word, key: &[u8]) -> bool
 fn is_unit(known: &Known, source: &[u8], target: &[u8]) -> bool
     ensures { result ≡ true → IsKeyed source.now target.now known.now }
 {
-    is_word(&known.source, source) && is_word(&known.target, target)
+    is_word(known.source.word(), source) && is_word(known.target.word(), target)
 }
 
 /// The unit at a number, if these are the bytes of its source and of its target.
@@ -96,7 +95,10 @@ fn free_places(places: &mut Vec<u32>) -> Result<(), Memory> {
 
 /// Writes the number of a unit.
 fn set_place(places: &mut [u32], known: &Known, number: u32) {
-    let at = place_of(known.source.rendered(), known.target.rendered());
+    let at = place_of(
+        known.source.word().rendered(),
+        known.target.word().rendered(),
+    );
     if at < places.len() {
         places[at] = number;
     }

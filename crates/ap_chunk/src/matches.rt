@@ -51,9 +51,9 @@ fn translated<'a>(unit: &Unit, units: &'a KnownUnits, room: &mut Room) -> Result
     match units.known(unit) {
         None => made(unit, room),
         Some(known) => {
-            let source = Held::Lent(&known.source);
-            let border = known.target.len();
-            Ok(Lent::new(source, Held::Lent(&known.target), border, &[]))
+            let source = Held::Known(&known.source);
+            let border = known.target.word().len();
+            Ok(Lent::new(source, Held::Known(&known.target), border, &[]))
         }
     }
 }

@@ -10,7 +10,7 @@ ghost use Rattle.ap_chunk.specs.Tests.{row_of};
 use crate::categories::row;
 use crate::kept::{Kept, KeptRows, copy_of_row};
 use crate::known::{Known, KnownUnits};
-use ap_exec::Spare;
+use ap_exec::{Divided, Spare};
 use ap_rules::{Form, Rules};
 use ap_stream::{Item, Names, Unit};
 use ap_symbol::{Memory, Word};
@@ -154,8 +154,8 @@ fn keep_unit(
     let target = word_at(unit, 1, room)?;
     let row = copy_of_row(room.alloc, room.row.as_slice())?;
     units.keep(Known {
-        source,
-        target,
+        source: Divided::new(source),
+        target: Divided::new(target),
         row,
     })
 }

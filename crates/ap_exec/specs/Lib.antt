@@ -1,7 +1,8 @@
 pub mod Results
 pub mod Units
-pub mod Held
 pub mod Parts
+pub mod Divided
+pub mod Held
 pub mod Comparing
 pub mod Values
 pub mod Conditions

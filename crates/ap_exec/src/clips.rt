@@ -4,11 +4,13 @@ ghost use Rattle.std.specs.List.{prefix_len};
 ghost use Rattle.std.specs.Option.{option_copied};
 ghost use Rattle.ap_symbol.specs.Fitting.{fits_lem};
 ghost use Rattle.ap_symbol.specs.Words.{AreProper};
+ghost use Rattle.ap_exec.specs.Divided.{IsDivision};
 ghost use Rattle.ap_exec.specs.Parts.{is_tag, is_queue, is_lemma, is_head, begins_with, item_fits, longer, longest, sought, tags_in, items_of, span_of, cut, side_in, word_on, word_at, part_at, linked, clip_of, case_at};
 ghost use Rattle.ap_exec.specs.Ranges.{span};
 ghost use Rattle.ap_exec.specs.States.{sight};
 ghost use Rattle.ap_exec.specs.Units.{number_at, unit_at};
 
+use crate::divided::Division;
 use crate::lent::Lent;
 use crate::state::View;
 use ap_rules::{AttrItem, Clip, ClipPart, DefAttr, Form, Side};
@@ -34,7 +36,7 @@ fn is_queue(symbol: &Symbol) -> bool
 }
 
 /// How many symbols stand before the first tag.
-fn lemma_len(word: &[Symbol]) -> usize
+pub(crate) fn lemma_len(word: &[Symbol]) -> usize
     ensures value { result ≡ prefix_len is_lemma word.now }
     ensures within { result ≤ length word.now }
 {
@@ -42,13 +44,37 @@ fn lemma_len(word: &[Symbol]) -> usize
 }
 
 /// How many symbols stand before the first queue or tag.
-fn head_len(word: &[Symbol]) -> usize
+pub(crate) fn head_len(word: &[Symbol]) -> usize
     ensures value { result ≡ prefix_len is_head word.now }
     ensures within { result ≤ length word.now }
 {
     word.iter()
         .take_while(|s| !(is_tag(s) || is_queue(s)))
         .count()
+}
+
+/// How many symbols stand before the first tag, where that may be known.
+fn lemma_in(word: &[Symbol], known: Option<Division>) -> usize
+    requires { IfSome known (λ d. IsDivision word.now d) }
+    ensures value { result ≡ prefix_len is_lemma word.now }
+    ensures within { result ≤ length word.now }
+{
+    match known {
+        None => lemma_len(word),
+        Some(division) => division.lemma,
+    }
+}
+
+/// How many symbols stand before the first queue or tag, where that may be known.
+fn head_in(word: &[Symbol], known: Option<Division>) -> usize
+    requires { IfSome known (λ d. IsDivision word.now d) }
+    ensures value { result ≡ prefix_len is_head word.now }
+    ensures within { result ≤ length word.now }
+{
+    match known {
+        None => head_len(word),
+        Some(division) => division.head,
+    }
 }
 
 /// With how many tags the symbols begin.
@@ -82,8 +108,11 @@ fn begins_with(item: &[Symbol], word: &[Symbol]) -> bool
 fn differ(a: &[u8], b: &[u8]) -> bool
     ensures { result ≡ true → a.now ≢ b.now }
 {
+    if a.len() != b.len() {
+        return true;
+    }
     match (a.first(), b.first()) {
-        (Some(first), Some(other)) => a.len() != b.len() || *first != *other,
+        (Some(first), Some(other)) => *first != *other,
         _ => false,
     }
 }
@@ -165,29 +194,35 @@ fn attribute_span(attributes: &[DefAttr], n: usize, start: usize, word: &[Symbol
     }
 }
 
-/// Where a part of a word stands.
-pub(crate) fn span_of(attributes: &[DefAttr], part: ClipPart, word: &[Symbol]) -> Range
+/// Where a part of a word stands. Where the word is divided may be known.
+pub(crate) fn span_of(
+    attributes: &[DefAttr],
+    part: ClipPart,
+    word: &[Symbol],
+    known: Option<Division>,
+) -> Range
+    requires { IfSome known (λ d. IsDivision word.now d) }
     ensures value { span result ≡ span_of attributes.now part word.now }
     ensures within { result.start + result.count ≤ length word.now }
 {
     match part {
         ClipPart::Lem => Range {
             start: 0,
-            count: lemma_len(word),
+            count: lemma_in(word, known),
         },
         ClipPart::Lemh => Range {
             start: 0,
-            count: head_len(word),
+            count: head_in(word, known),
         },
         ClipPart::Lemq => {
-            let start = head_len(word);
+            let start = head_in(word, known);
             Range {
                 start,
-                count: lemma_len(word).saturating_sub(start),
+                count: lemma_in(word, known).saturating_sub(start),
             }
         }
         ClipPart::Tags => {
-            let start = lemma_len(word);
+            let start = lemma_in(word, known);
             Range {
                 start,
                 count: tags_len(&word[start..]),
@@ -199,7 +234,7 @@ pub(crate) fn span_of(attributes: &[DefAttr], part: ClipPart, word: &[Symbol]) -
         },
         ClipPart::Content => Range { start: 0, count: 0 },
         ClipPart::Attribute(n) => {
-            let start = lemma_len(word);
+            let start = lemma_in(word, known);
             attribute_span(attributes, n, start, &word[start..])
         }
     }
@@ -244,6 +279,22 @@ pub(crate) fn word_on<'a>(side: Side, queue: bool, unit: &'a Lent<'_>) -> &'a [S
     }
 }
 
+/// Where the word on a side of a unit is divided, with its queue or without, where that is known.
+pub(crate) fn division_on(side: Side, queue: bool, unit: &Lent<'_>) -> Option<Division>
+    ensures { IfSome result (λ d. IsDivision (word_on side queue unit.now) d) }
+{
+    match (side, queue) {
+        (Side::Source, _) => unit.source_division(),
+        (Side::Target, true) => unit.target_division(),
+        (Side::Target, false) => {
+            if unit.border() < unit.target().len() {
+                return None;
+            }
+            unit.target_division()
+        }
+    }
+}
+
 /// The number of the unit that stands at a position.
 pub(crate) fn number_at(here: &[Option<usize>], pos: usize) -> Option<usize>
     ensures { result ≡ number_at here.now pos }
@@ -279,6 +330,16 @@ fn word_at<'a>(view: &View<'a, '_>, pos: usize, side: Side, queue: bool) -> &'a 
     }
 }
 
+/// Where the word at a position is divided, where that is known.
+fn division_at(view: &View<'_, '_>, pos: usize, side: Side, queue: bool) -> Option<Division>
+    ensures { IfSome result (λ d. IsDivision (word_at (sight view.now) pos side queue) d) }
+{
+    match unit_at(view.here, view.units, pos) {
+        None => None,
+        Some(unit) => division_on(side_in(view.world.form, side), queue, unit),
+    }
+}
+
 /// A part of the word at a position.
 pub(crate) fn part_at<'a>(
     view: &View<'a, '_>,
@@ -291,7 +352,8 @@ pub(crate) fn part_at<'a>(
     ensures proper { AreProper result.now }
 {
     let word = word_at(&*view, pos, side, queue);
-    cut(span_of(view.world.attributes, part, word), word)
+    let known = division_at(&*view, pos, side, queue);
+    cut(span_of(view.world.attributes, part, word, known), word)
 }
 
 fn linked<'a>(link: &'a Option<Word>, part: &'a [Symbol]) -> &'a [Symbol]

@@ -1,18 +1,19 @@
-ghost use Rattle.std.specs.Prelude.{◌≡◌, ◌≤◌, length};
+ghost use Rattle.std.specs.Prelude.{◌≡◌, ◌≤◌, length, IfSome};
+ghost use Rattle.ap_exec.specs.Divided.{IsDivision};
 ghost use Rattle.ap_exec.specs.Held.{word_in};
 
+use crate::divided::{Divided, Division};
 use crate::spare::Spare;
 use ap_stream::Inner;
 use ap_symbol::Word;
 use std::marker::Model;
 use std::mem;
-use std::rc::Rc;
 
 /// A word of the match, or one that was made in its place.
 #[derive(Drop)]
 pub enum Held<'a> {
     Lent(&'a Word),
-    Shared(Rc<Word>),
+    Known(&'a Divided),
     Made(Word),
 }
 
@@ -22,8 +23,18 @@ impl<'a> Held<'a> {
     {
         match self {
             Held::Lent(word) => word,
-            Held::Shared(word) => word,
+            Held::Known(word) => word.word(),
             Held::Made(word) => word,
+        }
+    }
+
+    /// Where the word is divided, where that is known.
+    fn division(&self) -> Option<Division>
+        ensures { IfSome result (λ d. IsDivision (word_in self.now) d) }
+    {
+        match self {
+            Held::Known(word) => Some(word.division()),
+            Held::Lent(_) | Held::Made(_) => None,
         }
     }
 
@@ -31,7 +42,7 @@ impl<'a> Held<'a> {
     fn let_go(self, spare: &mut Spare) {
         match self {
             Held::Made(word) => spare.put(word),
-            Held::Lent(_) | Held::Shared(_) => {}
+            Held::Lent(_) | Held::Known(_) => {}
         }
     }
 }
@@ -94,6 +105,20 @@ impl<'a> Lent<'a> {
         ensures { result.now ≡ self.now.target }
     {
         self.target.word()
+    }
+
+    /// Where the source is divided, where that is known.
+    pub(crate) fn source_division(&self) -> Option<Division>
+        ensures { IfSome result (λ d. IsDivision self.now.source d) }
+    {
+        self.source.division()
+    }
+
+    /// Where the target is divided, where that is known.
+    pub(crate) fn target_division(&self) -> Option<Division>
+        ensures { IfSome result (λ d. IsDivision self.now.target d) }
+    {
+        self.target.division()
     }
 
     /// How many symbols of the target stand before its queue.

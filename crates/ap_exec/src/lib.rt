@@ -9,6 +9,7 @@ mod changes;
 mod clips;
 mod comparing;
 mod conditions;
+mod divided;
 mod filling;
 mod filling_laws;
 mod lending;
@@ -32,6 +33,7 @@ mod writing;
 
 pub use acting::{act, act_lent};
 pub use border_laws::borders_do_not_matter;
+pub use divided::Divided;
 pub use filling::{fill, fill_lent};
 pub use filling_laws::filling_keeps_superblanks;
 pub use lent::{Held, Lent};

@@ -4,7 +4,7 @@ ghost use Rattle.ap_exec.specs.Parts.{word_on};
 ghost use Rattle.ap_exec.specs.Ranges.{span};
 ghost use Rattle.ap_exec.specs.Writing.{spliced, moved, replaced, written, is_kept};
 
-use crate::clips::{Range, side_in, span_of, word_on};
+use crate::clips::{Range, division_on, side_in, span_of, word_on};
 use crate::lent::Lent;
 use crate::spare::Spare;
 use crate::values::append;
@@ -101,7 +101,13 @@ pub(crate) fn write_part(
     ensures { OnOk result (unit.new ≡ written form attributes.now clip.now value.now unit.old) }
 {
     let side = side_in(form, clip.side);
-    let range = span_of(attributes, clip.part, word_on(side, clip.queue, unit));
+    let known = division_on(side, clip.queue, unit);
+    let range = span_of(
+        attributes,
+        clip.part,
+        word_on(side, clip.queue, unit),
+        known,
+    );
     if is_kept(clip.part, range.count) {
         return Ok(());
     }

@@ -7,5 +7,5 @@ use Rattle.ap_chunk.proofs.matches.units_of.Goals as goal
 pub returns : goal.returns
 returns c =
     c.in_ok-push_items.ensures
-    ∙ ap (λ (us : List Shown). us ++ shown_items c.args.reads.now) c.in_ok-units.ensures.items
+    ∙ ap (λ (us : List Shown). us ++ shown_items c.args.reads.now) c.in_ok-made.ensures.items
     ∙ items_shown c.args.reads.now
