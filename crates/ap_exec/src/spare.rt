@@ -6,6 +6,9 @@ use std::alloc::Global;
 /// The most words that are kept.
 const WORDS_MAX: usize = 64;
 
+/// The most symbols of a word that is kept, so that long ones don't keep their memory.
+const LENGTH_MAX: usize = 256;
+
 /// The symbols, and the bytes, of a new word for which room is made at once.
 const WORD_ROOM: usize = 16;
 
@@ -39,9 +42,10 @@ impl Spare {
         }
     }
 
-    /// Keeps a word, unless there are many already; for want of memory it is let go too.
+    /// Keeps a word, unless it is long or there are many already; for want of memory it is let go
+    /// too.
     pub(crate) fn put(&mut self, word: Word) {
-        if self.words.len() < WORDS_MAX {
+        if self.words.len() < WORDS_MAX && word.len() <= LENGTH_MAX {
             let _ = self.words.push(word);
         }
     }
