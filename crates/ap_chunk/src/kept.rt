@@ -1,34 +1,20 @@
 //! Rows of words that were met before. What is kept is a hint alone: what is found is compared
 //! with the bytes of the word that is sought.
-ghost use Rattle.std.specs.Prelude.{◌≡◌, [], bytes_eq, List, Bool, IfOk, IfSome};
+ghost use Rattle.std.specs.Prelude.{◌≡◌, [], List, Bool, IfOk, IfSome};
 ghost use Rattle.ap_symbol.specs.declared.symbol.Symbol.{Symbol};
 ghost use Rattle.ap_chunk.specs.Kept.{IsTold, IsKept, AreKept};
 
 use crate::known::KnownUnits;
+use crate::places::{PLACES, free_places, is_same, mixed, place_of, set_place};
 use ap_symbol::{Memory, Word, one_rendering};
 use std::alloc::Global;
 
-/// The number of places; so many rows are kept at most.
-const PLACES: usize = 65536;
+/// The most bytes of a word whose row is kept.
+const KEY_MAX: usize = 256;
 
-/// No row has this number.
-const NO_ROW: u32 = 4294967295;
-
-/// The place of a word: its bytes go into one number, each five places from the one before, and of
-/// that number the upper half tells it.
-fn place_of(key: &[u8]) -> usize {
-    let mut hash: u64 = 0;
-    for byte in key {
-        hash = hash.rotate_left(5) ^ u64::from(*byte);
-    }
-    (hash.wrapping_mul(11400714819323198485) >> 32) as usize % PLACES
-}
-
-/// Whether two lists of bytes are equal.
-fn is_same(a: &[u8], b: &[u8]) -> bool
-    ensures { result ≡ bytes_eq a.now b.now }
-{
-    a == b
+/// The place of a word with these bytes.
+fn key_place(key: &[u8]) -> usize {
+    place_of(mixed(0, key))
 }
 
 /// The bytes of a word, and its row.
@@ -72,23 +58,6 @@ pub(crate) fn copy_of_row(alloc: Global, row: &[bool]) -> Result<Vec<bool>, Memo
     Ok(Vec::from_slice(alloc, row)?)
 }
 
-/// Frees all places.
-fn free_places(places: &mut Vec<u32>) -> Result<(), Memory> {
-    places.clear();
-    for _ in 0..PLACES {
-        places.push(NO_ROW)?;
-    }
-    Ok(())
-}
-
-/// Writes the number of the row of the word with these bytes.
-fn set_place(places: &mut [u32], key: &[u8], number: u32) {
-    let at = place_of(key);
-    if at < places.len() {
-        places[at] = number;
-    }
-}
-
 impl KeptRows {
     /// No rows, which takes no memory.
     pub(crate) fn new(alloc: Global) -> KeptRows
@@ -105,7 +74,7 @@ impl KeptRows {
         ensures { (given : List Symbol → List Bool) → AreKept given self.now.rows.items →
             IfSome result (λ row. IsTold given key.now row.now) }
     {
-        match self.places.get(place_of(key)) {
+        match self.places.get(key_place(key)) {
             None => None,
             Some(at) => told_at(self.rows.as_slice(), *at as usize, key),
         }
@@ -123,17 +92,21 @@ impl KeptRows {
         free_places(&mut self.places)
     }
 
-    /// Adds a row.
+    /// Adds a row, unless its word is long.
     fn add(&mut self, kept: KeptRow) -> Result<(), Memory>
         ensures { (given : List Symbol → List Bool) → IsKept given kept →
             AreKept given self.old.rows.items → AreKept given self.new.rows.items }
     {
+        if kept.key.len() > KEY_MAX {
+            return Ok(());
+        }
         self.make_room()?;
         let held = self.rows.len();
         if held >= PLACES {
             return Ok(());
         }
-        set_place(&mut self.places, kept.key.as_slice(), held as u32);
+        let at = key_place(kept.key.as_slice());
+        set_place(&mut self.places, at, held as u32);
         self.rows.push(kept)?;
         Ok(())
     }

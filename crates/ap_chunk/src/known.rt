@@ -1,19 +1,14 @@
 //! Units of transfer that were met before. What is kept is a hint alone: what is found is compared
 //! with the bytes of the unit that is sought.
-ghost use Rattle.std.specs.Prelude.{◌≡◌, [], bytes_eq, List, Bool, true, IfSome};
+ghost use Rattle.std.specs.Prelude.{◌≡◌, [], List, Bool, true, IfSome};
 ghost use Rattle.ap_symbol.specs.declared.symbol.Symbol.{Symbol};
 ghost use Rattle.ap_chunk.specs.Known.{IsOf, IsKeyed, IsWorded, IsRowed, AreRowed};
 
+use crate::places::{LENGTH_MAX, PLACES, free_places, is_same, mixed, place_of, set_place};
 use ap_exec::Divided;
 use ap_stream::Unit;
 use ap_symbol::{Memory, Word, one_rendering};
 use std::alloc::Global;
-
-/// The number of places; so many units are kept at most.
-const PLACES: usize = 65536;
-
-/// No unit has this number.
-const NO_UNIT: u32 = 4294967295;
 
 /// A unit: its source and its target, and the row of the source.
 #[derive(Drop)]
@@ -30,27 +25,9 @@ pub(crate) struct KnownUnits {
     places: Vec<u32>,
 }
 
-/// The bytes go into one number, each five places from the one before.
-fn mixed(number: u64, bytes: &[u8]) -> u64 {
-    let mut hash = number;
-    for byte in bytes {
-        hash = hash.rotate_left(5) ^ u64::from(*byte);
-    }
-    hash
-}
-
-/// The place of a unit with this source and this target: of the number that their bytes make, the
-/// upper half tells it.
-fn place_of(source: &[u8], target: &[u8]) -> usize {
-    let hash = mixed(mixed(0, source), target);
-    (hash.wrapping_mul(11400714819323198485) >> 32) as usize % PLACES
-}
-
-/// Whether two lists of bytes are equal.
-fn is_same(a: &[u8], b: &[u8]) -> bool
-    ensures { result ≡ bytes_eq a.now b.now }
-{
-    a == b
+/// The place of a unit with this source and this target.
+fn unit_place(source: &[u8], target: &[u8]) -> usize {
+    place_of(mixed(mixed(0, source), target))
 }
 
 /// Whether these are the bytes of the word.
@@ -84,24 +61,9 @@ fn known_at<'a>(units: &'a [Known], at: usize, source: &[u8], target: &[u8]) -> 
     None
 }
 
-/// Frees all places.
-fn free_places(places: &mut Vec<u32>) -> Result<(), Memory> {
-    places.clear();
-    for _ in 0..PLACES {
-        places.push(NO_UNIT)?;
-    }
-    Ok(())
-}
-
-/// Writes the number of a unit.
-fn set_place(places: &mut [u32], known: &Known, number: u32) {
-    let at = place_of(
-        known.source.word().rendered(),
-        known.target.word().rendered(),
-    );
-    if at < places.len() {
-        places[at] = number;
-    }
+/// Whether the words of a unit are short enough for it to be kept.
+fn is_short(known: &Known) -> bool {
+    known.source.word().len() <= LENGTH_MAX && known.target.word().len() <= LENGTH_MAX
 }
 
 impl KnownUnits {
@@ -121,7 +83,7 @@ impl KnownUnits {
         ensures rowed { (given : List Symbol → List Bool) → AreRowed given self.now.units.items →
             IfSome result (λ known. IsRowed given known.now) }
     {
-        match self.places.get(place_of(source, target)) {
+        match self.places.get(unit_place(source, target)) {
             None => None,
             Some(at) => known_at(self.units.as_slice(), *at as usize, source, target),
         }
@@ -155,17 +117,24 @@ impl KnownUnits {
         free_places(&mut self.places)
     }
 
-    /// Keeps a unit. The error means want of memory.
+    /// Keeps a unit, unless its words are long. The error means want of memory.
     pub(crate) fn keep(&mut self, known: Known) -> Result<(), Memory>
         ensures { (given : List Symbol → List Bool) → IsRowed given known →
             AreRowed given self.old.units.items → AreRowed given self.new.units.items }
     {
+        if !is_short(&known) {
+            return Ok(());
+        }
         self.make_room()?;
         let held = self.units.len();
         if held >= PLACES {
             return Ok(());
         }
-        set_place(&mut self.places, &known, held as u32);
+        let at = unit_place(
+            known.source.word().rendered(),
+            known.target.word().rendered(),
+        );
+        set_place(&mut self.places, at, held as u32);
         self.units.push(known)?;
         Ok(())
     }

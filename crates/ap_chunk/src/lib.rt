@@ -14,6 +14,7 @@ mod laws;
 mod matches;
 mod parts;
 mod patterns;
+mod places;
 mod postchunk;
 mod search;
 mod tags;
