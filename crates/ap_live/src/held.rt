@@ -193,6 +193,15 @@ impl HeldRow {
             Some(shared) => Ok(Some(shared.copy()?)),
         }
     }
+
+    /// How many states and edges it holds.
+    pub(crate) fn size(&self) -> usize {
+        let row = self.row();
+        row.states
+            .len()
+            .saturating_add(row.taken.len())
+            .saturating_add(row.silent.len())
+    }
 }
 
 /// Whether the last row has no state.

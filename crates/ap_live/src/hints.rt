@@ -10,7 +10,7 @@ use std::alloc::Global;
 
 /// A state that at most so many edges leave has few: they stand side by side, so that to go over
 /// them is faster than to halve over all edges.
-const FEW: usize = 8;
+const FEW: usize = 24;
 
 /// Lengthens hints to so many, by this place.
 fn fill(hints: &mut Vec<usize>, len: usize, place: usize) -> Result<(), Memory> {

@@ -21,6 +21,10 @@ const MOST_BYTES: usize = 8 * 1_024 * 1_024;
 /// both are looked for takes 32.
 const ROW_BYTES: usize = 256;
 
+/// A row that has fewer states and edges than this, together with the row that it is computed from,
+/// is computed again as fast as it is found. It isn't kept.
+const LEAST_KEPT: usize = 16;
+
 /// The places for links, and for sets, that there are at first. There are always twice as many as
 /// what they lead to.
 const LEAST_PLACES: usize = 256;
@@ -238,6 +242,22 @@ fn is_full(known: &Known) -> bool {
     MOST_BYTES < known.bytes
 }
 
+/// How many states and edges the row at a place holds.
+fn size_at(rows: &[HeldRow], at: usize) -> usize {
+    match rows.get(at) {
+        None => 0,
+        Some(row) => row.size(),
+    }
+}
+
+/// Whether the last row and the one before it, that it is computed from, are small.
+fn is_cheap(rows: &Rows) -> bool {
+    let rows = rows.as_slice();
+    let last = size_at(rows, rows.len().saturating_sub(1));
+    let before = size_at(rows, rows.len().saturating_sub(2));
+    last.saturating_add(before) < LEAST_KEPT
+}
+
 /// The row at a place, if it is there and shared.
 fn shared_at(rows: &[HeldRow], at: usize) -> Result<Option<SharedRow>, Memory>
     ensures { IfOk result (λ made. (row : Row) → made ≡ Some row →
@@ -296,6 +316,9 @@ fn note(known: &mut Known) -> Result<(), Memory>
     ensures path { known.new.path ≡ known.old.path }
 {
     let links = known.links.as_slice();
+    if known.placed == links.len() && known.listed == known.rows.as_slice().len() {
+        return Ok(());
+    }
     known.placed = widen(&mut known.places, links.len(), known.placed)?;
     place_links(known.places.as_mut_slice(), links, known.placed);
     known.placed = links.len();
@@ -429,6 +452,9 @@ fn remember(
 {
     let end = rows.len().saturating_sub(1);
     if known.path.as_slice().len() != end || is_full(known) {
+        return Ok(());
+    }
+    if is_cheap(&*rows) {
         return Ok(());
     }
     let Some(from) = known.path.last() else {

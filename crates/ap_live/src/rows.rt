@@ -346,6 +346,11 @@ pub(crate) fn fill_row(
     let _ = fst.states();
     row.states.clear();
     row.taken.clear();
+    if last.is_empty() {
+        row.silent.clear();
+        row.ends = false;
+        return Ok(());
+    }
     let other = other_symbol(pick);
     let partner = other.as_ref();
     spread(

@@ -1,14 +1,17 @@
 -- Runs that are copied: how they are read, and what a handler that copies makes of them.
 use Rattle.std.specs.Prelude.{◌≡◌, ℕ, suc, ◌+◌, ◌-◌, ◌^◌, ◌<◌, ◌≤◌, min, List, [], ◌∷◌, ◌++◌, drop, take, length, Bool, true, false, not, ◌&&◌, ◌||◌, eqb, None, refl, encode_utf8}
-use Rattle.std.proofs.Common.{Result, Ok, Err, OnErr, IfErr, ◌≢◌, get_or, arith, ap, sym, subst, ◌∙◌, append_assoc, length-append}
+use Rattle.std.proofs.Common.{inl, Result, Ok, Err, OnErr, IfErr, ◌≢◌, get_or, arith, ap, sym, subst, ◌∙◌, append_assoc, length-append}
 use Rattle.std.proofs.lemmas.Grind.{flat_map-append}
 use Rattle.std.proofs.lemmas.List.{append-nil, take-append-drop}
-use Rattle.std.proofs.lemmas.Str.{length-encode, len_utf8_bounds}
+use Rattle.std.proofs.lemmas.Str.{length-encode, len_utf8_bounds, encode_ascii}
 use Rattle.std.proofs.Math.Seq.{drop-append_seam, take-add}
 use Rattle.ap_symbol.specs.Coded.{IsCode}
 use Rattle.ap_symbol.specs.declared.symbol.Symbol.{Symbol}
 use Rattle.ap_stream.specs.declared.dialect.Dialect.{Dialect}
 use Rattle.ap_stream.specs.declared.dialect.Dialect.TheVariants.{Raw, Analysed, Lexical, Bilingual, Chunked, Generated}
+use Rattle.ap_stream.specs.declared.examine.Mode.TheVariants as mode
+use Rattle.ap_stream.specs.declared.level.Level.TheVariants as level
+use Rattle.ap_stream.specs.declared.level.Shown.TheVariants as shown
 use Rattle.ap_stream.specs.declared.item.Item.{Item}
 use Rattle.ap_stream.specs.declared.item.Item.TheVariants as item
 use Rattle.ap_stream.specs.declared.item.Read.{Read}
@@ -17,7 +20,7 @@ use Rattle.ap_stream.specs.Chars.{Char, char_at}
 use Rattle.ap_stream.specs.Copying.{is_common, IsCommon, is_copied, AreCopied, spelling, preceded, IsRun, IsWhite, GivesUnit, Gives}
 use Rattle.ap_stream.specs.Crossing.{stops_word}
 use Rattle.ap_stream.specs.Dialects.{is_refused, has_units}
-use Rattle.ap_stream.specs.Limited.{limited_decided}
+use Rattle.ap_stream.specs.Limited.{limited_decided, Looks}
 use Rattle.ap_stream.specs.InUnits.{unit_always}
 use Rattle.ap_stream.specs.Limits.{item_max, item_max_is, unit_max}
 use Rattle.ap_stream.specs.Reading.{Whole, limited, plain, Reads, reads, reads_whole, read_at, counted}
@@ -214,6 +217,28 @@ module _ (dialect : Dialect) (c : ℕ) (code : IsCode c) (common : is_common c �
         (common_runs.reads_on (counted (place + 1)) (counted_is (place + 1)) x)
         ∙ rw far refl;
   }
+
+one_byte : (bytes : List ℕ) → length (take 1 bytes) ≡ 1 → take 1 bytes ≡ get_or bytes 0 0 ∷ []
+one_byte [] e = absurd (omega (arith, e))
+one_byte (b ∷ bytes) e = refl
+
+-- an ASCII character that is common is whole by itself
+pub common_looks : (dialect : Dialect) (piece : List ℕ) → length (take 1 piece) ≡ 1 →
+    get_or piece 0 0 < 128 → is_common (get_or piece 0 0) ≡ true →
+    Looks dialect (level.Item mode.Start) 0 (take 1 piece)
+    (shown.Plain (record { letter = get_or piece 0 0; escaped = false }))
+common_looks dialect piece single low common =
+    let b : ℕ = get_or piece 0 0 in
+    let bytes : List ℕ = take 1 piece in
+    let is : bytes ≡ b ∷ [] = one_byte piece single in
+    let one : encode_utf8 b ≡ b ∷ [] = encode_ascii b low in
+    let whole : Always dialect bytes (Whole (plain b false) (length bytes)) =
+    subst (λ (q : List ℕ). Always dialect q (Whole (plain b false) (length q))) (one ∙ sym is)
+    (free_whole b (inl (omega (arith, low))) dialect (common_free b common dialect)) in (
+      λ x. limited_decided item_max dialect bytes (Whole (plain b false) (length bytes))
+          (rw item_max_is (omega (arith, single))) whole tt x,
+      omega (arith, single),
+    )
 
 pub run_of_common : (dialect : Dialect) (bytes : List ℕ) → IsCommon bytes → IsRun dialect bytes
 run_of_common dialect bytes h =

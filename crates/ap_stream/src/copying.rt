@@ -77,7 +77,7 @@ fn is_white(letter: char) -> bool
 
 /// Whether no dialect refuses the character, no item but itself begins with it and no tool gives
 /// it a meaning.
-fn is_common(letter: char) -> bool
+pub(crate) fn is_common(letter: char) -> bool
     ensures { result ≡ common_test letter }
 {
     !(stops_word(letter) || letter == '~' || is_white(letter))

@@ -96,3 +96,12 @@ pub trait Handler {
     /// A handler that holds nothing takes an item.
     ghost wants_first: { (h : Self) → count h ≡ 0 → wants h };
 }
+
+/// A handler that may be given several items with no turn between them.
+pub trait ByRun: Handler {
+    /// Whether an item more may be pushed with no turn before it. It may also be denied where it is
+    /// so.
+    fn wants_more(&self) -> bool
+        ensures { result ≡ true → Self.wants self.now × (Self.finished self.now ≡ false)
+            × (Self.held self.now ≤ SPAN_MAX) };
+}

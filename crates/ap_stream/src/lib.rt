@@ -35,7 +35,7 @@ pub use copying::{ByUnit, Copies};
 pub use dialect::Dialect;
 pub use each::{Each, UnitWriter};
 pub use fault::{LimitKind, MalformedKind, StageFault, StreamFault};
-pub use handler::{Handler, Turn};
+pub use handler::{ByRun, Handler, Turn};
 pub use item::{Character, Chunk, Content, Inner, Item, Read};
 pub use laws::{
     chunks_can_be_written, chunks_read_back, each_gives_pieces, each_item_keeps_superblanks,

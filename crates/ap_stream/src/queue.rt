@@ -45,6 +45,10 @@ fn let_go(items: &mut Vec<Read>, from: usize)
     requires { from ≤ vec_len items.old }
     ensures { items.new.items ≡ drop from items.old.items }
 {
+    if from == items.len() {
+        items.clear();
+        return;
+    }
     items.drain(..from);
 }
 

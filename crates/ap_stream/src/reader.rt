@@ -7,11 +7,12 @@ ghost use Rattle.ap_stream.specs.Reading.{counted, reads, stopped, nothing, IsRe
 use crate::UNIT_MAX;
 use crate::blank::Blank;
 use crate::chunks::chunk_of;
+use crate::copying::is_common;
 use crate::crossing::{Run, run_in};
 use crate::dialect::Dialect;
 use crate::examine::Mode;
 use crate::fault::{LimitKind, MalformedKind, StreamFault};
-use crate::item::{Item, Read};
+use crate::item::{Character, Item, Read};
 use crate::level::{Level, Shown, look};
 use crate::names::Names;
 use crate::unit::Unit;
@@ -375,8 +376,8 @@ impl Reader {
         }
     }
 
-    /// Where nothing is held and a plain ASCII letter or digit stands next, gives it, and holds
-    /// nothing then either.
+    /// Where nothing is held and an ASCII character to which no tool gives a meaning stands next,
+    /// gives it, and holds nothing then either.
     fn bare(&mut self, piece: &[u8]) -> Option<Read>
         requires going { self.old.fault ≡ None }
         requires looked { self.old.looked ≡ true }
@@ -389,21 +390,41 @@ impl Reader {
         ensures dialect { self.new.dialect ≡ self.old.dialect }
         ensures none { result ≡ None → self.new ≡ self.old }
     {
-        if !self.held.is_empty() || piece.is_empty() || !piece[0].is_ascii_alphanumeric() {
+        if !self.held.is_empty() || piece.is_empty() {
             return None;
         }
-        match look(self.dialect, Level::Item(Mode::Start), 0, &piece[..1]) {
-            Shown::Plain(character) => {
-                let read = Read {
-                    item: Item::Plain(character),
-                    place: self.place,
-                    size: 1,
-                };
-                self.place = place_after(self.place, 1);
-                Some(read)
-            }
-            _ => None,
+        let byte = piece[0];
+        if byte >= 128 || !is_common(byte as char) {
+            return None;
         }
+        let read = Read {
+            item: Item::Plain(Character {
+                letter: byte as char,
+                escaped: false,
+            }),
+            place: self.place,
+            size: 1,
+        };
+        self.place = place_after(self.place, 1);
+        Some(read)
+    }
+
+    /// As `bare`, where the last byte was looked at; else none, and nothing is changed.
+    pub(crate) fn next_bare(&mut self, piece: &[u8]) -> Option<Read>
+        requires going { self.old.fault ≡ None }
+        ensures some { OnSome result (1 ≤ length piece.now) }
+        ensures given { IfSome result
+            (λ read. Feeds self.old (take 1 piece.now) (Some read) self.new) }
+        ensures item { IfSome result (λ read. IsRead self.old.dialect read) }
+        ensures held { OnSome result (self.new.held ≡ []) }
+        ensures going { self.new.fault ≡ None }
+        ensures dialect { self.new.dialect ≡ self.old.dialect }
+        ensures none { result ≡ None → self.new ≡ self.old }
+    {
+        if !self.looked {
+            return None;
+        }
+        self.bare(piece)
     }
 
     /// Uses bytes of the piece until an item is whole or the piece is used up. An item that is

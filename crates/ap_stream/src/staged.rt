@@ -10,7 +10,7 @@ ghost use Rattle.ap_stream.specs.Copying.{IsOpen, IsIdle};
 use crate::copying::{ByUnit, Copies, copied_run, give_first};
 use crate::dialect::Dialect;
 use crate::fault::{StageFault, StreamFault};
-use crate::handler::{Handler, Turn};
+use crate::handler::{ByRun, Handler, Turn};
 use crate::pipe::Pipe;
 use crate::reader::{Fed, Reader};
 use crate::stage::{Finish, Stage};
@@ -445,6 +445,155 @@ impl<H: ByUnit + Drop> Staged<H> {
             return Ok(used);
         }
         self.take(piece)
+    }
+}
+
+impl<H: ByRun + Drop> Staged<H> {
+    /// Pushes the ASCII character at the front of the piece, if no tool gives it a meaning, nothing
+    /// is begun and the handler wants one more. Answers how many bytes were used; where that is 0,
+    /// nothing was changed.
+    fn push_bare(&mut self, piece: &[u8]) -> Result<usize, StageFault>
+        requires going { self.old.fault ≡ None }
+        requires empty { self.old.pending ≡ [] }
+        requires open { self.old.ended ≡ false }
+        ensures ended { self.new.ended ≡ false }
+        ensures pending { self.new.pending ≡ [] }
+        ensures going { OnOk result (self.new.fault ≡ None) }
+        ensures count { IfOk result (λ n. n ≤ length piece.now) }
+        ensures rest { IfOk result (λ n. (x : List ℕ) (e : Ending) →
+            rest_of H.work self.old (take n piece.now ++ x) e ≡ rest_of H.work self.new x e) }
+        ensures held { IfOk result (λ n. H.held self.new.handler + length self.new.begun
+            ≡ H.held self.old.handler + length self.old.begun + n) }
+        ensures falls { IfOk result
+            (λ n. measure H.finished H.held self.new (length piece.now - n) ≤ measure H.finished
+            H.held self.old (length piece.now)) }
+        ensures err { IfErr result (λ f. (f ≡ StreamFault.Memory) × (self.new.fault ≡ Some f)) }
+    {
+        if !self.handler.wants_more() {
+            return Ok(0);
+        }
+        match self.reader.next_bare(piece) {
+            None => Ok(0),
+            Some(read) => match self.handler.push(read) {
+                Ok(()) => Ok(1),
+                Err(_) => {
+                    self.fault = Some(StreamFault::Memory);
+                    Err(StreamFault::Memory)
+                }
+            },
+        }
+    }
+
+    /// Pushes the ASCII characters at the front of the piece to which no tool gives a meaning, as
+    /// long as nothing is begun and the handler wants more. Answers how many bytes were used.
+    fn run(&mut self, piece: &[u8]) -> Result<usize, StageFault>
+        requires going { self.old.fault ≡ None }
+        requires empty { self.old.pending ≡ [] }
+        requires open { self.old.ended ≡ false }
+        ensures ended { self.new.ended ≡ false }
+        ensures pending { self.new.pending ≡ [] }
+        ensures going { OnOk result (self.new.fault ≡ None) }
+        ensures count { IfOk result (λ n. n ≤ length piece.now) }
+        ensures rest { IfOk result (λ n. (x : List ℕ) (e : Ending) →
+            rest_of H.work self.old (take n piece.now ++ x) e ≡ rest_of H.work self.new x e) }
+        ensures held { IfOk result (λ n. H.held self.new.handler + length self.new.begun
+            ≡ H.held self.old.handler + length self.old.begun + n) }
+        ensures falls { IfOk result
+            (λ n. measure H.finished H.held self.new (length piece.now - n) ≤ measure H.finished
+            H.held self.old (length piece.now)) }
+        ensures err { IfErr result (λ f. (f ≡ StreamFault.Memory) × (self.new.fault ≡ Some f)) }
+    {
+        let mut used = 0;
+        while used < piece.len() {
+            let count = match self.push_bare(&piece[used..]) {
+                Ok(count) => count,
+                Err(fault) => return Err(fault),
+            };
+            if count == 0 {
+                return Ok(used);
+            }
+            used += count;
+        }
+        Ok(used)
+    }
+
+    /// As `read`, and then pushes the ASCII characters behind to which no tool gives a meaning.
+    fn read_run(&mut self, piece: &[u8]) -> Result<usize, StageFault>
+        requires going { self.old.fault ≡ None }
+        requires empty { self.old.pending ≡ [] }
+        requires open { self.old.ended ≡ false }
+        requires wants { H.wants self.old.handler }
+        requires reading { H.finished self.old.handler ≡ false }
+        requires span { H.held self.old.handler ≤ SPAN_MAX }
+        requires piece { 0 < length piece.now }
+        ensures ended { self.new.ended ≡ false }
+        ensures pending { self.new.pending ≡ [] }
+        ensures going { OnOk result (self.new.fault ≡ None) }
+        ensures count { IfOk result (λ n. n ≤ length piece.now) }
+        ensures rest { IfOk result (λ n. (x : List ℕ) (e : Ending) →
+            rest_of H.work self.old (take n piece.now ++ x) e ≡ rest_of H.work self.new x e) }
+        ensures held { IfOk result (λ n. H.held self.new.handler + length self.new.begun
+            ≡ H.held self.old.handler + length self.old.begun + n) }
+        ensures falls { IfOk result
+            (λ n. measure H.finished H.held self.new (length piece.now - n) < measure H.finished
+            H.held self.old (length piece.now)) }
+        ensures err { IfErr result (λ f. (f ≡ StreamFault.Memory) × (self.new.fault ≡ Some f)) }
+    {
+        let first = match self.read(piece) {
+            Ok(first) => first,
+            Err(fault) => return Err(fault),
+        };
+        let more = match self.run(&piece[first..]) {
+            Ok(more) => more,
+            Err(fault) => return Err(fault),
+        };
+        Ok(first + more)
+    }
+
+    /// As `take`, but ASCII characters to which no tool gives a meaning are pushed with no turn
+    /// between them, as long as the handler wants more.
+    pub fn take_runs(&mut self, piece: &[u8]) -> Result<usize, StageFault>
+        requires { self.old.ended ≡ false }
+        ensures count { IfOk result (λ n. n ≤ length piece.now) }
+        ensures rest { IfOk result (λ n. (x : List ℕ) (e : Ending) →
+            rest_of H.work self.old (take n piece.now ++ x) e ≡ rest_of H.work self.new x e) }
+        ensures zero { result ≡ Ok 0 → self.new.pending ≡ [] → piece.now ≡ [] }
+        ensures held { IfOk result
+            (λ n. held_of H.held self.new ≤ held_of H.held self.old + n) }
+        ensures rank { result ≡ Ok 0 → length self.old.pending < length self.new.pending →
+            held_of H.held self.new < held_of H.held self.old }
+        ensures open { self.new.ended ≡ false }
+        ensures no_fault { OnOk result (self.new.fault ≡ None) }
+        ensures fault { IfErr result (λ f. self.new.fault ≡ Some f) }
+        ensures cause { IfErr result (λ f. f ≢ StreamFault.Memory → self.old.fault ≡ None →
+            (n : ℕ) × (n ≤ length piece.now) × ((x : List ℕ) (e : Ending) →
+            rest_of H.work self.old (take n piece.now ++ x) e ≡ ends_in self.new.pending f)) }
+        ensures whole { IfErr result (λ f. self.old.fault ≡ None → (place : ℕ) →
+            f ≢ StreamFault.Malformed MalformedKind.Unfinished place) }
+        ensures front { OnErr result (self.old.fault ≡ None → (x : List ℕ) (e : Ending) →
+            Begins self.new.pending (rest_of H.work self.old (piece.now ++ x) e).text) }
+        ensures stays { (f : StreamFault) → self.old.fault ≡ Some f →
+            (result ≡ Err f) × (self.new ≡ self.old) }
+        ensures bounded { (held_of H.held self.new ≤ SPAN_MAX + UNIT_MAX + 2)
+            × (length self.new.pending ≤ SPAN_MAX + UNIT_MAX + 2) }
+    {
+        if let Some(fault) = self.fault {
+            return Err(fault);
+        }
+        let mut used = 0;
+        while self.is_idle() {
+            match self.work()? {
+                Turn::Wrote => {}
+                Turn::Over => unreachable!(),
+                Turn::Wants => {
+                    if used == piece.len() {
+                        return Ok(used);
+                    }
+                    used += self.read_run(&piece[used..])?;
+                }
+            }
+        }
+        Ok(used)
     }
 }
 
