@@ -6,7 +6,7 @@ use Rattle.ap_exec.specs.WordLaws.{OtherSideStays}
 use Rattle.ap_exec.specs.Writing.{moved, spliced}
 use Rattle.ap_exec.proofs.Splices.{further}
 
-le_true : (m n : ℕ) → m ≤ n → nat_le m n ≡ true
+pub le_true : (m n : ℕ) → m ≤ n → nat_le m n ≡ true
 le_true m n h = search rules
 
 le_false : (m n : ℕ) → n < m → nat_le m n ≡ false

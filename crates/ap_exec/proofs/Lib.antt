@@ -3,6 +3,9 @@ pub mod Bounds
 pub mod Trees
 pub mod Joins
 pub mod SameLetters
+pub mod Attributes
+pub mod Recased
+pub mod Whole
 pub mod Overlays
 pub mod Compounds
 pub mod WordLaws

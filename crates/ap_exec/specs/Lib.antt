@@ -1,6 +1,8 @@
 pub mod Results
 pub mod Units
 pub mod Parts
+pub mod Attributes
+pub mod Recased
 pub mod Divided
 pub mod Held
 pub mod Comparing

@@ -6,7 +6,7 @@ ghost use Rattle.ap_exec.specs.Results.{Gives};
 ghost use Rattle.ap_exec.specs.States.{overlaid};
 ghost use Rattle.ap_exec.specs.declared.matched.Matched.{Matched};
 
-use crate::beginning::{action_of, positions_of, room_for, units_of, world_of};
+use crate::beginning::{action_of, positions_of, units_of, world_of};
 use crate::lending::own_template;
 use crate::lent::{Lent, let_units_go};
 use crate::lent_template::LentTemplate;
@@ -45,8 +45,8 @@ fn run_rule<'a>(
         result (act_of (plain_rules rules.now) rule m vars.now) }
 {
     let world = world_of(rules, vars);
-    let here = positions_of(alloc, has_chunk, units.len())?;
-    let fresh = room_for(alloc, vars)?;
+    let here = positions_of(alloc, has_chunk, units.len(), spare)?;
+    let fresh = spare.take_fresh(alloc);
     let mut state = State {
         units,
         fresh,

@@ -9,6 +9,7 @@ ghost use Rattle.ap_exec.specs.States.{still};
 
 use crate::lent::{Held, Lent};
 use crate::matched::{Matched, MatchedUnit};
+use crate::spare::Spare;
 use crate::state::World;
 use crate::values::append;
 use ap_rules::{Rules, Statement};
@@ -107,19 +108,16 @@ pub(crate) fn units_of<'a>(alloc: Global, matched: &'a Matched) -> Result<Vec<Le
     Ok(lent)
 }
 
-/// The positions for which room is made beside those of the units: the one before them, and those
-/// of a macro.
-const PLACES_ROOM: usize = 9;
-
 /// What stands at the positions, where there are so many units, with the chunk or without.
 pub(crate) fn positions_of(
     alloc: Global,
     has_chunk: bool,
     count: usize,
+    spare: &mut Spare,
 ) -> Result<Vec<Option<usize>>, Memory>
     ensures { IfOk result (λ here. here.items ≡ lead_in has_chunk ++ from_first count) }
 {
-    let mut here = Vec::with_capacity(alloc, count.saturating_add(PLACES_ROOM))?;
+    let mut here = spare.take_places(alloc);
     if !has_chunk {
         here.push(None)?;
     }
@@ -127,11 +125,4 @@ pub(crate) fn positions_of(
         here.push(Some(number))?;
     }
     Ok(here)
-}
-
-/// No new values, with room for those of these variables.
-pub(crate) fn room_for(alloc: Global, vars: &[Word]) -> Result<Vec<Option<Word>>, Memory>
-    ensures { IfOk result (λ fresh. fresh.items ≡ []) }
-{
-    Ok(Vec::with_capacity(alloc, vars.len())?)
 }

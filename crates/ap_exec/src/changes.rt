@@ -1,5 +1,5 @@
 //! The single changes that statements make.
-ghost use Rattle.std.specs.Prelude.{◌≡◌, ◌<◌, ◌-◌, [], List, length, map, if◌then◌else◌, nat_le, OnOk, IfOk, Option, Some as something, None as nothing, vec_len};
+ghost use Rattle.std.specs.Prelude.{◌≡◌, ◌<◌, ◌-◌, [], List, length, map, if◌then◌else◌, nat_le, slice_set, OnOk, IfOk, Option, Some as something, None as nothing, vec_len};
 ghost use Rattle.ap_symbol.specs.declared.symbol.Symbol.{Symbol};
 ghost use Rattle.ap_rules.specs.Plain.{assign, append, modify_case, out};
 ghost use Rattle.ap_rules.specs.Views.{plain_value, plain_values, plain_piece};
@@ -11,14 +11,16 @@ ghost use Rattle.ap_exec.specs.States.{overlaid, sight, still, now};
 use crate::clips::{number_at, part_at};
 use crate::lent_template::{AtomHeld, LentAtom, LentPiece, LentWord, PieceHeld};
 use crate::pieces::piece_of;
+use crate::recasing::append_recased;
 use crate::refusal::ExecRefusal;
 use crate::spare::Spare;
 use crate::state::{State, View, World};
-use crate::values::{append as append_symbols, append_to, push_value, var_at};
+use crate::values::{append_to, push_value, var_at};
 use crate::writing::write_part;
 use ap_rules::{Append, Clip, Let, ModifyCase, Out, Piece as StatedPiece, Place};
-use ap_symbol::{Memory, Word, case_of, recase};
+use ap_symbol::{Memory, Word, case_of};
 use std::alloc::Global;
+use std::mem;
 
 /// What values are read from.
 pub(crate) fn view_of<'a, 'u>(
@@ -48,12 +50,24 @@ fn reach(n: usize, fresh: &mut Vec<Option<Word>>) -> Result<(), Memory>
     Ok(())
 }
 
+/// Puts in a new value. The one before is spare.
+fn put_new(fresh: &mut Vec<Option<Word>>, n: usize, word: Word, spare: &mut Spare)
+    requires { n < length fresh.old.items }
+    ensures { fresh.new.items ≡ slice_set fresh.old.items n (something word) }
+{
+    let old = mem::replace(&mut fresh[n], Some(word));
+    if let Some(old) = old {
+        spare.put(old);
+    }
+}
+
 /// Sets a variable.
 pub(crate) fn set_var(
     world: World<'_>,
     n: usize,
     word: Word,
     state: &mut State<'_>,
+    spare: &mut Spare,
 ) -> Result<(), Memory>
     ensures { OnOk result (now world.entry state.new
         ≡ with_var n word (now world.entry state.old)) }
@@ -62,7 +76,7 @@ pub(crate) fn set_var(
         return Ok(());
     }
     reach(n, &mut state.fresh)?;
-    state.fresh[n] = Some(word);
+    put_new(&mut state.fresh, n, word, spare);
     Ok(())
 }
 
@@ -118,7 +132,7 @@ fn set_place(
             spare.put(value);
             Ok(())
         }
-        Place::Var(var) => set_var(world, var.n, value, state),
+        Place::Var(var) => set_var(world, var.n, value, state, spare),
     }
 }
 
@@ -137,10 +151,8 @@ fn recased_at(
         Place::Var(var) => var_at(view.world.vars, view.fresh, var.n),
     };
     let mut word = spare.take(alloc)?;
-    append_symbols(alloc, held, &mut word)?;
-    let made = recase(alloc, &word, case_of(value))?;
-    spare.put(word);
-    Ok(made)
+    append_recased(alloc, case_of(value), held, &mut word)?;
+    Ok(word)
 }
 
 /// `let`: a place is set to a value.
@@ -204,7 +216,7 @@ pub(crate) fn append(
         held.n,
         &held.values,
     )?;
-    set_var(world, held.n, word, state)?;
+    set_var(world, held.n, word, state, spare)?;
     Ok(())
 }
 

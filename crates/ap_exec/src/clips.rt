@@ -3,9 +3,11 @@ ghost use Rattle.std.specs.Prelude.{◌≡◌, ◌≢◌, ◌+◌, ◌≤◌, �
 ghost use Rattle.std.specs.List.{prefix_len};
 ghost use Rattle.std.specs.Option.{option_copied};
 ghost use Rattle.ap_symbol.specs.Fitting.{fits_lem};
+ghost use Rattle.ap_symbol.specs.Rendering.{rendering, tag_bytes};
 ghost use Rattle.ap_symbol.specs.Words.{AreProper};
+ghost use Rattle.ap_exec.specs.Attributes.{BeginsWithTag};
 ghost use Rattle.ap_exec.specs.Divided.{IsDivision};
-ghost use Rattle.ap_exec.specs.Parts.{is_tag, is_queue, is_lemma, is_head, begins_with, item_fits, longer, longest, sought, tags_in, items_of, span_of, cut, side_in, word_on, word_at, part_at, linked, clip_of, case_at};
+ghost use Rattle.ap_exec.specs.Parts.{is_tag, is_queue, is_lemma, is_head, begins_with, item_fits, longer, longest, sought, tags_in, items_of, span_of, cut, side_in, word_on, part_at, linked, clip_of, case_at};
 ghost use Rattle.ap_exec.specs.Ranges.{span};
 ghost use Rattle.ap_exec.specs.States.{sight};
 ghost use Rattle.ap_exec.specs.Units.{number_at, unit_at};
@@ -118,7 +120,7 @@ fn differ(a: &[u8], b: &[u8]) -> bool
 }
 
 /// Whether the two are tags that can be told apart at once.
-fn are_apart(symbol: &Symbol, other: &Symbol) -> bool
+pub(crate) fn are_apart(symbol: &Symbol, other: &Symbol) -> bool
     ensures { result ≡ true → fits_lem true symbol.now other.now ≡ false }
 {
     match (symbol, other) {
@@ -148,14 +150,60 @@ fn longer(best: Option<usize>, len: usize) -> Option<usize>
     }
 }
 
+/// Whether the bytes of an item tell at once that it isn't the one tag of this name: they have
+/// another length, or another first letter.
+fn is_other(item: &Word, name: &[u8]) -> bool
+    ensures one { result ≡ true → length item.now ≡ 1 }
+    ensures other { result ≡ true → rendering item.now ≢ tag_bytes name.now }
+{
+    if item.len() != 1 {
+        return false;
+    }
+    let bytes = item.rendered();
+    if bytes.len() != name.len() + 2 {
+        return true;
+    }
+    match (bytes.get(1), name.first()) {
+        (Some(own), Some(first)) => *own != *first,
+        _ => false,
+    }
+}
+
+/// The name of the tag with which a word begins.
+fn name_at(word: &[Symbol]) -> Option<&[u8]>
+    ensures { IfSome result (λ name. BeginsWithTag name.now word.now) }
+{
+    match word.first() {
+        Some(Symbol::Tag(name)) => Some(name.text().as_bytes()),
+        _ => None,
+    }
+}
+
+/// Whether the word, which begins with the tag of this name, where one is given, begins with the
+/// item.
+#[tactic(auto, using(crate::proofs::Attributes::others_fail))]
+fn fits_at(item: &Word, name: Option<&[u8]>, word: &[Symbol]) -> bool
+    requires { IfSome name (λ n. BeginsWithTag n.now word.now) }
+    ensures value { result ≡ item_fits item.now word.now }
+    ensures within { result ≡ true → length item.now ≤ length word.now }
+{
+    if let Some(name) = name {
+        if is_other(item, name) {
+            return false;
+        }
+    }
+    item_fits(item.symbols(), word)
+}
+
 /// The length of the longest item that fits at the front of the word.
 fn longest(items: &[AttrItem], word: &[Symbol]) -> Option<usize>
     ensures value { result ≡ longest None (map tags_in items.now) word.now }
     ensures within { IfSome result (λ n. n ≤ length word.now) }
 {
+    let name = name_at(word);
     let mut best = None;
     for item in items {
-        if item_fits(item.tags.symbols(), word) {
+        if fits_at(&item.tags, name, word) {
             best = longer(best, item.tags.len());
         }
     }
@@ -319,28 +367,25 @@ pub(crate) fn unit_at<'a, 'u>(
     }
 }
 
-/// The word at a position, which is empty where there is none.
-fn word_at<'a>(view: &View<'a, '_>, pos: usize, side: Side, queue: bool) -> &'a [Symbol]
-    ensures value { result.now ≡ word_at (sight view.now) pos side queue }
+/// A part of the word on a side of a unit.
+pub(crate) fn part_on<'a>(
+    attributes: &[DefAttr],
+    part: ClipPart,
+    side: Side,
+    queue: bool,
+    unit: &'a Lent<'_>,
+) -> &'a [Symbol]
+    ensures value { result.now ≡ cut (span_of attributes.now part (word_on side queue unit.now))
+        (word_on side queue unit.now) }
     ensures proper { AreProper result.now }
 {
-    match unit_at(view.here, view.units, pos) {
-        None => &[],
-        Some(unit) => word_on(side_in(view.world.form, side), queue, unit),
-    }
-}
-
-/// Where the word at a position is divided, where that is known.
-fn division_at(view: &View<'_, '_>, pos: usize, side: Side, queue: bool) -> Option<Division>
-    ensures { IfSome result (λ d. IsDivision (word_at (sight view.now) pos side queue) d) }
-{
-    match unit_at(view.here, view.units, pos) {
-        None => None,
-        Some(unit) => division_on(side_in(view.world.form, side), queue, unit),
-    }
+    let word = word_on(side, queue, unit);
+    let known = division_on(side, queue, unit);
+    cut(span_of(attributes, part, word, known), word)
 }
 
 /// A part of the word at a position.
+#[tactic(auto, using(crate::proofs::Whole::cut_nothing))]
 pub(crate) fn part_at<'a>(
     view: &View<'a, '_>,
     pos: usize,
@@ -351,9 +396,13 @@ pub(crate) fn part_at<'a>(
     ensures value { result.now ≡ part_at (sight view.now) pos part side queue }
     ensures proper { AreProper result.now }
 {
-    let word = word_at(&*view, pos, side, queue);
-    let known = division_at(&*view, pos, side, queue);
-    cut(span_of(view.world.attributes, part, word, known), word)
+    match unit_at(view.here, view.units, pos) {
+        None => &[],
+        Some(unit) => {
+            let side = side_in(view.world.form, side);
+            part_on(view.world.attributes, part, side, queue, unit)
+        }
+    }
 }
 
 fn linked<'a>(link: &'a Option<Word>, part: &'a [Symbol]) -> &'a [Symbol]

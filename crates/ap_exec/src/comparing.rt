@@ -1,8 +1,10 @@
 //! How words are compared.
 ghost use Rattle.std.specs.Prelude.{◌≡◌, true, map};
+ghost use Rattle.ap_symbol.specs.Fitting.{fits_lem};
 ghost use Rattle.ap_exec.specs.Comparing.{same_symbols, same_words, is_begun_by, is_ended_by, holds_part, compared, compared_some};
 ghost use Rattle.ap_exec.specs.Conditions.{word_in};
 
+use crate::clips::are_apart;
 use ap_rules::ListItem;
 use ap_symbol::{Symbol, fits, lower};
 
@@ -19,6 +21,13 @@ pub(crate) enum Way {
     Contains,
 }
 
+/// Whether two symbols are equal.
+fn same_exactly(s: &Symbol, t: &Symbol) -> bool
+    ensures { result ≡ fits_lem true s.now t.now }
+{
+    !are_apart(s, t) && fits(s, t, true)
+}
+
 /// Whether two symbols are equal once their letters are in lower case.
 #[tactic(auto, using(crate::proofs::SameLetters::letters_same))]
 fn same_lowered(s: &Symbol, t: &Symbol) -> bool
@@ -26,10 +35,10 @@ fn same_lowered(s: &Symbol, t: &Symbol) -> bool
 {
     match s {
         Symbol::Letter(a) => match t {
-            Symbol::Letter(b) => lower(*a) == lower(*b),
+            Symbol::Letter(b) => *a == *b || lower(*a) == lower(*b),
             _ => false,
         },
-        _ => fits(s, t, true),
+        _ => same_exactly(s, t),
     }
 }
 
@@ -39,11 +48,22 @@ fn same_symbols(s: &Symbol, t: &Symbol, caseless: bool) -> bool
     if caseless {
         same_lowered(s, t)
     } else {
-        fits(s, t, true)
+        same_exactly(s, t)
     }
 }
 
+#[tactic(auto, using(crate::proofs::SameLetters::other_lengths))]
 fn same_words(a: &[Symbol], b: &[Symbol], caseless: bool) -> bool
+    ensures { result ≡ same_words caseless a.now b.now }
+{
+    if a.len() != b.len() {
+        return false;
+    }
+    same_each(a, b, caseless)
+}
+
+/// Whether two words are equal symbol by symbol.
+fn same_each(a: &[Symbol], b: &[Symbol], caseless: bool) -> bool
     ensures { result ≡ same_words caseless a.now b.now }
 {
     let mut rest = b;

@@ -10,12 +10,13 @@ ghost use Rattle.ap_exec.specs.States.{sight};
 use crate::comparing::{Way, compared, compared_some};
 use crate::refusal::ExecRefusal;
 use crate::state::View;
-use crate::values::read;
+use crate::values::{direct, read};
 use ap_rules::{Comparison, Condition, DefList, Membership};
 use ap_symbol::{Symbol, Word};
 use std::alloc::Global;
 
-fn compares(
+/// Compares values of which some may have to be made.
+fn compares_made(
     alloc: Global,
     view: &View<'_, '_>,
     way: Way,
@@ -30,6 +31,21 @@ fn compares(
     Ok(compared(way, held.caseless, a, b))
 }
 
+/// Compares values. Nothing is made where both are parts of what there is.
+fn compares(
+    alloc: Global,
+    view: &View<'_, '_>,
+    way: Way,
+    held: &Comparison,
+) -> Result<bool, ExecRefusal>
+    ensures { Gives (λ b. b) result (compares way (sight view.now) (plain_comparison held.now)) }
+{
+    match (direct(&*view, &held.first), direct(&*view, &held.second)) {
+        (Some(a), Some(b)) => Ok(compared(way, held.caseless, a, b)),
+        _ => compares_made(alloc, &*view, way, held),
+    }
+}
+
 fn is_listed(way: Way, caseless: bool, word: &[Symbol], lists: &[DefList], n: usize) -> bool
     ensures { result ≡ compared_some way caseless word.now (words_of lists.now n) }
 {
@@ -39,7 +55,8 @@ fn is_listed(way: Way, caseless: bool, word: &[Symbol], lists: &[DefList], n: us
     }
 }
 
-fn compares_some(
+/// Compares a value that may have to be made with a list.
+fn compares_some_made(
     alloc: Global,
     view: &View<'_, '_>,
     way: Way,
@@ -51,6 +68,22 @@ fn compares_some(
     let mut made = Word::new(alloc);
     let word = read(alloc, *view, &held.value, &mut made)?;
     Ok(is_listed(way, held.caseless, word, view.world.lists, held.list))
+}
+
+/// Compares a value with a list. Nothing is made where it is a part of what there is.
+fn compares_some(
+    alloc: Global,
+    view: &View<'_, '_>,
+    way: Way,
+    held: &Membership,
+) -> Result<bool, ExecRefusal>
+    ensures { Gives (λ b. b) result
+        (compares_some way (sight view.now) (plain_membership held.now)) }
+{
+    match direct(&*view, &held.value) {
+        Some(word) => Ok(is_listed(way, held.caseless, word, view.world.lists, held.list)),
+        None => compares_some_made(alloc, &*view, way, held),
+    }
 }
 
 /// Whether a condition holds. What no longer decides isn't read.

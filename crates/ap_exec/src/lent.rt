@@ -28,6 +28,17 @@ impl<'a> Held<'a> {
         }
     }
 
+    /// The word, where it is one of the match.
+    fn lent(&self) -> Option<&'a Word>
+        ensures { IfSome result (λ word. word.now ≡ word_in self.now) }
+    {
+        match self {
+            Held::Lent(word) => Some(*word),
+            Held::Known(word) => Some(word.word()),
+            Held::Made(_) => None,
+        }
+    }
+
     /// Where the word is divided, where that is known.
     fn division(&self) -> Option<Division>
         ensures { IfSome result (λ d. IsDivision (word_in self.now) d) }
@@ -105,6 +116,20 @@ impl<'a> Lent<'a> {
         ensures { result.now ≡ self.now.target }
     {
         self.target.word()
+    }
+
+    /// The source, where it is that of the match.
+    pub(crate) fn lent_source(&self) -> Option<&'a Word>
+        ensures { IfSome result (λ word. word.now ≡ self.now.source) }
+    {
+        self.source.lent()
+    }
+
+    /// The target, where it is that of the match.
+    pub(crate) fn lent_target(&self) -> Option<&'a Word>
+        ensures { IfSome result (λ word. word.now ≡ self.now.target) }
+    {
+        self.target.lent()
     }
 
     /// Where the source is divided, where that is known.

@@ -17,6 +17,7 @@ mod lent;
 mod lent_template;
 mod matched;
 mod pieces;
+mod recasing;
 mod refusal;
 mod running;
 mod running_laws;

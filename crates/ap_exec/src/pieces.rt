@@ -1,22 +1,28 @@
 //! The pieces that an output adds.
-ghost use Rattle.std.specs.Prelude.{◌≡◌, ◌++◌, [], map, IfOk, OnOk};
+ghost use Rattle.std.specs.Prelude.{◌≡◌, ◌++◌, [], map, IfOk, IfSome, OnOk, Ok};
 ghost use Rattle.ap_symbol.specs.Words.{AreProper};
 ghost use Rattle.ap_rules.specs.Plain.{chunk, value_chunk};
 ghost use Rattle.ap_rules.specs.Views.{plain_value, plain_values, plain_chunk_piece, plain_chunk, plain_piece};
 ghost use Rattle.ap_exec.specs.Compounds.{joined_to, all_joined, values_in, tag_in};
 ghost use Rattle.ap_exec.specs.Pieces.{unit_of, units_of, compound, blank_atom, chunk_piece_of, chunk_pieces_of, tags_of, held_by, stated, name_of, atom_in, gives_content, content_of, contents_of, piece_of};
+ghost use Rattle.ap_exec.specs.Parts.{word_on, clip_of};
 ghost use Rattle.ap_exec.specs.Results.{Gives, seen};
 ghost use Rattle.ap_exec.specs.States.{sight};
+ghost use Rattle.ap_exec.specs.Values.{value_of};
 
-use crate::clips::unit_at;
+use crate::clips::{side_in, unit_at};
+use crate::lent::Lent;
 use crate::lent_template::{LentAtom, LentAtoms, LentPiece, LentWord};
+use crate::recasing::append_recased;
 use crate::refusal::ExecRefusal;
 use crate::spare::Spare;
 use crate::state::View;
 use crate::values::{append, push_values, var_at};
-use ap_rules::{Chunk, ChunkPiece, ClipPart, Lu, Piece as StatedPiece, Tag, Value, ValueChunk};
-use ap_stream::Inner;
-use ap_symbol::{Memory, Sequence, Symbol, Word, case_of_symbols, recase};
+use ap_rules::{
+    Chunk, ChunkPiece, Clip, ClipPart, Lu, Piece as StatedPiece, Side, Tag, Value, ValueChunk,
+};
+use ap_stream::{Inner, UNIT_MAX};
+use ap_symbol::{Memory, Sequence, Symbol, Word, case_of_symbols};
 use std::alloc::Global;
 
 /// The atoms of a chunk for which room is made at once.
@@ -34,6 +40,94 @@ fn word_of(
     let mut word = spare.take(alloc)?;
     push_values(alloc, &*view, values, &mut word)?;
     Ok(word)
+}
+
+/// The word of the match that stands whole on a side of a unit, with its queue or without, where
+/// the rule hasn't written to it.
+#[tactic(auto, using(crate::proofs::Whole::taken_whole))]
+fn lent_on<'u>(side: Side, queue: bool, unit: &Lent<'u>) -> Option<&'u Word>
+    ensures { IfSome result (λ word. word.now ≡ word_on side queue unit.now) }
+{
+    match (side, queue) {
+        (Side::Source, _) => unit.lent_source(),
+        (Side::Target, true) => unit.lent_target(),
+        (Side::Target, false) => {
+            if unit.border() < unit.target().len() {
+                return None;
+            }
+            unit.lent_target()
+        }
+    }
+}
+
+/// The word of the match that a clip gives whole.
+#[tactic(auto, using(crate::proofs::Whole::clip_is))]
+fn lent_by<'u>(view: &View<'_, 'u>, clip: &Clip) -> Option<&'u Word>
+    ensures { IfSome result (λ word. word.now ≡ clip_of (sight view.now) clip.now) }
+{
+    if clip.part != ClipPart::Whole || clip.link_to.is_some() {
+        return None;
+    }
+    match unit_at(view.here, view.units, clip.pos) {
+        None => None,
+        Some(unit) => lent_on(side_in(view.world.form, clip.side), clip.queue, unit),
+    }
+}
+
+/// The word of the match that a value gives, where it is a whole word that isn't too long for a
+/// value.
+#[tactic(auto, unfolding(crate::specs::Values::sized))]
+fn lent_value<'u>(view: &View<'_, 'u>, value: &Value) -> Option<&'u Word>
+    ensures { IfSome result (λ word. value_of (sight view.now) (plain_value value.now)
+        ≡ Ok word.now) }
+{
+    match value {
+        Value::Clip(clip) => match lent_by(&*view, clip) {
+            None => None,
+            Some(word) => {
+                if word.rendered().len() > UNIT_MAX {
+                    return None;
+                }
+                Some(word)
+            }
+        },
+        _ => None,
+    }
+}
+
+/// The word of the match that values give, where they are one value that gives a whole word.
+#[tactic(auto, using(crate::proofs::Whole::unit_is))]
+fn lent_whole<'u>(view: &View<'_, 'u>, values: &[Value]) -> Option<&'u Word>
+    ensures { IfSome result (λ word. unit_of (sight view.now) (plain_values values.now)
+        ≡ Ok word.now) }
+{
+    match values.split_first() {
+        None => None,
+        Some((value, more)) => {
+            if !more.is_empty() {
+                return None;
+            }
+            lent_value(&*view, value)
+        }
+    }
+}
+
+/// The word of a unit, which is lent where it stands in the match.
+fn lent_word_of<'u>(
+    alloc: Global,
+    view: &View<'_, 'u>,
+    spare: &mut Spare,
+    values: &[Value],
+) -> Result<LentWord<'u>, ExecRefusal>
+    ensures { Gives (λ w. w) result (unit_of (sight view.now) (plain_values values.now)) }
+{
+    match lent_whole(&*view, values) {
+        Some(word) => Ok(LentWord::lent(word)),
+        None => {
+            let word = word_of(alloc, &*view, spare, values)?;
+            Ok(LentWord::made(word))
+        }
+    }
 }
 
 /// Joins a word to those before it, where it isn't empty.
@@ -112,8 +206,8 @@ fn chunk_piece_of<'u>(
 {
     match piece {
         ChunkPiece::Lu(held) => {
-            let word = word_of(alloc, &*view, spare, &held.values)?;
-            Ok(LentAtom::unit(LentWord::made(word)))
+            let word = lent_word_of(alloc, &*view, spare, &held.values)?;
+            Ok(LentAtom::unit(word))
         }
         ChunkPiece::Mlu(held) => {
             let word = compound_of(alloc, &*view, spare, &held.units)?;
@@ -186,16 +280,15 @@ fn name_of(
     ensures { IfOk result (λ name. name ≡ name_of (sight view.now).vars (plain_chunk held.now)) }
 {
     let mut name = spare.take(alloc)?;
-    append(alloc, stated(&*view, &held.name, held.namefrom), &mut name)?;
+    let symbols = stated(&*view, &held.name, held.namefrom);
     match held.case {
-        None => Ok(name),
+        None => append(alloc, symbols, &mut name)?,
         Some(n) => {
             let case = case_of_symbols(var_at(view.world.vars, view.fresh, n));
-            let made = recase(alloc, &name, case)?;
-            spare.put(name);
-            Ok(made)
+            append_recased(alloc, case, symbols, &mut name)?;
         }
     }
+    Ok(name)
 }
 
 /// A chunk as transfer makes it.
@@ -315,8 +408,8 @@ pub(crate) fn piece_of<'u>(
     match piece {
         StatedPiece::B(space) => Ok(LentPiece::atom(blank_atom(space.pos))),
         StatedPiece::Lu(held) => {
-            let word = word_of(alloc, &*view, spare, &held.values)?;
-            Ok(LentPiece::atom(LentAtom::unit(LentWord::made(word))))
+            let word = lent_word_of(alloc, &*view, spare, &held.values)?;
+            Ok(LentPiece::atom(LentAtom::unit(word)))
         }
         StatedPiece::Mlu(held) => {
             let word = compound_of(alloc, &*view, spare, &held.units)?;

@@ -1,5 +1,5 @@
 //! Running a body: one statement after another, and those that it leads to.
-ghost use Rattle.std.specs.Prelude.{◌≡◌, ◌+◌, ◌<◌, ◌++◌, length, take, map, OnOk};
+ghost use Rattle.std.specs.Prelude.{◌≡◌, ◌+◌, ◌<◌, ◌++◌, length, take, map, [], IfOk, OnOk};
 ghost use Rattle.ap_rules.specs.Plain.{whens_of, call_macro};
 ghost use Rattle.ap_rules.specs.Views.{plain_statement, plain_choose, plain_when};
 ghost use Rattle.ap_exec.specs.Choosing.{chosen};
@@ -19,6 +19,16 @@ use crate::state::{State, View, World};
 use ap_rules::{CallMacro, Choose, DefMacro, Statement, When};
 use ap_symbol::Memory;
 use std::alloc::Global;
+
+/// The bodies for which room is made at once.
+const FRAMES_ROOM: usize = 8;
+
+/// No bodies, with room for some.
+fn no_frames<'a>(alloc: Global) -> Result<Vec<Frame<'a>>, Memory>
+    ensures { IfOk result (λ frames. frames.items ≡ []) }
+{
+    Ok(Vec::with_capacity(alloc, FRAMES_ROOM)?)
+}
 
 /// Puts the positions of a macro behind those of the body that calls it.
 fn push_places(
@@ -231,13 +241,19 @@ pub(crate) fn run_body<'a>(
         to: here.len(),
         visible: world.macros.len(),
     };
+    let bodies = no_frames(alloc)?;
     let mut stack = Stack {
-        frames: Vec::new(alloc),
+        frames: bodies,
         positions: here,
     };
     stack.push(action, scope)?;
     'frames: while let Some(frame) = stack.frames.pop() {
         run_first(alloc, world, frame, &mut stack, state, spare)?;
     }
+    let Stack {
+        frames: _,
+        positions,
+    } = stack;
+    spare.put_places(positions);
     Ok(())
 }

@@ -1,21 +1,24 @@
 //! What values give.
-ghost use Rattle.std.specs.Prelude.{◌≡◌, ◌++◌, ◌-◌, [], length, slice_get, OnOk};
+ghost use Rattle.std.specs.Prelude.{◌≡◌, ◌≤◌, ◌++◌, ◌-◌, [], length, slice_get, true, Ok, IfSome, OnOk};
 ghost use Rattle.std.specs.Option.{option_copied};
 ghost use Rattle.ap_symbol.specs.Rendering.{rendering};
 ghost use Rattle.ap_symbol.specs.Words.{AreProper};
 ghost use Rattle.ap_rules.specs.Plain.{concat, get_case_from, values_of};
 ghost use Rattle.ap_rules.specs.Views.{plain_value, plain_values};
+ghost use Rattle.ap_exec.specs.Parts.{word_on, span_of, cut, clip_of};
 ghost use Rattle.ap_exec.specs.Results.{Gives, seen};
 ghost use Rattle.ap_exec.specs.States.{sight, overlaid, fresh_in};
+ghost use Rattle.ap_stream.specs.declared.TheConstants.{UNIT_MAX};
 ghost use Rattle.ap_exec.specs.Units.{var_at};
 ghost use Rattle.ap_exec.specs.Values.{sized, bounded, case_word, value_of, joined_of, appended};
 
-use crate::clips::{case_at, clip_of, part_at};
+use crate::clips::{case_at, clip_of, part_at, part_on, side_in, unit_at};
+use crate::lent::Lent;
 use crate::refusal::ExecRefusal;
 use crate::sizes::are_short;
 use crate::spare::Spare;
 use crate::state::View;
-use ap_rules::{Concat, GetCaseFrom, Value};
+use ap_rules::{Clip, ClipPart, Concat, DefAttr, GetCaseFrom, Side, Value};
 use ap_stream::UNIT_MAX;
 use ap_symbol::{Case, Memory, Symbol, Word, case_of_symbols, recase};
 use std::alloc::Global;
@@ -182,6 +185,74 @@ fn bounded(symbols: &[Symbol]) -> Result<&[Symbol], ExecRefusal>
         Ok(symbols)
     } else {
         Err(ExecRefusal::ValueTooLong)
+    }
+}
+
+/// The symbols of a word, unless it is too long for a value.
+#[tactic(auto, unfolding(crate::specs::Values::sized))]
+fn short_word(word: &Word) -> Option<&[Symbol]>
+    ensures { IfSome result (λ s. bounded word.now ≡ Ok s.now) }
+{
+    if word.rendered().len() > UNIT_MAX {
+        return None;
+    }
+    Some(word.symbols())
+}
+
+/// Whether the word on a side of a unit isn't too long for a value.
+fn is_short_on(side: Side, unit: &Lent<'_>) -> bool
+    ensures { result ≡ true → length (rendering (word_on side true unit.now)) ≤ UNIT_MAX }
+{
+    match side {
+        Side::Source => unit.source().rendered().len() <= UNIT_MAX,
+        Side::Target => unit.target().rendered().len() <= UNIT_MAX,
+    }
+}
+
+/// A part of the word on a side of a unit, where that word isn't too long for a value.
+#[tactic(auto, using(crate::proofs::Whole::part_is_short))]
+fn short_part<'a>(
+    attributes: &[DefAttr],
+    part: ClipPart,
+    side: Side,
+    queue: bool,
+    unit: &'a Lent<'_>,
+) -> Option<&'a [Symbol]>
+    ensures { IfSome result (λ s. bounded (cut
+        (span_of attributes.now part (word_on side queue unit.now)) (word_on side queue unit.now))
+        ≡ Ok s.now) }
+{
+    if is_short_on(side, unit) {
+        return Some(part_on(attributes, part, side, queue, unit));
+    }
+    None
+}
+
+/// What a clip without a link gives, where the word that it reads isn't too long for a value.
+fn short_clip<'a>(view: &View<'a, '_>, clip: &Clip) -> Option<&'a [Symbol]>
+    ensures { IfSome result (λ s. bounded (clip_of (sight view.now) clip.now) ≡ Ok s.now) }
+{
+    if clip.link_to.is_some() {
+        return None;
+    }
+    match unit_at(view.here, view.units, clip.pos) {
+        None => None,
+        Some(unit) => {
+            let side = side_in(view.world.form, clip.side);
+            short_part(view.world.attributes, clip.part, side, clip.queue, unit)
+        }
+    }
+}
+
+/// What a value gives, where that is a part of what there is and isn't too long for certain.
+pub(crate) fn direct<'a>(view: &View<'a, '_>, value: &'a Value) -> Option<&'a [Symbol]>
+    ensures { IfSome result (λ s. value_of (sight view.now) (plain_value value.now) ≡ Ok s.now) }
+{
+    match value {
+        Value::Clip(clip) => short_clip(&*view, clip),
+        Value::Lit(lit) => short_word(&lit.v),
+        Value::LitTag(tags) => short_word(&tags.v),
+        _ => None,
     }
 }
 

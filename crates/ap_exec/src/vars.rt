@@ -46,6 +46,7 @@ fn put_all(words: &mut Vec<Word>, fresh: Vec<Option<Word>>, spare: &mut Spare)
     'rest: while let Some(new) = rest.pop() {
         put_one(words, rest.len(), new, spare);
     }
+    spare.put_fresh(rest);
 }
 
 impl Vars {

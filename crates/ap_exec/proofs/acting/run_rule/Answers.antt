@@ -21,7 +21,7 @@ returns-in_err-run_body c = λ m units_are chunk_is.
     let w = c.world_of-world.result in
     let s = now w (record {
       units = c.args.units;
-      fresh = c.in_ok-fresh.fresh;
+      fresh = c.take_fresh-fresh.result;
       pieces =
           c.new.result;
       room = 16777216;
@@ -35,8 +35,8 @@ returns-in_err-run_body c = λ m units_are chunk_is.
     c.in_ok-here.ensures ∙ ap (λ (b : Bool). lead_in b ++ from_first c.len.result) chunk_is
     ∙ ap (λ (n : ℕ). lead_in (is_some m.chunk) ++ from_first n) count
     ∙ here_is m.chunk m.units in
-    let start = now_is m c.args.vars.now w.vars.now c.args.units.items c.in_ok-fresh.fresh.items
-    c.new.result units_are c.world_of-world.ensures.vars c.in_ok-fresh.ensures
+    let start = now_is m c.args.vars.now w.vars.now c.args.units.items c.take_fresh-fresh.result.items
+    c.new.result units_are c.world_of-world.ensures.vars c.take_fresh-fresh.ensures
     c.new.ensures in
     let whole = act_is r c.args.rule m c.args.vars.now (still w) (length w.macros.now)
     c.in_ok-here.here.items (body_of c.action_of.result.now) s c.world_of-world.ensures.still
@@ -52,7 +52,7 @@ returns c = λ m units_are chunk_is.
     let w = c.world_of-world.result in
     let s = now w (record {
       units = c.args.units;
-      fresh = c.in_ok-fresh.fresh;
+      fresh = c.take_fresh-fresh.result;
       pieces =
           c.new.result;
       room = 16777216;
@@ -66,8 +66,8 @@ returns c = λ m units_are chunk_is.
     c.in_ok-here.ensures ∙ ap (λ (b : Bool). lead_in b ++ from_first c.len.result) chunk_is
     ∙ ap (λ (n : ℕ). lead_in (is_some m.chunk) ++ from_first n) count
     ∙ here_is m.chunk m.units in
-    let start = now_is m c.args.vars.now w.vars.now c.args.units.items c.in_ok-fresh.fresh.items
-    c.new.result units_are c.world_of-world.ensures.vars c.in_ok-fresh.ensures
+    let start = now_is m c.args.vars.now w.vars.now c.args.units.items c.take_fresh-fresh.result.items
+    c.new.result units_are c.world_of-world.ensures.vars c.take_fresh-fresh.ensures
     c.new.ensures in
     let whole = act_is r c.args.rule m c.args.vars.now (still w) (length w.macros.now)
     c.in_ok-here.here.items (body_of c.action_of.result.now) s c.world_of-world.ensures.still

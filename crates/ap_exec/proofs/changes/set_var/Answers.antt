@@ -1,7 +1,7 @@
-use Rattle.std.proofs.Common.{◌∙◌, ap, set, List, arith}
+use Rattle.std.proofs.Common.{◌∙◌, ap, set, List, Option, arith}
 use Rattle.ap_symbol.specs.declared.symbol.Symbol.{Symbol}
 use Rattle.ap_exec.specs.Running.{Now}
-use Rattle.ap_exec.specs.States.{now}
+use Rattle.ap_exec.specs.States.{now, overlaid}
 use Rattle.ap_exec.proofs.Overlays.{set_fresh, set_nothing}
 use Rattle.ap_exec.proofs.changes.set_var.Goals as goal
 
@@ -16,7 +16,9 @@ pub returns : goal.returns
 returns c =
     let f : List (List Symbol) → Now =
     λ vs. record (now c.args.world c.args.state.now) { vars = vs } in
-    ap f (set_fresh c.args.world.vars.now c.reach.new.fresh.items c.args.n c.args.word
+    ap f (ap (λ (fresh : List (Option (List Symbol))). overlaid c.args.world.vars.now fresh)
+    c.put_new.ensures
+    ∙ set_fresh c.args.world.vars.now c.reach.new.fresh.items c.args.n c.args.word
     c.in_ok-reach.ensures.reached
     ∙ ap (λ (vs : List (List Symbol)). set vs c.args.n c.args.word)
     (c.in_ok-reach.ensures.same c.args.world.vars.now))

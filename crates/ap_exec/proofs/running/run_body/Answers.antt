@@ -40,9 +40,9 @@ returns-in_err-run_first c =
     sym (last_first w c.frames.stack c.pop.new.self.items c.in-Some.frame
     (now c.args.world c.frames.state) c.in-Some.ensures.items)
     ∙ c.frames.invariant.1 ∙ c.in_ok-push.ensures.left w (now c.args.world c.args.state.now) in
-    let start = start_runs w (record { frames = c.new.result; positions = c.args.here })
+    let start = start_runs w (record { frames = c.in_ok-bodies.bodies; positions = c.args.here })
     c.len.result (length c.args.world.macros.now) c.args.action.now
-    (now c.args.world c.args.state.now) c.new.ensures.items
+    (now c.args.world c.args.state.now) c.in_ok-bodies.ensures
     (c.len.ensures ∙ c.args.here.ok.0) in
     rw (p.1, p.2) (subst (λ (r : Ran Now). Fails c.in_err-run_first.field-0.0 r) (whole ∙ start)
     c.in_err-run_first.ensures.leads)
