@@ -13,6 +13,9 @@ use crate::words::is_surfaced;
 fn is_stop(byte: u8) -> bool
     ensures { result ≡ stop_test byte }
 {
+    if byte > b'\\' {
+        return false;
+    }
     matches!(byte, b'/' | b'$' | b'\\' | b'\t' | b'\n' | b'\r')
 }
 
