@@ -9,6 +9,7 @@ pub mod Whole
 pub mod Overlays
 pub mod Compounds
 pub mod WordLaws
+pub mod Setting
 pub mod Splices
 pub mod Borders
 pub mod SizeLaws

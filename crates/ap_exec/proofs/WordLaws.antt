@@ -68,7 +68,7 @@ cons_parts c s t a b more e =
     (sym (reads_cons c t b) ∙ e ∙ ap (λ (x : List Symbol). x ++ more) (reads_cons c s a)) in
     (sym h.0, h.1)
 
-same_to : (c : Bool) (a b : List Symbol) → same_words c a b ≡ true → read_as c a ≡ read_as c b
+pub same_to : (c : Bool) (a b : List Symbol) → same_words c a b ≡ true → read_as c a ≡ read_as c b
 same_to c [] [] h = refl
 same_to c [] (t ∷ b) h = absurd (false≢true h)
 same_to c (s ∷ a) [] h = absurd (false≢true h)

@@ -3,6 +3,7 @@ pub mod Units
 pub mod Parts
 pub mod Attributes
 pub mod Recased
+pub mod Setting
 pub mod Divided
 pub mod Held
 pub mod Comparing

@@ -1,23 +1,25 @@
 //! The single changes that statements make.
-ghost use Rattle.std.specs.Prelude.{◌≡◌, ◌<◌, ◌-◌, [], List, length, map, if◌then◌else◌, nat_le, slice_set, OnOk, IfOk, Option, Some as something, None as nothing, vec_len};
+ghost use Rattle.std.specs.Prelude.{◌≡◌, ◌<◌, ◌-◌, [], List, length, map, true, if◌then◌else◌, nat_le, slice_set, OnOk, IfOk, Option, Some as something, None as nothing, vec_len};
 ghost use Rattle.ap_symbol.specs.declared.symbol.Symbol.{Symbol};
 ghost use Rattle.ap_rules.specs.Plain.{assign, append, modify_case, out};
 ghost use Rattle.ap_rules.specs.Views.{plain_value, plain_values, plain_piece};
 ghost use Rattle.ap_exec.specs.Pieces.{unit_size, atom_size, atoms_size, piece_size};
 ghost use Rattle.ap_exec.specs.Results.{Gives};
 ghost use Rattle.ap_exec.specs.Running.{sight_of, with_var, with_part, with_place, recased_at, placed, outs, run, called};
+ghost use Rattle.ap_exec.specs.Setting.{IsHeld};
 ghost use Rattle.ap_exec.specs.States.{overlaid, sight, still, now};
 
 use crate::clips::{number_at, part_at};
+use crate::comparing::same_words;
 use crate::lent_template::{AtomHeld, LentAtom, LentPiece, LentWord, PieceHeld};
 use crate::pieces::piece_of;
 use crate::recasing::append_recased;
 use crate::refusal::ExecRefusal;
 use crate::spare::Spare;
 use crate::state::{State, View, World};
-use crate::values::{append_to, push_value, var_at};
+use crate::values::{append_to, direct, push_value, var_at};
 use crate::writing::write_part;
-use ap_rules::{Append, Clip, Let, ModifyCase, Out, Piece as StatedPiece, Place};
+use ap_rules::{Append, Clip, Let, ModifyCase, Out, Piece as StatedPiece, Place, Value};
 use ap_symbol::{Memory, Word, case_of};
 use std::alloc::Global;
 use std::mem;
@@ -155,6 +157,22 @@ fn recased_at(
     Ok(word)
 }
 
+/// Whether the place is a variable that holds the value: then nothing need be made.
+fn is_held(view: &View<'_, '_>, place: &Place, value: &Value) -> bool
+    ensures { result ≡ true → IsHeld (sight view.now) place.now (plain_value value.now) }
+{
+    match place {
+        Place::Clip(_) => false,
+        Place::Var(var) => match direct(&*view, value) {
+            None => false,
+            Some(word) => {
+                let held = var_at(view.world.vars, view.fresh, var.n);
+                same_words(word, held, false)
+            }
+        },
+    }
+}
+
 /// `let`: a place is set to a value.
 pub(crate) fn assign(
     alloc: Global,
@@ -168,6 +186,9 @@ pub(crate) fn assign(
         (run (still world.entry) (called (still world.entry) 0) here.now
         (assign held.now.place (plain_value held.now.value)) (now world.entry state.old)) }
 {
+    if is_held(&view_of(world, here, state), &held.place, &held.value) {
+        return Ok(());
+    }
     let mut value = spare.take(alloc)?;
     push_value(alloc, &view_of(world, here, state), &held.value, &mut value)?;
     set_place(alloc, world, here, &held.place, value, state, spare)?;

@@ -53,7 +53,7 @@ fn same_symbols(s: &Symbol, t: &Symbol, caseless: bool) -> bool
 }
 
 #[tactic(auto, using(crate::proofs::SameLetters::other_lengths))]
-fn same_words(a: &[Symbol], b: &[Symbol], caseless: bool) -> bool
+pub(crate) fn same_words(a: &[Symbol], b: &[Symbol], caseless: bool) -> bool
     ensures { result ≡ same_words caseless a.now b.now }
 {
     if a.len() != b.len() {
