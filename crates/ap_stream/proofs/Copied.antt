@@ -38,7 +38,7 @@ use Rattle.ap_stream.proofs.Fronts.{IsFree, free_whole, free_blank, alone_some}
 
 -- what a common character isn't
 
-none : (a b : Bool) → (a || b) ≡ false → (a ≡ false) × (b ≡ false)
+pub none : (a b : Bool) → (a || b) ≡ false → (a ≡ false) × (b ≡ false)
 none true b h = absurd (cc)
 none false b h = (refl, h)
 
@@ -116,7 +116,7 @@ none_runs dialect = record {
       ap (λ (q : ℕ). reads dialect q x) (sym e);
 }
 
-preceded_twice : (a b : List Read) (more : Reads) → preceded a (preceded b more)
+pub preceded_twice : (a b : List Read) (more : Reads) → preceded a (preceded b more)
     ≡ preceded (a ++ b) more
 preceded_twice a b more =
     ap (λ (q : List Read). record { items = q; stop = more.stop })
@@ -188,6 +188,13 @@ module _ (dialect : Dialect) (c : ℕ) (code : IsCode c) (common : is_common c �
   common_runs =
       item_runs dialect (encode_utf8 c) (plain c false) (alone_some c code) size
       (free_whole c code dialect (common_free c common dialect)) common refl
+
+  pub common_reads : (place : ℕ) (x : List ℕ) → reads dialect place (encode_utf8 c ++ x)
+      ≡ preceded (read_at place (plain c false) (length (encode_utf8 c)) ∷ [])
+      (reads dialect (counted (place + length (encode_utf8 c))) x)
+  common_reads place x =
+      reads_item dialect (encode_utf8 c) (plain c false) (alone_some c code) size
+      (free_whole c code dialect (common_free c common dialect)) place x
 
   white_before : (w : ℕ) → is_white w ≡ true → (bytes : List ℕ) → bytes ≡ encode_utf8 c →
       (place : ℕ) (x : List ℕ) → reads dialect place (w ∷ (bytes ++ x))

@@ -36,3 +36,5 @@ pub mod Scan
 pub mod Copied
 pub mod ReadOn
 pub mod WholeUnits
+pub mod BareReads
+pub mod FrontLaws

@@ -35,3 +35,5 @@ pub mod Each
 pub mod Laws
 pub mod Pieces
 pub mod ReadOn
+pub mod Bare
+pub mod Fronts

@@ -12,6 +12,7 @@ mod dialect;
 mod each;
 mod examine;
 mod fault;
+mod front;
 mod handler;
 mod item;
 mod kept_units;
@@ -35,6 +36,7 @@ pub use copying::{ByUnit, Copies};
 pub use dialect::Dialect;
 pub use each::{Each, UnitWriter};
 pub use fault::{LimitKind, MalformedKind, StageFault, StreamFault};
+pub use front::{ByFront, Front, is_bare};
 pub use handler::{ByRun, Handler, Turn};
 pub use item::{Character, Chunk, Content, Inner, Item, Read};
 pub use laws::{
@@ -58,6 +60,9 @@ pub const UNIT_MAX: usize = 4_194_304;
 
 /// The most bytes of input that are held for one match, and the most bytes that one rule gives.
 pub const SPAN_MAX: usize = 16_777_216;
+
+/// The most bytes that one step gives that is known by its bytes.
+pub const FRONT_MAX: usize = 4_096;
 
 /// The most bytes that one pipe may hold.
 pub const ROOM_MAX: usize = 1_048_576;

@@ -166,6 +166,34 @@ impl Reader {
         self.place = place_after(self.place, count as u64);
     }
 
+    /// The bytes that it holds.
+    pub(crate) fn held(&self) -> &[u8]
+        ensures { result.now ≡ self.now.held }
+    {
+        self.held.as_slice()
+    }
+
+    /// Passes over so many bytes, which it doesn't look at, and holds those behind them, one or
+    /// none, which it doesn't look at either.
+    pub(crate) fn stand(&mut self, count: usize, behind: &[u8]) -> Result<(), Memory>
+        requires { length behind.now ≤ 1 }
+        ensures held { OnOk result (self.new.held ≡ behind.now) }
+        ensures short { length self.new.held ≤ 1 }
+        ensures place { OnOk result (self.new.place ≡ counted (self.old.place + count)) }
+        ensures counts { counted self.old.place ≡ self.old.place }
+        ensures dialect { self.new.dialect ≡ self.old.dialect }
+        ensures fault { self.new.fault ≡ self.old.fault }
+    {
+        self.held.clear();
+        self.level = Level::Item(Mode::Start);
+        self.done = 0;
+        self.looked = true;
+        self.held.extend_from_slice(behind)?;
+        self.looked = behind.len() == 0;
+        self.place = place_after(self.place, count as u64);
+        Ok(())
+    }
+
     /// Takes one more byte, and doesn't look at it yet.
     fn push(&mut self, byte: u8) -> Result<(), StreamFault>
         requires going { self.old.fault ≡ None }

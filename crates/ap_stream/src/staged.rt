@@ -6,20 +6,25 @@ ghost use Rattle.ap_stream.specs.Told.{Told, Ending, Clean, Cut, silent, behind,
 ghost use Rattle.ap_stream.specs.Rest.{rest_of, held_of, rest_at_fault, rest_at_cut, rest_pending_first};
 ghost use Rattle.ap_stream.specs.Sound.{May, measure};
 ghost use Rattle.ap_stream.specs.Copying.{IsOpen, IsIdle};
+ghost use Rattle.ap_stream.specs.Fronts.{IsFresh};
 
 use crate::copying::{ByUnit, Copies, copied_run, give_first};
 use crate::dialect::Dialect;
 use crate::fault::{StageFault, StreamFault};
+use crate::front::{ByFront, give_known};
 use crate::handler::{ByRun, Handler, Turn};
 use crate::pipe::Pipe;
 use crate::reader::{Fed, Reader};
 use crate::stage::{Finish, Stage};
-use ap_symbol::Bytes;
+use ap_symbol::{Bytes, Memory};
 use std::alloc::Global;
 use std::marker::Model;
 
 /// The most bytes that are copied at once.
 const COPIED_AT_ONCE: usize = 4096;
+
+/// The most bytes that are looked at before they are taken.
+const AHEAD: usize = 1024;
 
 /// Once so many bytes are pending, nothing more is given by itself.
 const GIVEN_AT_ONCE: usize = 4096;
@@ -35,6 +40,8 @@ pub struct Staged<H: Handler + Drop> {
     from: usize,
     /// Room for what is given by itself.
     room: Bytes,
+    /// Room for bytes that are looked at before they are taken.
+    ahead: Bytes,
     /// What the reader stopped at.
     stop: Option<StreamFault>,
     finished: bool,
@@ -88,6 +95,7 @@ impl<H: Handler + Drop> Staged<H> {
             out: Bytes::new(alloc),
             from: 0,
             room: Bytes::new(alloc),
+            ahead: Bytes::new(alloc),
             stop: None,
             finished: false,
             ended: false,
@@ -594,6 +602,101 @@ impl<H: ByRun + Drop> Staged<H> {
             }
         }
         Ok(used)
+    }
+}
+
+impl<H: ByFront + Drop> Staged<H> {
+    /// Nothing is pending or held, at most one byte is begun, and more may come.
+    fn is_fresh(&self) -> bool
+        ensures { result ≡ true → IsFresh H.finished H.count H.held self.now }
+    {
+        self.fault.is_none()
+            && !self.finished
+            && self.from == self.out.as_slice().len()
+            && self.reader.begun() <= 1
+            && self.handler.is_free()
+    }
+
+    /// Gives what the first steps of the piece give, as far as they are known by its bytes. Answers
+    /// how many bytes were used.
+    fn go_on(&mut self, piece: &[u8]) -> Result<usize, Memory>
+        requires fresh { IsFresh H.finished H.count H.held self.old }
+        requires open { self.old.ended ≡ false }
+        ensures count { IfOk result (λ n. n ≤ length piece.now) }
+        ensures rest { IfOk result (λ n. (x : List ℕ) (e : Ending) →
+            rest_of H.work self.old (take n piece.now ++ x) e ≡ rest_of H.work self.new x e) }
+        ensures going { OnOk result (self.new.fault ≡ None) }
+        ensures ended { self.new.ended ≡ false }
+        ensures held { IfOk result
+            (λ n. held_of H.held self.new ≤ held_of H.held self.old + n) }
+        ensures none { result ≡ Ok 0 → self.new ≡ self.old }
+        ensures bounded { (held_of H.held self.new ≤ SPAN_MAX + UNIT_MAX + 2)
+            × (length self.new.pending ≤ SPAN_MAX + UNIT_MAX + 2) }
+    {
+        let begun = self.reader.begun();
+        let most = piece.len().min(AHEAD);
+        self.ahead.clear();
+        self.ahead.extend(self.reader.held())?;
+        self.ahead.extend(&piece[..most])?;
+        let text = self.ahead.as_slice();
+        self.out.clear();
+        self.from = 0;
+        let known = give_known(&mut self.handler, text, &mut self.room, &mut self.out);
+        let front = match known {
+            Ok(front) => front,
+            Err(_) => {
+                self.out.clear();
+                return Err(Memory);
+            }
+        };
+        if front.used == 0 || front.seen <= begun {
+            self.out.clear();
+            return Ok(0);
+        }
+        self.reader
+            .stand(front.used, &text[front.used..front.seen])?;
+        Ok(front.seen - begun)
+    }
+
+    /// As `take_runs`, but steps that are known by their bytes are given with no item made.
+    pub fn take_known(&mut self, piece: &[u8]) -> Result<usize, StageFault>
+        requires { self.old.ended ≡ false }
+        ensures count { IfOk result (λ n. n ≤ length piece.now) }
+        ensures rest { IfOk result (λ n. (x : List ℕ) (e : Ending) →
+            rest_of H.work self.old (take n piece.now ++ x) e ≡ rest_of H.work self.new x e) }
+        ensures zero { result ≡ Ok 0 → self.new.pending ≡ [] → piece.now ≡ [] }
+        ensures held { IfOk result
+            (λ n. held_of H.held self.new ≤ held_of H.held self.old + n) }
+        ensures rank { result ≡ Ok 0 → length self.old.pending < length self.new.pending →
+            held_of H.held self.new < held_of H.held self.old }
+        ensures open { self.new.ended ≡ false }
+        ensures no_fault { OnOk result (self.new.fault ≡ None) }
+        ensures fault { IfErr result (λ f. self.new.fault ≡ Some f) }
+        ensures cause { IfErr result (λ f. f ≢ StreamFault.Memory → self.old.fault ≡ None →
+            (n : ℕ) × (n ≤ length piece.now) × ((x : List ℕ) (e : Ending) →
+            rest_of H.work self.old (take n piece.now ++ x) e ≡ ends_in self.new.pending f)) }
+        ensures whole { IfErr result (λ f. self.old.fault ≡ None → (place : ℕ) →
+            f ≢ StreamFault.Malformed MalformedKind.Unfinished place) }
+        ensures front { OnErr result (self.old.fault ≡ None → (x : List ℕ) (e : Ending) →
+            Begins self.new.pending (rest_of H.work self.old (piece.now ++ x) e).text) }
+        ensures stays { (f : StreamFault) → self.old.fault ≡ Some f →
+            (result ≡ Err f) × (self.new ≡ self.old) }
+        ensures bounded { (held_of H.held self.new ≤ SPAN_MAX + UNIT_MAX + 2)
+            × (length self.new.pending ≤ SPAN_MAX + UNIT_MAX + 2) }
+    {
+        if !self.is_fresh() {
+            return self.take_runs(piece);
+        }
+        match self.go_on(piece) {
+            Ok(0) => self.take_runs(piece),
+            Ok(used) => Ok(used),
+            Err(_) => {
+                self.out.clear();
+                self.from = 0;
+                self.fault = Some(StreamFault::Memory);
+                Err(StreamFault::Memory)
+            }
+        }
     }
 }
 
