@@ -1,6 +1,6 @@
 -- Steps that are known by bytes: their marks, and what the work gives.
-use Rattle.std.specs.Prelude.{◌≡◌, ℕ, zero, suc, ◌+◌, ◌<◌, ◌≤◌, Bool, true, false, List, [], ◌∷◌, ◌++◌, length, take, drop}
-use Rattle.std.proofs.Common.{arith, refl, ap, sym, ◌∙◌, inl, get_or}
+use Rattle.std.specs.Prelude.{◌≡◌, ℕ, zero, suc, ◌+◌, ◌<◌, ◌≤◌, Bool, true, false, List, [], ◌∷◌, ◌++◌, length, take, drop, Option, Some, None, IfSome, Result, Ok, Err, IfOk}
+use Rattle.std.proofs.Common.{arith, refl, ap, sym, ◌∙◌, subst, inl, get_or}
 use Rattle.std.proofs.lemmas.Bool.{false≢true}
 use Rattle.std.proofs.lemmas.List.{append-nil, length-take-le, take-take}
 use Rattle.std.proofs.lemmas.List.{take_more}
@@ -14,12 +14,13 @@ use Rattle.ap_stream.specs.Spelling.{spelled}
 use Rattle.ap_stream.specs.Steps.{Gives, bytes_of}
 use Rattle.ap_stream.specs.Told.{Told, Ending, behind, or_else, stop_at}
 use Rattle.ap_stream.specs.declared.dialect.Dialect.TheVariants.{Raw}
+use Rattle.ap_stream.specs.declared.front.Front.{Front}
 use Rattle.ap_stream.specs.declared.item.Read.{Read}
 use Rattle.ap_stream.proofs.BareReads.{bare_spelled, bare_reads, rest_reads, items_size}
 use Rattle.ap_stream.proofs.StepLaws.{turn_wrote}
 use Rattle.ap_live.specs.Lexicon.{Lexicon, IsCoherent, lexicon_of}
 use Rattle.ap_analysis.specs.Analysis.{copied, first_step}
-use Rattle.ap_analysis.specs.Entries.{IsKept, given}
+use Rattle.ap_analysis.specs.Entries.{IsKept, AreKept, given}
 use Rattle.ap_analysis.specs.Fronts.{byte_marks, IsFront}
 use Rattle.ap_analysis.specs.Held.{Held, work_of}
 use Rattle.ap_analysis.specs.Kept.{mark_of, marks}
@@ -160,3 +161,27 @@ module _ (p : Parts) (sensitive finished : Bool) (whole : IsCoherent (lexicon_of
     is = is.is;
     gives = front_gives;
   }
+
+-- what is found gives what the work gives where nothing is held
+pub found_gave : {E : Type 0} (r : Result (Option Front) E) (p : Parts)
+    (sensitive finished : Bool) (items : List Read) (now : Held) (piece before after : List ℕ)
+    (entries : List Entry) →
+    record { compiled = p; sensitive = sensitive; items = items; finished = finished } ≡ now →
+    length items ≡ 0 → IsCoherent (lexicon_of now.compiled now.sensitive) →
+    AreKept (lexicon_of p sensitive) sensitive entries →
+    IfOk r (λ found. IfSome found (λ front. (lexicon : Lexicon) (s : Bool) →
+    AreKept lexicon s entries → IsFront lexicon s piece front.used front.seen before after)) →
+    IfOk r (λ found. IfSome found
+    (λ front. GaveFront work_of Raw now piece front.used front.seen before after))
+found_gave (Err x) p sensitive finished items now piece before after entries view none whole kept
+    says = tt
+found_gave (Ok None) p sensitive finished items now piece before after entries view none whole
+    kept says = tt
+found_gave (Ok (Some front)) p sensitive finished [] now piece before after entries view none
+    whole kept says =
+    subst (λ (h : Held). GaveFront work_of Raw h piece front.used front.seen before after) view
+    (front_gave p sensitive finished
+    (subst (λ (h : Held). IsCoherent (lexicon_of h.compiled h.sensitive)) (sym view) whole) piece front.used front.seen before after
+    (says (lexicon_of p sensitive) sensitive kept))
+found_gave (Ok (Some front)) p sensitive finished (read ∷ items) now piece before after entries
+    view none whole kept says = absurd (omega (arith, none))
