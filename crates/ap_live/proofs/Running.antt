@@ -1,20 +1,23 @@
 -- The edges of a state stand together, those with an empty left side first.
 use Rattle.std.proofs.Common.{◌≡◌, inl, inr, ℕ, ◌-◌, ◌<◌, ◌≤◌, List, refl, sym, ◌∙◌, ap, subst, arith, Option, Some, None, slice_get, length, get_or}
-use Rattle.std.specs.Ordering.{ordering_then, ordering_index}
+use Rattle.std.specs.Ordering.{nat_cmp, ordering_then, ordering_index, ordering_reverse}
 use Rattle.std.specs.declared.cmp.Ordering.{Ordering}
+use Rattle.std.specs.declared.cmp.Ordering.TheVariants.{Less, Equal, Greater}
 use Rattle.std.specs.List.Sorted.{IsNonDecreasingBy}
 use Rattle.std.proofs.lemmas.Bool.{cases_lt}
 use Rattle.std.proofs.lemmas.Option.{slice_get_within, get_or_from_slice_get}
 use Rattle.ap_symbol.specs.declared.symbol.Symbol.{Symbol}
 use Rattle.ap_symbol.specs.declared.symbol.Symbol.TheVariants.{Letter, Tag, Blank, Join, Queue, Alarm, Star, At}
 use Rattle.ap_fst.specs.Lists.{Ascends}
-use Rattle.ap_fst.specs.Machines.{edge_from, IsSpan}
-use Rattle.ap_fst.specs.Order.{side_cmp, edge_cmp, left_place}
+use Rattle.ap_fst.specs.Machines.{edge_from, IsSpan, IsSpanBy}
+use Rattle.ap_fst.specs.Order.{side_cmp, edge_cmp, left_cmp, left_place}
 use Rattle.ap_fst.specs.declared.label.Edge.{Edge}
 use Rattle.ap_fst.proofs.LeftLaws.{places_sorted}
+use Rattle.ap_fst.proofs.OrderLaws.{side_total, side_equal, then_equal}
 use Rattle.ap_fst.proofs.PlaceLaws.{cmp_same}
+use Rattle.ap_fst.proofs.WalkLaws.{equal_from_cmp}
 use Rattle.ap_live.specs.Fitting.{Input}
-use Rattle.ap_live.specs.Runs.{IsRun, Leaves, LeavesSilently}
+use Rattle.ap_live.specs.Runs.{IsRun, Leaves, LeavesBy, LeavesSilently}
 use Rattle.ap_live.specs.Spreads.{SpreadOne, Picked, AnyPlace, PlaceBelow}
 use Rattle.ap_live.specs.declared.arrivals.Arrival.{Arrival}
 use Rattle.ap_live.proofs.Others.{side_none}
@@ -44,6 +47,20 @@ pub none_smaller : (edges : List Edge) (place from : ℕ) (d : Edge) →
 none_smaller edges place from d sorted at more j e at' le = let up : d.from ≤ e.from =
     rises edge_from edges place j d e sorted at at' le in omega arith
 
+-- before an element with a small key
+pub all_before : (key : Edge → ℕ) (edges : List Edge) (place : ℕ) (d : Edge) →
+    IsNonDecreasingBy key edges → 0 < place → slice_get edges (place - 1) ≡ Some d → key d < 1 →
+    (j : ℕ) (e : Edge) → slice_get edges j ≡ Some e → j < place → key e < 1
+all_before key edges place d sorted some at less j e at' lt = let up : key e ≤ key d =
+    rises key edges j (place - 1) e d sorted at' at (omega arith) in omega arith
+
+-- from an element on with a greater key
+pub none_before : (key : Edge → ℕ) (edges : List Edge) (place : ℕ) (d : Edge) →
+    IsNonDecreasingBy key edges → slice_get edges place ≡ Some d → 1 ≤ key d →
+    (j : ℕ) (e : Edge) → slice_get edges j ≡ Some e → place ≤ j → 1 ≤ key e
+none_before key edges place d sorted at more j e at' le = let up : key d ≤ key e =
+    rises key edges place j d e sorted at at' le in omega arith
+
 -- between smaller states and no smaller ones
 pub run_between : (edges : List Edge) (place from : ℕ) → IsNonDecreasingBy edge_from edges →
     ((j : ℕ) (e : Edge) → slice_get edges j ≡ Some e → j < place → e.from < from) →
@@ -66,6 +83,64 @@ pub run_span : (edges : List Edge) (from low high : ℕ) → IsSpan edges from l
 run_span edges from low high span = record {
   after = λ j e at is. (span.outside j e at is).0;
   together = λ j k d e at at' is le up. let below : k < high = (span.outside k e at' is).1 in
+      span.inside j d at le (omega arith);
+}
+
+-- the edges of a state with a left symbol, by where others stand to them
+index_equal : (o : Ordering) → ordering_index o ≡ 1 → o ≡ Equal
+index_equal Less h = absurd (omega arith)
+index_equal Equal h = refl
+index_equal Greater h = absurd (omega arith)
+
+by_place : (from : ℕ) (left : Symbol) (e : Edge) → left_place from (Some left) e ≡ 1 →
+    LeavesBy from left e
+by_place from left e h =
+    let both : (nat_cmp e.from from ≡ Equal) × (side_cmp e.label.left (Some left) ≡ Equal) =
+    then_equal (nat_cmp e.from from) (side_cmp e.label.left (Some left))
+    (index_equal (left_cmp e from (Some left)) h) in
+    (equal_from_cmp e.from from both.0, side_equal e.label.left (Some left) both.1)
+
+self_equal : (o : Ordering) → o ≡ ordering_reverse o → o ≡ Equal
+self_equal Less h = cc
+self_equal Equal h = refl
+self_equal Greater h = cc
+
+place_by : (from : ℕ) (left : Symbol) (e : Edge) → LeavesBy from left e →
+    left_place from (Some left) e ≡ 1
+place_by from left e by =
+    ap (λ (z : Ordering). ordering_index (ordering_then z (side_cmp e.label.left (Some left))))
+    (cmp_same e.from from by.0)
+    ∙ ap (λ (o : Option Symbol). ordering_index (side_cmp o (Some left))) by.1
+    ∙ ap ordering_index (self_equal (side_cmp (Some left) (Some left))
+    (side_total.antisymm (Some left) (Some left)))
+
+pub run_at : (edges : List Edge) (place from : ℕ) (left : Symbol) →
+    IsNonDecreasingBy (left_place from (Some left)) edges →
+    ((j : ℕ) (e : Edge) → slice_get edges j ≡ Some e → j < place →
+    left_place from (Some left) e < 1)
+    → ((j : ℕ) (e : Edge) → slice_get edges j ≡ Some e → place ≤ j →
+    1 ≤ left_place from (Some left) e) → IsRun edges (LeavesBy from left) place
+run_at edges place from left sorted before others = record {
+  after = λ j e at by. elim (cases_lt j place) [
+    | inl lt ↦ let less : left_place from (Some left) e < 1 = before j e at lt in
+        let one : left_place from (Some left) e ≡ 1 = place_by from left e by in
+        absurd (omega arith)
+    | inr le ↦ le
+  ];
+  together = λ j k d e at at' by le up.
+      let low : 1 ≤ left_place from (Some left) d = others j d at le in
+      let rise : left_place from (Some left) d ≤ left_place from (Some left) e =
+      rises (left_place from (Some left)) edges j k d e sorted at at' up in
+      let one : left_place from (Some left) e ≡ 1 = place_by from left e by in
+      by_place from left d (omega arith);
+}
+
+pub run_by_span : (edges : List Edge) (from low high : ℕ) (left : Symbol) →
+    IsSpanBy edges from (Some left) low high → IsRun edges (LeavesBy from left) low
+run_by_span edges from low high left span = record {
+  after = λ j e at by. (span.outside j e at by.0 by.1).0;
+  together = λ j k d e at at' by le up.
+      let below : k < high = (span.outside k e at' by.0 by.1).1 in
       span.inside j d at le (omega arith);
 }
 

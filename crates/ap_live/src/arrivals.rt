@@ -11,6 +11,13 @@ pub struct Arrival {
     pub edge: usize,
 }
 
+fn sort_all(arrivals: &mut Vec<Arrival>)
+    ensures members { (a : Arrival) → IsIn a arrivals.new.items ↔ IsIn a arrivals.old.items }
+    ensures order { IsNonDecreasingBy arrival_to arrivals.new.items }
+{
+    arrivals.sort_unstable_by_key(|a| a.to);
+}
+
 /// Puts arrivals into the order of their states.
 pub(crate) fn sort_arrivals(arrivals: &mut Vec<Arrival>)
     ensures members { (a : Arrival) → IsIn a arrivals.new.items ↔ IsIn a arrivals.old.items }
@@ -19,7 +26,7 @@ pub(crate) fn sort_arrivals(arrivals: &mut Vec<Arrival>)
     if arrivals.len() < 2 {
         return;
     }
-    arrivals.sort_unstable_by_key(|a| a.to);
+    sort_all(arrivals);
 }
 
 /// Where the arrivals at earlier states end, by halving.

@@ -1,4 +1,4 @@
-ghost use Rattle.std.specs.Prelude.{◌≡◌, ◌<◌, ◌-◌, ℕ, [], List, IfOk, OnOk, IsTrue, ◌↔◌, nat_eq, true, Some, None, slice_get};
+ghost use Rattle.std.specs.Prelude.{◌≡◌, ◌<◌, ◌-◌, ℕ, [], List, IfOk, OnOk, IsTrue, ◌↔◌, nat_eq, true, false, Option, Some, None, slice_get};
 ghost use Rattle.std.specs.List.{IsDistinct};
 ghost use Rattle.std.specs.List.Sorted.{IsNonDecreasingBy};
 ghost use Rattle.std.specs.Option.{option_copied};
@@ -7,12 +7,12 @@ ghost use Rattle.ap_fst.specs.Lists.{IsIn};
 ghost use Rattle.ap_live.specs.Rows.{IsFirst, IsNext, IsOrdered, IsVoid, Tells};
 ghost use Rattle.ap_live.specs.declared.rows.Row.{Row};
 ghost use Rattle.ap_live.specs.Fitting.{Input, pick_of, picks};
-ghost use Rattle.ap_live.specs.Runs.{IsRun, Leaves, LeavesSilently};
+ghost use Rattle.ap_live.specs.Runs.{IsRun, Leaves, LeavesBy, LeavesSilently};
 ghost use Rattle.ap_live.specs.Spreads.{Adds, with_state, SpreadOne, Spread, Closed, AnyPlace, IsPlace, HasLeft, IsOther, arrival_to};
 
 use crate::arrivals::{Arrival, sort_arrivals};
-use crate::hints::{first_edge, has_many};
-use crate::picking::{Pick, is_picked, other_symbol};
+use crate::hints::{first_edge, first_with, has_many};
+use crate::picking::{Pick, is_left, is_letter, is_picked, other_symbol};
 use ap_fst::{Edge, Fst};
 use ap_symbol::{Memory, Symbol};
 use std::alloc::Global;
@@ -76,6 +76,26 @@ fn add_edge(
     Ok(())
 }
 
+/// Adds what an edge leads to that takes an input.
+fn add_taken(
+    edge: &Edge,
+    place: usize,
+    states: &mut Vec<usize>,
+    links: &mut Vec<Arrival>,
+) -> Result<(), Memory>
+    ensures { OnOk result ((edges : List Edge) (pick : Option Input) →
+        slice_get edges place ≡ Some edge.now → picks pick edge.now ≡ true → (pick ≡ None → ⊥)
+        → SpreadOne edges pick edge.now.from (IsPlace place) states.old.items
+        links.old.items states.new.items links.new.items) }
+{
+    links.push(Arrival {
+        to: edge.to,
+        edge: place,
+    })?;
+    states.push(edge.to)?;
+    Ok(())
+}
+
 /// Adds what an edge leads to, if it is picked.
 fn try_edge(
     edge: &Edge,
@@ -97,25 +117,38 @@ fn try_edge(
     Ok(())
 }
 
-/// Adds what one state reaches by the edges with this left symbol, which are picked. They are found
-/// by halving.
+/// Whether the edge leaves the state, and has this left symbol.
+fn leaves_by(edge: &Edge, from: usize, left: &Symbol) -> bool
+    ensures { IsTrue result ↔ LeavesBy from left.now edge.now }
+{
+    edge.from == from && is_left(&edge.label.left, left)
+}
+
+/// Adds what one state reaches by the edges with this left symbol, which are picked. They stand
+/// side by side.
 fn spread_left(
     fst: &Fst,
+    hints: &[usize],
     from: usize,
     left: &Symbol,
     pick: Pick<'_>,
     states: &mut Vec<usize>,
     links: &mut Vec<Arrival>,
 ) -> Result<(), Memory>
-    requires { (e : Edge) → e.label.left ≡ Some left.now → picks (pick_of pick) e ≡ true }
+    requires picks { (e : Edge) → e.label.left ≡ Some left.now → picks (pick_of pick) e ≡ true }
+    requires takes { pick_of pick ≡ None → ⊥ }
     ensures { OnOk result (SpreadOne fst.now.edges (pick_of pick.entry) from
         (HasLeft fst.now.edges (Some left.now)) states.old.items links.old.items states.new.items
         links.new.items) }
 {
     let edges = fst.edges();
-    let (low, high) = fst.span_by(from, Some(left));
-    for j in low..high {
-        add_edge(&edges[j], j, pick, states, links)?;
+    let first = first_with(fst, hints, from, left);
+    for at in first..edges.len() {
+        let edge = &edges[at];
+        if !leaves_by(edge, from, left) {
+            return Ok(());
+        }
+        add_taken(edge, at, states, links)?;
     }
     Ok(())
 }
@@ -124,6 +157,7 @@ fn spread_left(
 /// it.
 fn spread_fitting(
     fst: &Fst,
+    hints: &[usize],
     from: usize,
     pick: Pick<'_>,
     input: &Symbol,
@@ -136,11 +170,11 @@ fn spread_fitting(
     ensures { OnOk result (SpreadOne fst.now.edges (pick_of pick.entry) from AnyPlace
         states.old.items links.old.items states.new.items links.new.items) }
 {
-    spread_left(fst, from, input, pick, states, links)?;
+    spread_left(fst, hints, from, input, pick, states, links)?;
     match other {
         None => Ok(()),
         Some(symbol) => {
-            spread_left(fst, from, symbol, pick, states, links)?;
+            spread_left(fst, hints, from, symbol, pick, states, links)?;
             Ok(())
         }
     }
@@ -203,6 +237,30 @@ fn spread_few(
     Ok(())
 }
 
+/// Adds what one state reaches by the edges that are picked. Where it has many edges, they are found
+/// by halving.
+fn spread_mark(
+    fst: &Fst,
+    hints: &[usize],
+    from: usize,
+    pick: Pick<'_>,
+    input: &Symbol,
+    other: Option<&Symbol>,
+    states: &mut Vec<usize>,
+    links: &mut Vec<Arrival>,
+) -> Result<(), Memory>
+    requires { (i : Input) × (pick_of pick ≡ Some i) × (i.symbol ≡ input.now)
+        × IsOther i (option_copied other) }
+    ensures { OnOk result (SpreadOne fst.now.edges (pick_of pick.entry) from AnyPlace
+        states.old.items links.old.items states.new.items links.new.items) }
+{
+    let first = first_edge(fst, hints, from);
+    if has_many(hints, from, first) {
+        return spread_fitting(fst, hints, from, pick, input, other, states, links);
+    }
+    spread_few(fst, from, first, pick, other, states, links)
+}
+
 /// Adds what one state reaches by the edges that are picked. `other` is the symbol that fits the
 /// input beside the input itself.
 fn spread_from(
@@ -218,21 +276,32 @@ fn spread_from(
     ensures { OnOk result (SpreadOne fst.now.edges (pick_of pick.entry) from AnyPlace
         states.old.items links.old.items states.new.items links.new.items) }
 {
-    let first = first_edge(fst, hints, from);
     match pick {
-        Pick::Silent => {
-            spread_silent(fst, from, first, states, links)?;
-            Ok(())
-        }
+        Pick::Silent => spread_silently(fst, hints, from, states, links),
         Pick::Fitting(input, _) => {
-            if has_many(hints, from, first) {
-                spread_fitting(fst, from, pick, input, other, states, links)?;
+            if is_letter(input) {
+                spread_fitting(fst, hints, from, pick, input, other, states, links)?;
                 return Ok(());
             }
-            spread_few(fst, from, first, pick, other, states, links)?;
+            spread_mark(fst, hints, from, pick, input, other, states, links)?;
             Ok(())
         }
     }
+}
+
+/// Adds what one state reaches by its edges with an empty left side.
+fn spread_silently(
+    fst: &Fst,
+    hints: &[usize],
+    from: usize,
+    states: &mut Vec<usize>,
+    links: &mut Vec<Arrival>,
+) -> Result<(), Memory>
+    ensures { OnOk result (SpreadOne fst.now.edges None from AnyPlace states.old.items
+        links.old.items states.new.items links.new.items) }
+{
+    let first = first_edge(fst, hints, from);
+    spread_silent(fst, from, first, states, links)
 }
 
 /// Adds what these states reach by the edges that are picked.
@@ -271,7 +340,7 @@ fn close(
     let mut at = 0;
     while at < states.len() {
         let from = states[at];
-        spread_from(fst, hints, from, Pick::Silent, None, states, links)?;
+        spread_silently(fst, hints, from, states, links)?;
         at += 1;
     }
     Ok(())
@@ -303,6 +372,7 @@ fn holds_final(fst: &Fst, states: &[usize]) -> bool
 pub(crate) fn no_row(alloc: Global) -> Row
     ensures void { IsVoid result }
     ensures order { IsOrdered result }
+    ensures ends { result.ends ≡ false }
 {
     Row {
         states: Vec::new(alloc),

@@ -34,18 +34,18 @@ loop-at-preserved c =
     subst (λ x. IsIn x c.loop-at.states.items) (sym is)
     (in_at c.loop-at.states.items c.loop-at.at within) in
     record {
-      in_range = longer c.loop-at.states.items c.spread_from.new.states.items
-          c.in_ok-spread_from.ensures.more c.loop-at.at c.in_ok-spread_from.ensures.grown within;
+      in_range = longer c.loop-at.states.items c.spread_silently.new.states.items
+          c.in_ok-spread_silently.ensures.more c.loop-at.at c.in_ok-spread_silently.ensures.grown within;
       spread = close_step c.args.fst.now.edges c.args.states.now.items c.loop-at.states.items
-          c.args.links.now.items c.loop-at.links.items c.spread_from.new.states.items
-          c.spread_from.new.links.items
+          c.args.links.now.items c.loop-at.links.items c.spread_silently.new.states.items
+          c.spread_silently.new.links.items
           c.index-from.result.now c.loop-at.at within is c.loop-at.invariant.spread
-          c.in_ok-spread_from.ensures;
+          c.in_ok-spread_silently.ensures;
       sound = close_sound c.args.fst.now.edges c.args.states.now.items c.loop-at.states.items
-          c.loop-at.links.items c.spread_from.new.states.items c.spread_from.new.links.items
+          c.loop-at.links.items c.spread_silently.new.states.items c.spread_silently.new.links.items
           c.index-from.result.now
-          listed c.loop-at.invariant.sound c.in_ok-spread_from.ensures;
-      distinct = c.in_ok-spread_from.ensures.distinct refl c.loop-at.invariant.distinct;
+          listed c.loop-at.invariant.sound c.in_ok-spread_silently.ensures;
+      distinct = c.in_ok-spread_silently.ensures.distinct refl c.loop-at.invariant.distinct;
     }
 
 pub returns : goal.returns

@@ -1,10 +1,17 @@
-use Rattle.std.proofs.Common.{ap, Some}
+use Rattle.std.proofs.Common.{ap, sym, ◌∙◌, Some}
+use Rattle.std.proofs.lemmas.Option.{none-some}
 use Rattle.std.specs.Option.{option_copied}
 use Rattle.ap_live.specs.Fitting.{pick_of}
 use Rattle.ap_live.specs.Spreads.{HasLeft, AnyPlace}
 use Rattle.ap_live.proofs.Spreading.{spread_seen, spread_two}
 use Rattle.ap_live.proofs.Others.{one_side, two_sides}
 use Rattle.ap_live.proofs.rows.spread_fitting.Goals as goal
+
+pub spread_left-requires-clause-takes : goal.spread_left-requires-clause-takes
+spread_left-requires-clause-takes c = λ n. none-some c.requires.0 (sym n ∙ c.requires.1)
+
+pub spread_left-requires-in-Some-clause-takes : goal.spread_left-requires-in-Some-clause-takes
+spread_left-requires-in-Some-clause-takes c = λ n. none-some c.requires.0 (sym n ∙ c.requires.1)
 
 pub returns-in-None : goal.returns-in-None
 returns-in-None c = spread_seen c.args.fst.now.edges (pick_of c.args.pick) c.args.from

@@ -10,3 +10,12 @@ spread_fitting-requires c =
           c.in-Fitting.field-1;
     } in
     (input, ap pick_of c.in-Fitting.is, refl, c.requires input (ap pick_of c.in-Fitting.is))
+
+pub spread_mark-requires : goal.spread_mark-requires
+spread_mark-requires c =
+    let input : Input = record {
+      symbol = c.in-Fitting.input.now;
+      sensitive =
+          c.in-Fitting.field-1;
+    } in
+    (input, ap pick_of c.in-Fitting.is, refl, c.requires input (ap pick_of c.in-Fitting.is))

@@ -2,7 +2,7 @@ use Rattle.std.proofs.Common.{rules}
 use Rattle.std.proofs.lemmas.List.Sorted.{IsNonDecreasingBy-from_sort_by_key}
 use Rattle.ap_fst.proofs.Listing.{in_permutation, from_permutation}
 use Rattle.ap_live.specs.Spreads.{arrival_to}
-use Rattle.ap_live.proofs.arrivals.sort_arrivals.Goals as goal
+use Rattle.ap_live.proofs.arrivals.sort_all.Goals as goal
 
 pub returns-clause-members : goal.returns-clause-members
 returns-clause-members c = λ a. (
