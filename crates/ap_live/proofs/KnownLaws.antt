@@ -7,10 +7,10 @@ use Rattle.ap_fst.specs.Lists.{IsIn}
 use Rattle.ap_fst.specs.declared.label.Edge.{Edge}
 use Rattle.ap_fst.proofs.Listing.{in_at, in_either, place_front}
 use Rattle.ap_live.specs.Fitting.{Input}
-use Rattle.ap_live.specs.Rows.{IsNext, AreRows, IsRow, Leads, Stands, IsKnown, IsLinked, Follows, HasStates, Tells}
+use Rattle.ap_live.specs.Rows.{IsNext, IsVoid, AreRows, IsRow, Leads, Stands, IsKnown, IsLinked, Follows, HasStates, Tells}
 use Rattle.ap_live.specs.declared.rows.Row.{Row}
 use Rattle.ap_live.specs.declared.known.Link.{Link}
-use Rattle.ap_live.proofs.RowLaws.{snoc_get, get_taken, live_pushed, last_row, rows_cut}
+use Rattle.ap_live.proofs.RowLaws.{snoc_get, get_taken, live_pushed, last_row, last_there, rows_cut, step_law, void_next, void_tells}
 
 abbrev input_of : Symbol → Bool → Input
 input_of x s = record { symbol = x; sensitive = s }
@@ -369,3 +369,18 @@ pub states_as : (known known' : List Row) (number : ℕ) (states states' : List 
 states_as known known' number states states' k e h =
     subst (λ (z : List Row). HasStates z number states') k
     (subst (λ (z : List ℕ). HasStates known' number z) e h)
+
+-- a row without a state behind another one
+pub void_added : (edges : List Edge) (finals : List ℕ) (seen : List Input) (input : Input)
+    (rows rows' known : List Row) (links : List Link) (path : List ℕ) (row : Row) →
+    ((last : Row) → slice_get rows (length rows - 1) ≡ Some last → last.states.items ≡ [])
+    → rows' ≡ rows ++ row ∷ [] → IsVoid row → row.ends ≡ false → AreRows edges seen rows →
+    IsKnown edges finals rows known links path
+    → AreRows edges (seen ++ input ∷ []) rows' × IsKnown edges finals rows' known links path
+void_added edges finals seen input rows rows' known links path row none grown void ends live is =
+    let (last, at) = last_there rows (length seen) live.count in (
+      step_law edges seen input rows rows rows rows' last row [] live refl refl (sym at)
+          (sym (none last at)) (void_next edges (Some input) row void) grown,
+      known_grown edges finals rows rows' known links path row grown
+          (void_tells finals row void ends) is,
+    )

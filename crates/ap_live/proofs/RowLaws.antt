@@ -1,5 +1,6 @@
-use Rattle.std.proofs.Common.{◌≡◌, ◌⊎◌, inl, inr, ℕ, ◌+◌, ◌<◌, Bool, true, nat_eq, List, [], ◌∷◌, ◌++◌, refl, sym, ◌∙◌, ap, subst, arith, Some, None, slice_get, length, take, suc, zero, length-append, ◌-◌, ◌≤◌}
+use Rattle.std.proofs.Common.{◌≡◌, ◌⊎◌, inl, inr, ℕ, ◌+◌, ◌<◌, Bool, true, false, nat_eq, List, [], ◌∷◌, ◌++◌, refl, sym, ◌∙◌, ap, subst, arith, Option, Some, None, slice_get, length, take, suc, zero, length-append, ◌-◌, ◌≤◌}
 use Rattle.std.proofs.lemmas.List.{take-append-le}
+use Rattle.std.proofs.lemmas.Bool.{true≢false}
 use Rattle.std.proofs.lemmas.Bool.Decides.{nat_tests}
 use Rattle.std.specs.Prelude.{◌↔◌}
 use Rattle.std.proofs.Math.Seq.{take-length}
@@ -11,10 +12,10 @@ use Rattle.std.proofs.lemmas.Option.{none-some}
 use Rattle.ap_fst.specs.declared.label.Edge.{Edge}
 use Rattle.ap_live.specs.Fitting.{Input}
 use Rattle.ap_live.specs.Spreads.{arrival, Picked, Spread, PickedFrom, From, given, onward, Closed}
-use Rattle.ap_live.specs.Rows.{Reach, begin, silent, taken, EntersSilently, EntersTaking, IsRow, IsFirst, IsNext, AreRows}
+use Rattle.ap_live.specs.Rows.{Reach, begin, silent, taken, EntersSilently, EntersTaking, IsRow, IsFirst, IsNext, IsVoid, AreRows, Tells}
 use Rattle.ap_live.specs.declared.arrivals.Arrival.{Arrival}
 use Rattle.ap_live.specs.declared.rows.Row.{Row}
-use Rattle.ap_live.proofs.Spreading.{in_front}
+use Rattle.ap_live.proofs.Spreading.{in_front, spread_nothing}
 
 pub no_snoc : {X : Type 0} (xs : List X) (x : X) → xs ++ x ∷ [] ≡ [] → ⊥
 no_snoc [] x e = cc
@@ -339,3 +340,28 @@ rows_cut edges seen rows rows' n lt e live =
           subst (λ (z : List Input). IsRow edges z row) (sym (take_taken seen n k (omega arith)))
           (live.each k row g.0);
     }
+
+-- ---- a row without a state
+
+pub no_members : {X : Type 0} (xs : List X) → nat_eq (length xs) 0 ≡ true → xs ≡ []
+no_members [] h = refl
+no_members (x ∷ xs) h = absurd (grind (arith, nat_tests))
+
+pub void_next : (edges : List Edge) (pick : Option Input) (row : Row) → IsVoid row →
+    IsNext edges pick [] row
+void_next edges pick row void = record {
+  base = [];
+  taken = subst (λ (z : List Arrival). Spread edges pick [] [] [] [] z) (sym void.taken)
+      (spread_nothing edges pick [] []);
+  closed =
+      let none : Closed edges [] [] [] [] =
+      record { spread = spread_nothing edges None [] []; sound = λ s i. elim i [ ] } in
+      subst (λ (z : List Arrival). Closed edges [] [] row.states.items z) (sym void.silent)
+      (subst (λ (z : List ℕ). Closed edges [] [] z []) (sym void.states) none);
+}
+
+pub void_tells : (finals : List ℕ) (row : Row) → IsVoid row → row.ends ≡ false → Tells finals row
+void_tells finals row void ends = (
+  λ t. absurd (true≢false (sym t ∙ ends)),
+  λ (s, (i, k)). elim (subst (λ (z : List ℕ). IsIn s z) void.states i) [ ],
+)

@@ -1,15 +1,15 @@
-ghost use Rattle.std.specs.Prelude.{◌≡◌, ◌↔◌, ℕ, List, IfOk, IsTrue, Some, slice_get};
+ghost use Rattle.std.specs.Prelude.{◌≡◌, ◌↔◌, ℕ, List, IfOk, IsTrue, Some, false, slice_get};
 ghost use Rattle.std.specs.List.Sorted.{IsNonDecreasingBy};
 ghost use Rattle.ap_fst.specs.declared.label.Edge.{Edge};
 ghost use Rattle.ap_fst.specs.Lists.{IsIn};
 ghost use Rattle.ap_fst.specs.Machines.{Machine};
 ghost use Rattle.ap_live.specs.Fitting.{Input};
-ghost use Rattle.ap_live.specs.Rows.{AreRows, IsOrdered, Reach, Tells};
+ghost use Rattle.ap_live.specs.Rows.{AreRows, IsOrdered, IsVoid, Reach, Tells};
 ghost use Rattle.ap_live.specs.Spreads.{arrival_to};
 ghost use Rattle.ap_live.specs.declared.rows.Row.{Row};
 
 use crate::arrivals::Arrival;
-use crate::rows::{Row, no_row};
+use crate::rows::{Row, clear_row, no_row};
 use ap_symbol::Memory;
 use std::alloc::Global;
 use std::marker::Model;
@@ -126,6 +126,15 @@ impl HeldRow {
         ensures { self.new ≡ row }
     {
         self.shared = Some(row);
+    }
+
+    /// Becomes a row without a state.
+    pub(crate) fn become_void(&mut self)
+        ensures void { IsVoid self.new }
+        ensures ends { self.new.ends ≡ false }
+    {
+        clear_row(&mut self.own);
+        self.shared = None;
     }
 
     /// Shares the row from now on, if there is memory for that.

@@ -498,7 +498,7 @@ fn add_new(
 
 /// Adds the row after one input more: a known one, or else one that is computed. After a refusal
 /// nothing is changed.
-pub(crate) fn add_row(
+fn add_next(
     rows: &mut Rows,
     known: &mut Known,
     fst: &Fst,
@@ -521,6 +521,33 @@ pub(crate) fn add_row(
         None => add_new(rows, known, fst, hints, input, sensitive),
         Some((to, set)) => add_known(rows, known, to, set),
     }
+}
+
+/// Adds the row after one input more. Behind a row without a state comes another one, and else one
+/// that is known or computed. After a refusal nothing is changed.
+pub(crate) fn add_row(
+    rows: &mut Rows,
+    known: &mut Known,
+    fst: &Fst,
+    hints: &[usize],
+    input: &Symbol,
+    sensitive: bool,
+) -> Result<(), Memory>
+    ensures ok { OnOk result ((seen : List Input) → AreRows fst.now.edges seen rows.old →
+        IsKnown fst.now.edges fst.now.finals rows.old known.old.rows.items known.old.links.items
+        known.old.path.items
+        → AreRows fst.now.edges (seen ++ record { symbol = input.now; sensitive = sensitive } ∷ [])
+        rows.new × IsKnown fst.now.edges fst.now.finals rows.new known.new.rows.items
+        known.new.links.items known.new.path.items) }
+    ensures err { OnErr result
+        ((rows.new ≡ rows.old) × (known.new.rows.items ≡ known.old.rows.items)
+        × (known.new.links.items ≡ known.old.links.items)
+        × (known.new.path.items ≡ known.old.path.items)) }
+{
+    if rows.is_void() {
+        return rows.push_void();
+    }
+    add_next(rows, known, fst, hints, input, sensitive)
 }
 
 /// Forgets the known rows.

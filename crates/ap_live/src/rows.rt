@@ -382,6 +382,18 @@ pub(crate) fn no_row(alloc: Global) -> Row
     }
 }
 
+/// Makes a row with no state and no edge. What it holds is room alone.
+pub(crate) fn clear_row(row: &mut Row)
+    ensures void { IsVoid row.new }
+    ensures order { IsOrdered row.new }
+    ensures ends { row.new.ends ≡ false }
+{
+    row.states.clear();
+    row.taken.clear();
+    row.silent.clear();
+    row.ends = false;
+}
+
 /// Goes on from the states of a row, and the edges that took an input, to all that edges with an
 /// empty left side lead to. What else the row holds is room alone.
 fn close_row(fst: &Fst, hints: &[usize], row: &mut Row) -> Result<(), Memory>

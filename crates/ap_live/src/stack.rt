@@ -1,6 +1,6 @@
-ghost use Rattle.std.specs.Prelude.{◌≡◌, ◌++◌, ◌∷◌, ◌-◌, ℕ, [], List, IfOk, OnOk, OnErr, Some, length, slice_get, take};
+ghost use Rattle.std.specs.Prelude.{◌≡◌, ◌++◌, ◌∷◌, ◌-◌, ℕ, [], List, IfOk, OnOk, OnErr, IsTrue, Some, false, length, slice_get, take};
 ghost use Rattle.ap_live.specs.Fitting.{pick_of};
-ghost use Rattle.ap_live.specs.Rows.{AreRows, IsNext, Tells};
+ghost use Rattle.ap_live.specs.Rows.{AreRows, IsNext, IsVoid, Tells};
 ghost use Rattle.ap_live.specs.declared.rows.Row.{Row};
 
 use crate::held::{HeldRow, SharedRow};
@@ -92,6 +92,34 @@ impl Rows {
             return Ok(());
         }
         self.held[self.count].take_over(&mut self.room);
+        self.count += 1;
+        Ok(())
+    }
+
+    /// Whether the last row has no state.
+    pub(crate) fn is_void(&self) -> bool
+        ensures { IsTrue result → (last : Row) → slice_get self.now (length self.now - 1)
+            ≡ Some last → last.states.items ≡ [] }
+    {
+        match self.held[..self.count].last() {
+            None => false,
+            Some(last) => last.states().is_empty(),
+        }
+    }
+
+    /// Adds a row with no state and no edge. After a refusal nothing is changed.
+    pub(crate) fn push_void(&mut self) -> Result<(), Memory>
+        ensures ok { OnOk result ((row : Row) × ((self.new ≡ self.old ++ row ∷ []) × IsVoid row
+            × (row.ends ≡ false))) }
+        ensures err { OnErr result (self.new ≡ self.old) }
+    {
+        if self.held.len() <= self.count {
+            let row = no_row(self.allocator());
+            self.held.push(HeldRow::own(row))?;
+            self.count += 1;
+            return Ok(());
+        }
+        self.held[self.count].become_void();
         self.count += 1;
         Ok(())
     }

@@ -1,11 +1,14 @@
+use Rattle.std.proofs.Common.{◌≡◌, sym}
 use Rattle.ap_live.specs.Fitting.{Input}
+use Rattle.ap_live.proofs.KnownLaws.{void_added}
 use Rattle.ap_live.proofs.TailLaws.{if_ok_more}
 use Rattle.ap_live.proofs.known.add_row.Goals as goal
 
-pub returns-in-Some-clause-ok : goal.returns-in-Some-clause-ok
-returns-in-Some-clause-ok c = if_ok_more c.add_known.result _ _
-    (λ x h seen live is. let input : Input =
+pub returns-then-is_void-clause-ok : goal.returns-then-is_void-clause-ok
+returns-then-is_void-clause-ok c = if_ok_more c.push_void.result _ _
+    (λ x (row, (grown, void, ends)) seen live is. let input : Input =
     record { symbol = c.args.input.now; sensitive = c.args.sensitive } in
-    h c.args.fst.now.edges c.args.fst.now.finals seen input live is
-    (c.find.ensures c.args.fst.now.edges c.args.fst.now.finals c.args.rows.now c.in-Some.to
-    c.in-Some.set c.in-Some.is c.len.ensures is)) c.add_known.ensures.ok
+    void_added c.args.fst.now.edges c.args.fst.now.finals seen input c.args.rows.now
+    c.push_void.new.self c.args.known.now.rows.items c.args.known.now.links.items
+    c.args.known.now.path.items row (c.is_void.ensures c.if-is_void.true) grown void ends live is)
+    c.push_void.ensures.ok
