@@ -90,6 +90,12 @@ module _ (m : Machine) (seen : List Input) (held : Option Lives) where
   pub live_held : (live : Lives) → held ≡ Some live → IsLiveIfAny m seen held → IsLive m seen live
   live_held live e is = subst (λ (h : Option Lives). IsLiveIfAny m seen h) e is
 
+-- where nothing is held, nothing is held after other inputs
+pub nothing_steps : (m : Machine) (seen seen' : List Input) (held : Option Lives) → held ≡ None →
+    IsLiveIfAny m seen held → IsLiveIfAny m seen' held
+nothing_steps m seen seen' held e is = subst (λ (h : Option Lives). IsLiveIfAny m seen' h) (sym e)
+    (nothing_held m seen held e is)
+
 -- the last input is taken back
 pub taken_back : (m : Machine) (seen : List Input) (last : Input) (len n : ℕ) (held : Option Lives)
     (old new : Lives) → held ≡ Some old →

@@ -2,7 +2,8 @@ ghost use Rattle.std.specs.Prelude.{◌⊎◌, length, drop, ◌∷◌, ◌≡�
 ghost use Rattle.std.specs.Option.{option_to_list, option_copied};
 ghost use Rattle.ap_fst.specs.Lists.{IsIn};
 ghost use Rattle.ap_live.specs.Fitting.{Input, is_empty_side};
-ghost use Rattle.ap_live.specs.Tails.{IsBack, IsBackMany, AddsBack, AreFinals, AreBacks};
+ghost use Rattle.ap_live.specs.Tails.{IsBack, IsBackMany, AddsBack, AreFinals, AreBacks, IsOnly};
+ghost use Rattle.ap_fst.specs.declared.label.Edge.{Edge};
 ghost use Rattle.ap_fst.specs.Silence.{HasNoEmptyCycle};
 ghost use Rattle.ap_live.specs.Rows.{AreRows};
 ghost use Rattle.ap_live.specs.Spreads.{arrival_to};
@@ -14,7 +15,7 @@ ghost use Rattle.ap_symbol.specs.declared.symbol.Symbol.{Symbol};
 
 use crate::arrivals::{Arrival, arrivals_at};
 use crate::held::HeldRow;
-use crate::items::{Item, Items, Symbols};
+use crate::items::{Item, Items, Symbols, push_right};
 use ap_fst::{Edge, Fst, empty_cycle_law};
 use ap_symbol::{Memory, Sequence, Symbol};
 use std::alloc::Global;
@@ -40,37 +41,13 @@ fn copy_symbols(alloc: Global, symbols: &Symbols, room: usize) -> Result<Symbols
     Ok(Sequence::from_vec(made))
 }
 
-/// The same output, which where it has no symbol yet gets room for so many.
-fn with_room(alloc: Global, back: Symbols, room: usize) -> Result<Symbols, Memory>
-    ensures { IfOk result (λ made. made ≡ back) }
-{
-    if !back.is_empty() {
-        return Ok(back);
-    }
-    let made = Vec::with_capacity(alloc, room)?;
-    Ok(Sequence::from_vec(made))
-}
-
-/// The output before an edge, where this is the one behind it.
-fn output_before(alloc: Global, edge: &Edge, back: Symbols, room: usize) -> Result<Symbols, Memory>
-    ensures { IfOk result (λ made. made ≡ back ++ option_to_list edge.now.label.right) }
-{
-    match &edge.label.right {
-        None => Ok(back),
-        Some(symbol) => {
-            let mut back = with_room(alloc, back, room)?;
-            back.push(symbol.copy(alloc)?)?;
-            Ok(back)
-        }
-    }
-}
-
 /// The item before an edge, where this is the output behind it.
 fn item_before(alloc: Global, edge: &Edge, back: Symbols, room: usize) -> Result<Item, Memory>
     ensures { IfOk result (λ made. made
         ≡ record { state = edge.now.from; back = back ++ option_to_list edge.now.label.right }) }
 {
-    let back = output_before(alloc, edge, back, room)?;
+    let mut back = back;
+    push_right(alloc, &edge.label.right, room, &mut back)?;
     Ok(Item {
         state: edge.from,
         back,
@@ -185,9 +162,24 @@ fn move_before(
     move_link(alloc, fst, *last, item, room, found)
 }
 
+/// The link, if it is the only one.
+fn only_link(links: &[Arrival]) -> Option<Arrival>
+    ensures { (link : Arrival) → result ≡ Some link → links.now ≡ link ∷ [] }
+{
+    match links.split_last() {
+        None => None,
+        Some((last, others)) => {
+            if others.is_empty() {
+                return Some(*last);
+            }
+            None
+        }
+    }
+}
+
 /// Goes back from these items by edges with a left symbol. The items before them take their place.
 /// The other list, which is empty before and after, lends its memory.
-fn backward(
+fn back_all(
     alloc: Global,
     fst: &Fst,
     links: &[Arrival],
@@ -205,6 +197,49 @@ fn backward(
     }
     mem::swap(items, found);
     Ok(())
+}
+
+/// The edge by which the item was reached, if it is the only item and its link the only one, and
+/// the edge has a left symbol.
+fn only_edge<'a>(fst: &'a Fst, links: &[Arrival], items: &Items) -> Option<&'a Edge>
+    ensures { (edge : Edge) → option_copied result ≡ Some edge →
+        IsOnly fst.now.edges edge links.now items.now }
+{
+    let Some(link) = only_link(links) else {
+        return None;
+    };
+    let Some(item) = items.only() else {
+        return None;
+    };
+    let Some(edge) = edge_at(fst.edges(), link.edge) else {
+        return None;
+    };
+    if leads(edge, link, item, false) {
+        return Some(edge);
+    }
+    None
+}
+
+/// Goes back from these items by edges with a left symbol. The items before them take their place.
+/// The other list, which is empty before and after, lends its memory where more than one item is
+/// reached by more than one link.
+fn backward(
+    alloc: Global,
+    fst: &Fst,
+    links: &[Arrival],
+    room: usize,
+    items: &mut Items,
+    found: &mut Items,
+) -> Result<(), Memory>
+    requires order { IsNonDecreasingBy arrival_to links.now }
+    requires none { found.old ≡ [] }
+    ensures back { OnOk result (IsBack fst.now.edges false links.now items.old items.new) }
+    ensures none { OnOk result (found.new ≡ []) }
+{
+    match only_edge(fst, links, &*items) {
+        None => back_all(alloc, fst, links, room, items, found),
+        Some(edge) => items.go_back(alloc, edge, room),
+    }
 }
 
 /// Adds the item before one of the items by one link, if its edge has an empty left side.
@@ -393,7 +428,7 @@ fn outputs_back(alloc: Global, fst: &Fst, rows: &[HeldRow]) -> Result<Vec<Symbol
     let last = &rows[at];
     let mut items = final_items(alloc, fst, last.states())?;
     let mut found = Items::new(alloc);
-    close_back(alloc, fst, last.silent(), room, &mut items)?;
+    rounds_back(alloc, fst, last.silent(), room, &mut items)?;
     while at > 0 {
         let row = &rows[at];
         backward(alloc, fst, row.taken(), room, &mut items, &mut found)?;

@@ -1,9 +1,10 @@
-ghost use Rattle.std.specs.Prelude.{◌≡◌, ◌++◌, ◌∷◌, [], None, IfOk, OnOk, IsTrue, Some, length, slice_get};
-ghost use Rattle.std.specs.Option.{option_copied};
+ghost use Rattle.std.specs.Prelude.{◌≡◌, ◌<◌, ◌++◌, ◌∷◌, [], None, IfOk, OnOk, IsTrue, Some, length, slice_get};
+ghost use Rattle.std.specs.Option.{option_copied, option_to_list};
 ghost use Rattle.ap_fst.specs.Lists.{IsIn};
 ghost use Rattle.ap_live.specs.Tails.{Merges};
 
 use crate::picking::is_symbol;
+use ap_fst::Edge;
 use ap_symbol::{Memory, Sequence, Symbol};
 use std::alloc::Global;
 use std::marker::Model;
@@ -22,6 +23,52 @@ const SPREAD: usize = 0x9E37_79B9_7F4A_7C15;
 pub struct Item {
     pub state: usize,
     pub back: Symbols,
+}
+
+/// Gives an output without a symbol room for so many.
+fn reserve(alloc: Global, back: &mut Symbols, room: usize) -> Result<(), Memory>
+    ensures { OnOk result (back.new ≡ back.old) }
+{
+    if !back.is_empty() {
+        return Ok(());
+    }
+    let made = Vec::with_capacity(alloc, room)?;
+    *back = Sequence::from_vec(made);
+    Ok(())
+}
+
+/// Appends what an edge writes to an output, which goes back. Where it has no symbol yet it gets
+/// room for so many.
+pub(crate) fn push_right(
+    alloc: Global,
+    right: &Option<Symbol>,
+    room: usize,
+    back: &mut Symbols,
+) -> Result<(), Memory>
+    ensures { OnOk result (back.new ≡ back.old ++ option_to_list right.now) }
+{
+    match right {
+        None => Ok(()),
+        Some(symbol) => {
+            reserve(alloc, back, room)?;
+            back.push(symbol.copy(alloc)?)?;
+            Ok(())
+        }
+    }
+}
+
+impl Item {
+    /// Becomes the item before an edge.
+    pub(crate) fn go_back(&mut self, alloc: Global, edge: &Edge, room: usize) -> Result<(), Memory>
+        ensures { OnOk result (self.new ≡ record {
+          state = edge.now.from;
+          back = self.old.back ++ option_to_list edge.now.label.right;
+        }) }
+    {
+        push_right(alloc, &edge.label.right, room, &mut self.back)?;
+        self.state = edge.from;
+        Ok(())
+    }
 }
 
 /// Items, of which an equal one isn't added again. Contracts see the list.
@@ -227,12 +274,43 @@ impl Items {
     pub(crate) fn add(&mut self, item: Item) -> Result<(), Memory>
         ensures { OnOk result (Merges self.old item self.new) }
     {
+        if self.list.is_empty() {
+            self.list.push(item)?;
+            return Ok(());
+        }
         if self.holds(&item) {
             return Ok(());
         }
         self.list.push(item)?;
         slot_last(self.list.as_slice(), &mut self.slots)?;
         Ok(())
+    }
+
+    /// The item, if it is the only one.
+    pub(crate) fn only(&self) -> Option<&Item>
+        ensures { (item : Item) → option_copied result ≡ Some item → self.now ≡ item ∷ [] }
+    {
+        match self.list.as_slice().split_last() {
+            None => None,
+            Some((last, others)) => {
+                if others.is_empty() {
+                    return Some(last);
+                }
+                None
+            }
+        }
+    }
+
+    /// The first item becomes the one before an edge.
+    pub(crate) fn go_back(&mut self, alloc: Global, edge: &Edge, room: usize) -> Result<(), Memory>
+        requires { 0 < length self.old }
+        ensures { OnOk result ((item : Item) → self.old ≡ item ∷ [] →
+            self.new ≡ record {
+              state = edge.now.from;
+              back = item.back ++ option_to_list edge.now.label.right;
+            } ∷ []) }
+    {
+        self.list[0].go_back(alloc, edge, room)
     }
 
     /// Takes the last item away.

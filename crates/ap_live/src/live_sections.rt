@@ -66,10 +66,10 @@ impl LiveSections {
             .step(compiled.section(Kind2::Inconditional), input, sensitive);
         let postblank = self
             .postblank
-            .step(compiled.section(Kind2::Postblank), input, sensitive);
+            .step_if_held(compiled.section(Kind2::Postblank), input, sensitive);
         let preblank = self
             .preblank
-            .step(compiled.section(Kind2::Preblank), input, sensitive);
+            .step_if_held(compiled.section(Kind2::Preblank), input, sensitive);
         if are_all(standard, inconditional, postblank, preblank) {
             return Ok(());
         }

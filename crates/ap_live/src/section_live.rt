@@ -1,4 +1,4 @@
-ghost use Rattle.std.specs.Prelude.{◌≡◌, true, false, not, ◌++◌, ◌∷◌, [], List, take, IfOk};
+ghost use Rattle.std.specs.Prelude.{◌≡◌, true, false, None, not, ◌++◌, ◌∷◌, [], List, take, IfOk};
 ghost use Rattle.ap_symbol.specs.declared.symbol.Symbol.{Symbol};
 ghost use Rattle.ap_fst.specs.Machines.{Machine};
 ghost use Rattle.ap_fst.specs.Sections.{IsSection};
@@ -32,6 +32,26 @@ impl SectionLive {
         }
         let live = Live::start(alloc, fst)?;
         Ok(SectionLive { live: Some(live) })
+    }
+
+    /// Whether there is anything to go on from.
+    fn is_held(&self) -> bool
+        ensures { result ≡ false → self.now.live ≡ None }
+    {
+        self.live.is_some()
+    }
+
+    /// The same as `step`, with a look before it: for a kind of sections that mostly has no entries.
+    pub fn step_if_held(&mut self, fst: &Fst, input: &Symbol, sensitive: bool) -> bool
+        ensures stepped { result ≡ true → (seen : List Input) → IsSectionLive fst.now seen self.old
+            → IsSectionLive fst.now (seen ++ record { symbol = input.now; sensitive = sensitive }
+            ∷ []) self.new }
+        ensures stayed { result ≡ false → self.new ≡ self.old }
+    {
+        if !self.is_held() {
+            return true;
+        }
+        self.step(fst, input, sensitive)
     }
 
     /// Goes on by a symbol, and answers whether there was memory for it. If not, nothing was

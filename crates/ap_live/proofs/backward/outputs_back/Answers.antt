@@ -10,8 +10,8 @@ use Rattle.ap_live.proofs.Spreading.{from_in}
 use Rattle.ap_live.proofs.Backing.{clean_back, clean_many, clean_finals}
 use Rattle.ap_live.proofs.backward.outputs_back.Goals as goal
 
-pub close_back-requires-clause-below : goal.close_back-requires-clause-below
-close_back-requires-clause-below c =
+pub rounds_back-requires-clause-below : goal.rounds_back-requires-clause-below
+rounds_back-requires-clause-below c =
     λ x i. finals_below c.args.fst.now c.states.result.now c.in_ok-items.items x
     c.states-at.ensures.sound.finals_in c.in_ok-items.ensures i
 
@@ -22,22 +22,22 @@ loop-at-init c =
     record {
       in_range = at;
       items = λ seen live. items_last c.args.fst.now seen c.args.rows.now c.index-rows-at.result
-          (length c.args.rows.now - 1) c.in_ok-items.items c.close_back.new.items live (omega arith)
+          (length c.args.rows.now - 1) c.in_ok-items.items c.rounds_back.new.items live (omega arith)
           (row_read c.args.rows.now (length c.args.rows.now - 1) c.index-rows-at.result
           at c.index-rows-at.is)
           (subst (λ (z : List ℕ). AreFinals c.args.fst.now z c.in_ok-items.items) c.states.ensures
           c.in_ok-items.ensures)
           (subst (λ (z : List Arrival). IsBackMany c.args.fst.now.edges z c.in_ok-items.items
-          c.close_back.new.items) c.silent.ensures.value c.in_ok-close_back.ensures);
+          c.rounds_back.new.items) c.silent.ensures.value c.in_ok-rounds_back.ensures);
       empty = c.new-found.ensures;
       clean = clean_many c.args.fst.now c.silent.result.now c.in_ok-items.items
-          c.close_back.new.items c.requires.writes c.in_ok-close_back.ensures
+          c.rounds_back.new.items c.requires.writes c.in_ok-rounds_back.ensures
           (clean_finals c.args.fst.now c.states.result.now c.in_ok-items.items
           c.in_ok-items.ensures);
     }
 
-pub close_back-requires-in-loop-at-clause-below : goal.close_back-requires-in-loop-at-clause-below
-close_back-requires-in-loop-at-clause-below c =
+pub close_back-requires-clause-below : goal.close_back-requires-clause-below
+close_back-requires-clause-below c =
     λ x i. back_below c.args.fst.now _ _ _ x (from_in c.args.fst.now c.states-at.ensures.sound)
     c.in_ok-backward.ensures.back i
 
@@ -50,7 +50,7 @@ loop-at-preserved c =
       in_range = omega arith;
       items = λ seen live. items_before c.args.fst.now seen c.args.rows.now
           c.index-rows-at-in-loop-at.result c.index-rows-at-in-loop-at-2.result (c.loop-at.at - 1)
-          c.loop-at.items c.backward.new.items c.close_back-in-loop-at.new.items
+          c.loop-at.items c.backward.new.items c.close_back.new.items
           live (omega arith)
           (ap (λ z. slice_get c.args.rows.now z) one
           ∙ row_read c.args.rows.now c.loop-at.at c.index-rows-at-in-loop-at.result rng
@@ -62,11 +62,11 @@ loop-at-preserved c =
           (subst (λ (z : List Arrival). IsBack c.args.fst.now.edges false z c.loop-at.items
           c.backward.new.items) c.taken.ensures.value c.in_ok-backward.ensures.back)
           (subst (λ (z : List Arrival). IsBackMany c.args.fst.now.edges z c.backward.new.items
-          c.close_back-in-loop-at.new.items) c.silent-in-loop-at.ensures.value
-          c.in_ok-close_back-2.ensures);
+          c.close_back.new.items) c.silent-in-loop-at.ensures.value
+          c.in_ok-close_back.ensures);
       empty = c.in_ok-backward.ensures.none;
       clean = clean_many c.args.fst.now c.silent-in-loop-at.result.now c.backward.new.items
-          c.close_back-in-loop-at.new.items c.requires.writes c.in_ok-close_back-2.ensures
+          c.close_back.new.items c.requires.writes c.in_ok-close_back.ensures
           (clean_back c.args.fst.now false c.taken.result.now c.loop-at.items c.backward.new.items
           c.requires.writes c.in_ok-backward.ensures.back c.loop-at.invariant.clean);
     }

@@ -7,5 +7,6 @@ pub returns-then-holds : goal.returns-then-holds
 returns-then-holds c = merges_known c.args.self.now c.args.item (c.holds.ensures c.if-holds.true)
 
 pub returns : goal.returns
-returns c = merges_new c.args.self.now c.push.new.self.items c.args.item (c.in_ok-push.ensures.items
+returns c =
+    merges_new c.args.self.now c.push-2.new.self.items c.args.item (c.in_ok-push-2.ensures.items
     ∙ ap (λ (z : List Item). z ++ c.args.item ∷ []) c.self.view_is)

@@ -12,10 +12,10 @@ returns-then-are_all-clause-ok c =
           c.args.input.now _ _ c.section-2.ensures.value
           (c.step-inconditional.ensures.stepped all.1) live.inconditional_is;
       postblank_is = live_stepped c.args.compiled.now.postblank _ c.args.sensitive symbols
-          c.args.input.now _ _ c.section-3.ensures.value (c.step-postblank.ensures.stepped all.2)
+          c.args.input.now _ _ c.section-3.ensures.value (c.step_if_held-postblank.ensures.stepped all.2)
           live.postblank_is;
       preblank_is = live_stepped c.args.compiled.now.preblank _ c.args.sensitive symbols
-          c.args.input.now _ _ c.section-4.ensures.value (c.step-preblank.ensures.stepped all.3)
+          c.args.input.now _ _ c.section-4.ensures.value (c.step_if_held-preblank.ensures.stepped all.3)
           live.preblank_is;
     }
 
@@ -29,10 +29,10 @@ returns-clause-err c = λ symbols live. record {
       c.step-inconditional.ensures.stayed c.take_back-2.ensures.back c.take_back-2.ensures.stayed
       live.inconditional_is;
   postblank_is = live_back c.args.compiled.now.postblank _ c.args.sensitive _ symbols
-      c.args.input.now _ _ _ c.section-3.ensures.value c.step-postblank.ensures.stepped
-      c.step-postblank.ensures.stayed c.take_back-3.ensures.back c.take_back-3.ensures.stayed
+      c.args.input.now _ _ _ c.section-3.ensures.value c.step_if_held-postblank.ensures.stepped
+      c.step_if_held-postblank.ensures.stayed c.take_back-3.ensures.back c.take_back-3.ensures.stayed
       live.postblank_is;
   preblank_is = live_back c.args.compiled.now.preblank _ c.args.sensitive _ symbols c.args.input.now
-      _ _ _ c.section-4.ensures.value c.step-preblank.ensures.stepped c.step-preblank.ensures.stayed
+      _ _ _ c.section-4.ensures.value c.step_if_held-preblank.ensures.stepped c.step_if_held-preblank.ensures.stayed
       c.take_back-4.ensures.back c.take_back-4.ensures.stayed live.preblank_is;
 }

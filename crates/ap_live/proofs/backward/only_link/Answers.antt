@@ -1,0 +1,14 @@
+use Rattle.std.proofs.Common.{◌≡◌, ◌++◌, ◌∷◌, [], List, sym, ap, ◌∙◌}
+use Rattle.std.proofs.lemmas.Option.{same_Some}
+use Rattle.ap_live.specs.declared.arrivals.Arrival.{Arrival}
+use Rattle.ap_live.proofs.RowLaws.{no_members}
+use Rattle.ap_live.proofs.backward.only_link.Goals as goal
+
+pub returns-then-is_empty : goal.returns-then-is_empty
+returns-then-is_empty c = λ link e.
+    let none : c.in-Some.others.now ≡ [] =
+    no_members c.in-Some.others.now (sym c.is_empty.ensures ∙ c.if-is_empty.true) in
+    let same : c.in-Some.last.now ≡ link = same_Some c.in-Some.last.now link e in
+    c.in-Some.ensures.cases.0
+    ∙ ap (λ (z : List Arrival). z ++ c.in-Some.last.now ∷ []) none
+    ∙ ap (λ (z : Arrival). z ∷ []) same

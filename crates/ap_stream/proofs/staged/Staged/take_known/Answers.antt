@@ -1,0 +1,11 @@
+use Rattle.std.proofs.Common.{ap, refl, Ok, ◌≡◌}
+use Rattle.ap_stream.proofs.staged.Staged.take_known.Goals as goal
+
+pub returns-in-Ok-eq0-clause-front : goal.returns-in-Ok-eq0-clause-front
+returns-in-Ok-eq0-clause-front g c =
+    let same : c.go_on.new.self ≡ c.args.self.now =
+    c.in-Ok-eq0.ensures.none (ap Ok c.in-Ok-eq0.field-0-is) in
+    rw same at c.take_runs-in-Ok-eq0.ensures.front
+
+pub returns-in-Err-clause-front : goal.returns-in-Err-clause-front
+returns-in-Err-clause-front g c = λ none x e. (_, rw c.clear.ensures refl)
