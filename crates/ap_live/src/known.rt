@@ -25,9 +25,6 @@ const ROW_BYTES: usize = 256;
 /// is computed again as fast as it is found. It isn't kept.
 const LEAST_KEPT: usize = 16;
 
-/// So many rows, the first one among them, are kept however small they are: many words begin alike.
-const COMMON: usize = 4;
-
 /// The places for links, and for sets, that there are at first. There are always twice as many as
 /// what they lead to.
 const LEAST_PLACES: usize = 256;
@@ -253,12 +250,8 @@ fn size_at(rows: &[HeldRow], at: usize) -> usize {
     }
 }
 
-/// Whether the last row and the one before it, that it is computed from, are small, and it stands
-/// behind more than a few inputs.
+/// Whether the last row and the one before it, that it is computed from, are small.
 fn is_cheap(rows: &Rows) -> bool {
-    if rows.len() <= COMMON {
-        return false;
-    }
     let rows = rows.as_slice();
     let last = size_at(rows, rows.len().saturating_sub(1));
     let before = size_at(rows, rows.len().saturating_sub(2));
