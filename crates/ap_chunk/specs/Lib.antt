@@ -13,6 +13,7 @@ pub mod Matches
 pub mod Unmatched
 pub mod Stages
 pub mod Searching
+pub mod Translations
 pub mod Known
 pub mod Kept
 pub mod Working

@@ -5,17 +5,9 @@ ghost use Rattle.ap_symbol.specs.declared.symbol.Symbol.{Symbol};
 ghost use Rattle.ap_chunk.specs.Kept.{IsTold, IsKept, AreKept};
 
 use crate::known::KnownUnits;
-use crate::places::{PLACES, free_places, is_same, mixed, place_of, set_place};
+use crate::places::{KEY_MAX, PLACES, free_places, is_same, key_place, set_place};
 use ap_symbol::{Memory, Word, one_rendering};
 use std::alloc::Global;
-
-/// The most bytes of a word whose row is kept.
-const KEY_MAX: usize = 256;
-
-/// The place of a word with these bytes.
-fn key_place(key: &[u8]) -> usize {
-    place_of(mixed(0, key))
-}
 
 /// The bytes of a word, and its row.
 #[derive(Drop)]
@@ -46,7 +38,7 @@ fn told_at<'a>(rows: &'a [KeptRow], at: usize, key: &[u8]) -> Option<&'a [bool]>
     None
 }
 
-fn copy_of_key(alloc: Global, key: &[u8]) -> Result<Vec<u8>, Memory>
+pub(crate) fn copy_of_key(alloc: Global, key: &[u8]) -> Result<Vec<u8>, Memory>
     ensures { IfOk result (λ copy. copy.items ≡ key.now) }
 {
     Ok(Vec::from_slice(alloc, key)?)

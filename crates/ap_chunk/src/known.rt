@@ -1,20 +1,21 @@
-//! Units of transfer that were met before. What is kept is a hint alone: what is found is compared
-//! with the bytes of the unit that is sought.
-ghost use Rattle.std.specs.Prelude.{◌≡◌, [], List, Bool, true, IfSome};
+//! Units of transfer that were met before. Where one is sought is a hint alone: what is found is
+//! compared with the bytes of the unit that is sought.
+ghost use Rattle.std.specs.Prelude.{◌≡◌, [], List, Bool, IfSome};
 ghost use Rattle.ap_symbol.specs.declared.symbol.Symbol.{Symbol};
-ghost use Rattle.ap_chunk.specs.Known.{IsOf, IsKeyed, IsWorded, IsRowed, AreRowed};
+ghost use Rattle.ap_chunk.specs.Known.{IsRowed, AreRowed};
+ghost use Rattle.ap_chunk.specs.Parts.{word_of};
+ghost use Rattle.ap_chunk.specs.Translations.{IsOf};
 
-use crate::places::{LENGTH_MAX, PLACES, free_places, is_same, mixed, place_of, set_place};
-use ap_exec::Divided;
-use ap_stream::Unit;
-use ap_symbol::{Memory, Word, one_rendering};
+use crate::places::{PLACES, free_places, is_same, key_place, set_place};
+use crate::translation::Translation;
+use ap_stream::{Dialect, Unit};
+use ap_symbol::Memory;
 use std::alloc::Global;
 
-/// A unit: its source and its target, and the row of the source.
+/// A unit that was met, and the row of its source.
 #[derive(Drop)]
 pub(crate) struct Known {
-    pub(crate) source: Divided,
-    pub(crate) target: Divided,
+    pub(crate) unit: Translation,
     pub(crate) row: Vec<bool>,
 }
 
@@ -25,29 +26,9 @@ pub(crate) struct KnownUnits {
     places: Vec<u32>,
 }
 
-/// The place of a unit with this source and this target.
-fn unit_place(source: &[u8], target: &[u8]) -> usize {
-    place_of(mixed(mixed(0, source), target))
-}
-
-/// Whether these are the bytes of the word.
-fn is_word(word: &Word, key: &[u8]) -> bool
-    ensures { result ≡ true → IsOf key.now word.now }
-{
-    let _ = word.symbols();
-    is_same(key, word.rendered())
-}
-
-/// Whether these are the bytes of the unit's source and of its target.
-fn is_unit(known: &Known, source: &[u8], target: &[u8]) -> bool
-    ensures { result ≡ true → IsKeyed source.now target.now known.now }
-{
-    is_word(known.source.word(), source) && is_word(known.target.word(), target)
-}
-
-/// The unit at a number, if these are the bytes of its source and of its target.
-fn known_at<'a>(units: &'a [Known], at: usize, source: &[u8], target: &[u8]) -> Option<&'a Known>
-    ensures keyed { IfSome result (λ known. IsKeyed source.now target.now known.now) }
+/// The unit at a number, if these are its bytes.
+fn known_at<'a>(units: &'a [Known], at: usize, key: &[u8]) -> Option<&'a Known>
+    ensures keyed { IfSome result (λ known. known.now.unit ≡ key.now) }
     ensures rowed { (given : List Symbol → List Bool) → AreRowed given units.now →
         IfSome result (λ known. IsRowed given known.now) }
 {
@@ -55,15 +36,10 @@ fn known_at<'a>(units: &'a [Known], at: usize, source: &[u8], target: &[u8]) -> 
         return None;
     }
     let known = &units[at];
-    if is_unit(known, source, target) {
+    if is_same(known.unit.key(), key) {
         return Some(known);
     }
     None
-}
-
-/// Whether the words of a unit are short enough for it to be kept.
-fn is_short(known: &Known) -> bool {
-    known.source.word().len() <= LENGTH_MAX && known.target.word().len() <= LENGTH_MAX
 }
 
 impl KnownUnits {
@@ -77,31 +53,27 @@ impl KnownUnits {
         }
     }
 
-    /// The kept unit whose source and target have these bytes.
-    fn find(&self, source: &[u8], target: &[u8]) -> Option<&Known>
-        ensures keyed { IfSome result (λ known. IsKeyed source.now target.now known.now) }
+    /// The kept unit that has these bytes.
+    fn find(&self, key: &[u8]) -> Option<&Known>
+        ensures keyed { IfSome result (λ known. known.now.unit ≡ key.now) }
         ensures rowed { (given : List Symbol → List Bool) → AreRowed given self.now.units.items →
             IfSome result (λ known. IsRowed given known.now) }
     {
-        match self.places.get(unit_place(source, target)) {
+        match self.places.get(key_place(key)) {
             None => None,
-            Some(at) => known_at(self.units.as_slice(), *at as usize, source, target),
+            Some(at) => known_at(self.units.as_slice(), *at as usize, key),
         }
     }
 
-    /// The unit with the same source and target as this one, if it is kept.
+    /// The kept unit that has the bytes of this one, if there is one.
     pub(crate) fn known(&self, unit: &Unit) -> Option<&Known>
-        ensures worded { IfSome result (λ known. IsWorded unit.now known.now) }
+        ensures read { IfSome result (λ known. IsOf known.now.unit unit.now) }
         ensures rowed { (given : List Symbol → List Bool) → AreRowed given self.now.units.items →
-            IfSome result (λ known. IsRowed given known.now) }
+            IfSome result (λ known. known.now.row.items ≡ given (word_of 0 unit.now)) }
     {
-        one_rendering();
-        match unit.bytes_at(0) {
+        match unit.read_in(Dialect::Bilingual) {
             None => None,
-            Some(source) => match unit.bytes_at(1) {
-                None => None,
-                Some(target) => self.find(source, target),
-            },
+            Some(key) => self.find(key),
         }
     }
 
@@ -117,23 +89,17 @@ impl KnownUnits {
         free_places(&mut self.places)
     }
 
-    /// Keeps a unit, unless its words are long. The error means want of memory.
+    /// Keeps a unit. The error means want of memory.
     pub(crate) fn keep(&mut self, known: Known) -> Result<(), Memory>
         ensures { (given : List Symbol → List Bool) → IsRowed given known →
             AreRowed given self.old.units.items → AreRowed given self.new.units.items }
     {
-        if !is_short(&known) {
-            return Ok(());
-        }
         self.make_room()?;
         let held = self.units.len();
         if held >= PLACES {
             return Ok(());
         }
-        let at = unit_place(
-            known.source.word().rendered(),
-            known.target.word().rendered(),
-        );
+        let at = key_place(known.unit.key());
         set_place(&mut self.places, at, held as u32);
         self.units.push(known)?;
         Ok(())

@@ -19,6 +19,7 @@ mod postchunk;
 mod search;
 mod tags;
 mod transfer;
+mod translation;
 mod unmatched;
 mod words;
 mod writing;

@@ -51,9 +51,10 @@ fn translated<'a>(unit: &Unit, units: &'a KnownUnits, room: &mut Room) -> Result
     match units.known(unit) {
         None => made(unit, room),
         Some(known) => {
-            let source = Held::Known(&known.source);
-            let border = known.target.word().len();
-            Ok(Lent::new(source, Held::Known(&known.target), border, &[]))
+            let source = known.unit.source();
+            let target = known.unit.target();
+            let border = target.word().len();
+            Ok(Lent::new(Held::Known(source), Held::Known(target), border, &[]))
         }
     }
 }

@@ -6,13 +6,16 @@ ghost use Rattle.ap_chunk.specs.Known.{AreRowed};
 ghost use Rattle.ap_chunk.specs.Parts.{word_of, part_of, unit_part, chunk_part};
 ghost use Rattle.ap_chunk.specs.Searching.{IsKind};
 ghost use Rattle.ap_chunk.specs.Tests.{row_of};
+ghost use Rattle.ap_chunk.specs.Translations.{IsOf};
 
 use crate::categories::row;
-use crate::kept::{Kept, KeptRows, copy_of_row};
+use crate::kept::{Kept, KeptRows, copy_of_key, copy_of_row};
 use crate::known::{Known, KnownUnits};
+use crate::places::KEY_MAX;
+use crate::translation::Translation;
 use ap_exec::{Divided, Spare};
 use ap_rules::{Form, Rules};
-use ap_stream::{Item, Names, Unit};
+use ap_stream::{Dialect, Item, Names, Unit};
 use ap_symbol::{Memory, Word};
 use std::alloc::Global;
 
@@ -140,24 +143,46 @@ fn recall_first(units: &KnownUnits, unit: &Unit, row: &mut Vec<bool>) -> Result<
     }
 }
 
-/// Keeps a unit with this source, which has this row. The room is used for its target.
+/// A unit with these bytes and this source, as it is kept. The room is used for its target.
+fn translation(
+    unit: &Unit,
+    key: &[u8],
+    source: Word,
+    room: &mut Room,
+) -> Result<Translation, Memory>
+    requires key { IsOf key.now unit.now }
+    requires source { source ≡ word_of 0 unit.now }
+    ensures key { IfOk result (λ made. made ≡ key.now) }
+    ensures row { room.new.row ≡ room.old.row }
+{
+    let key = copy_of_key(room.alloc, key)?;
+    let target = word_at(unit, 1, room)?;
+    Ok(Translation::new(key, Divided::new(source), Divided::new(target)))
+}
+
+/// Keeps a unit with this source, which has this row, where it was read and isn't long.
 fn keep_unit(
     unit: &Unit,
     source: Word,
     units: &mut KnownUnits,
     room: &mut Room,
 ) -> Result<(), Memory>
+    requires { source ≡ word_of 0 unit.now }
     ensures units { (given : List Symbol → List Bool) → room.old.row.items ≡ given source →
         AreRowed given units.old.units.items → AreRowed given units.new.units.items }
     ensures row { room.new.row ≡ room.old.row }
 {
-    let target = word_at(unit, 1, room)?;
-    let row = copy_of_row(room.alloc, room.row.as_slice())?;
-    units.keep(Known {
-        source: Divided::new(source),
-        target: Divided::new(target),
-        row,
-    })
+    match unit.read_in(Dialect::Bilingual) {
+        None => Ok(()),
+        Some(key) => {
+            if key.len() > KEY_MAX {
+                return Ok(());
+            }
+            let made = translation(unit, key, source, room)?;
+            let row = copy_of_row(room.alloc, room.row.as_slice())?;
+            units.keep(Known { unit: made, row })
+        }
+    }
 }
 
 /// Puts the row of the first word of a unit into the room.

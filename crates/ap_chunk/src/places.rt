@@ -7,24 +7,24 @@ use ap_symbol::Memory;
 /// The number of places; so many words, or units, are kept at most.
 pub(crate) const PLACES: usize = 65536;
 
-/// The most symbols of a word that is kept, so that what is kept stays small.
-pub(crate) const LENGTH_MAX: usize = 64;
+/// The most bytes of a word, or of a unit, that is kept, so that what is kept stays small.
+pub(crate) const KEY_MAX: usize = 256;
 
 /// Nothing has this number.
 const NO_NUMBER: u32 = 4294967295;
 
 /// The bytes go into one number, each five places from the one before.
-pub(crate) fn mixed(number: u64, bytes: &[u8]) -> u64 {
-    let mut hash = number;
+fn mixed(bytes: &[u8]) -> u64 {
+    let mut hash: u64 = 0;
     for byte in bytes {
         hash = hash.rotate_left(5) ^ u64::from(*byte);
     }
     hash
 }
 
-/// The place that the number tells which bytes make: by its upper half.
-pub(crate) fn place_of(number: u64) -> usize {
-    (number.wrapping_mul(11400714819323198485) >> 32) as usize % PLACES
+/// The place of what has these bytes: by the upper half of the number that they make.
+pub(crate) fn key_place(key: &[u8]) -> usize {
+    (mixed(key).wrapping_mul(11400714819323198485) >> 32) as usize % PLACES
 }
 
 /// Whether two lists of bytes are equal.

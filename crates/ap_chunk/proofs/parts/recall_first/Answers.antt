@@ -6,4 +6,3 @@ returns-in_ok-extend_from_slice-in-Some c = λ given all _.
     c.in_ok-extend_from_slice-in-Some.ensures.items
     ∙ ap (λ (z : List Bool). z ++ c.as_slice.result.now) c.clear.ensures.items
     ∙ c.as_slice.ensures.value ∙ c.in-Some.ensures.rowed given all
-    ∙ ap given c.in-Some.ensures.worded.first
