@@ -13,18 +13,39 @@ pub(crate) const KEY_MAX: usize = 256;
 /// Nothing has this number.
 const NO_NUMBER: u32 = 4294967295;
 
-/// The bytes go into one number, each five places from the one before.
-fn mixed(bytes: &[u8]) -> u64 {
-    let mut hash: u64 = 0;
-    for byte in bytes {
-        hash = hash.rotate_left(5) ^ u64::from(*byte);
-    }
-    hash
+/// One number of four bytes.
+fn joined(a: u8, b: u8, c: u8, d: u8) -> u64 {
+    u64::from(a) | u64::from(b) << 8 | u64::from(c) << 16 | u64::from(d) << 24
 }
 
-/// The place of what has these bytes: by the upper half of the number that they make.
+/// A number with one more in it, from which the one before is turned away.
+fn mixed(number: u64, more: u64) -> u64 {
+    (number.rotate_left(23) ^ more).wrapping_mul(11400714819323198485)
+}
+
+/// A number of the bytes, four at a time.
+fn number_of(bytes: &[u8]) -> u64 {
+    let mut number: u64 = bytes.len() as u64;
+    let mut rest = bytes;
+    while let [a, b, c, d, more @ ..] = rest {
+        number = mixed(number, joined(*a, *b, *c, *d));
+        rest = more;
+    }
+    last_of(number, rest)
+}
+
+/// A number with the last bytes in it.
+fn last_of(number: u64, bytes: &[u8]) -> u64 {
+    let mut number = number;
+    for byte in bytes {
+        number = mixed(number, u64::from(*byte));
+    }
+    number
+}
+
+/// The place of what has these bytes: by the upper half of their number.
 pub(crate) fn key_place(key: &[u8]) -> usize {
-    (mixed(key).wrapping_mul(11400714819323198485) >> 32) as usize % PLACES
+    (number_of(key) >> 32) as usize % PLACES
 }
 
 /// Whether two lists of bytes are equal.
