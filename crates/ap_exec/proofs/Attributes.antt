@@ -1,12 +1,15 @@
--- An item of one tag fits that tag alone.
-use Rattle.std.proofs.Common.{◌≡◌, ◌≢◌, ℕ, Bool, true, false, List, [], ◌∷◌, length, refl, ap, ◌∙◌, append-nil, arith, bytes_eq}
-use Rattle.std.proofs.lemmas.Bool.{and_parts}
+-- Which items fit: one of one tag fits that tag alone, and none fits a tag with which none begins.
+use Rattle.std.proofs.Common.{◌≡◌, ◌≢◌, ℕ, suc, ◌+◌, Bool, true, false, List, [], ◌∷◌, length, map, cond, slice_get, Option, Some, None, refl, ap, ◌∙◌, append-nil, arith, bytes_eq}
+use Rattle.std.proofs.lemmas.Bool.{and_left, and_parts, or_parts}
+use Rattle.std.specs.List.{list_any}
 use Rattle.std.proofs.lemmas.Slice.Eq.{bytes_eq-Decides}
 use Rattle.ap_symbol.specs.Rendering.{rendering, tag_bytes}
 use Rattle.ap_symbol.specs.declared.symbol.Symbol.{Symbol}
 use Rattle.ap_symbol.specs.declared.symbol.Symbol.TheVariants.{Letter, Tag, Blank, Join, Queue, Alarm, Star, At}
+use Rattle.ap_rules.specs.Attributes.{tag_is_first, begins_with_tag}
+use Rattle.ap_rules.specs.declared.attribute.AttrItem.{AttrItem}
 use Rattle.ap_exec.specs.Attributes.{BeginsWithTag}
-use Rattle.ap_exec.specs.Parts.{item_fits}
+use Rattle.ap_exec.specs.Parts.{Span, begins_with, item_fits, longer, longest, sought, tags_in, items_in, items_of}
 
 one_tag : (a name : List ℕ) → bytes_eq a name ≡ true → rendering (Tag a ∷ []) ≡ tag_bytes name
 one_tag a name same =
@@ -36,3 +39,55 @@ pub others_fail : (item : List Symbol) (name : List ℕ) (word : List Symbol) �
 others_fail item name word begins one other = ap (item_fits item) begins.front
     ∙ not_true (item_fits item (Tag name ∷ begins.rest))
     (λ fits. other (fits_alone item name begins.rest one fits))
+
+-- a tag with which no item begins
+
+other_first : (item : List Symbol) (name : List ℕ) (rest : List Symbol) →
+    tag_is_first name item ≡ false → item_fits item (Tag name ∷ rest) ≡ false
+other_first [] name rest none = refl
+other_first (Tag own ∷ more) name rest none =
+    and_left (bytes_eq own name) (begins_with more rest) none
+other_first (Letter a ∷ more) name rest none = refl
+other_first (Blank ∷ more) name rest none = refl
+other_first (Join ∷ more) name rest none = refl
+other_first (Queue ∷ more) name rest none = refl
+other_first (Alarm ∷ more) name rest none = refl
+other_first (Star ∷ more) name rest none = refl
+other_first (At ∷ more) name rest none = refl
+
+best_stays : (best : Option ℕ) (items : List AttrItem) (name : List ℕ) (rest : List Symbol) →
+    list_any (begins_with_tag name) items ≡ false →
+    longest best (map tags_in items) (Tag name ∷ rest) ≡ best
+best_stays best [] name rest none = refl
+best_stays best (item ∷ items) name rest none =
+    let parts = or_parts (begins_with_tag name item) (list_any (begins_with_tag name) items) none in
+    ap (λ (fits : Bool). longest (cond fits (longer best (length item.tags)) best)
+    (map tags_in items) (Tag name ∷ rest)) (other_first item.tags name rest parts.0)
+    ∙ best_stays best items name rest parts.1
+
+pub none_fits : (items : List AttrItem) (name : List ℕ) (word : List Symbol) →
+    BeginsWithTag name word → list_any (begins_with_tag name) items ≡ false →
+    longest None (map tags_in items) word ≡ None
+none_fits items name word begins none = ap (longest None (map tags_in items)) begins.front
+    ∙ best_stays None items name begins.rest none
+
+-- where there are no items, a word is passed to its end
+past_all : (at : ℕ) (word : List Symbol) →
+    sought at [] word ≡ (let end : Span = record { start = at + length word; count = 0 } in end)
+past_all at [] =
+    let e : at ≡ at + 0 = omega arith in
+    ap (λ (n : ℕ). let end : Span = record { start = n; count = 0 } in end) e
+past_all at (s ∷ word) =
+    let e : at + 1 + length word ≡ at + suc (length word) = omega arith in
+    past_all (at + 1) word
+    ∙ ap (λ (n : ℕ). let end : Span = record { start = n; count = 0 } in end) e
+
+pub sought_nothing : (attributes : List (List AttrItem)) (n at : ℕ) (word : List Symbol) →
+    slice_get attributes n ≡ None → sought at (items_of attributes n) word
+    ≡ (let end : Span = record { start = at + length word; count = 0 } in end)
+sought_nothing attributes n at word none =
+    ap (λ (o : Option (List AttrItem)). sought at (items_in o) word) none ∙ past_all at word
+
+pub items_are : (attributes : List (List AttrItem)) (n : ℕ) (items : List AttrItem) →
+    slice_get attributes n ≡ Some items → items_of attributes n ≡ map tags_in items
+items_are attributes n items is = ap items_in is

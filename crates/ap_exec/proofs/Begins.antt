@@ -3,7 +3,7 @@ use Rattle.std.proofs.Common.{◌≡◌, ℕ, zero, suc, ◌+◌, ◌<◌, List,
 use Rattle.ap_symbol.specs.declared.symbol.Symbol.{Symbol}
 use Rattle.ap_rules.specs.Plain.{PlainStatements, PlainRules}
 use Rattle.ap_rules.specs.Views.{plain_macro, plain_rules}
-use Rattle.ap_rules.specs.declared.rules.DefAttr.{DefAttr}
+use Rattle.ap_rules.specs.declared.attribute.AttrItem.{AttrItem}
 use Rattle.ap_rules.specs.declared.rules.DefList.{DefList}
 use Rattle.ap_rules.specs.declared.rules.Rules.{Rules}
 use Rattle.ap_stream.specs.declared.TheConstants.{SPAN_MAX}
@@ -79,7 +79,7 @@ set_past (y ∷ ys) zero x h = absurd (omega arith)
 set_past (y ∷ ys) (suc n) x h = ap (λ (zs : List _). y ∷ zs) (set_past ys n x (omega arith))
 
 -- the world of a run
-pub still_is : (r : Rules) (attributes : List DefAttr) (lists : List DefList)
+pub still_is : (r : Rules) (attributes : List (List AttrItem)) (lists : List DefList)
     (macros : List DefMacro) → attributes ≡ r.attributes → lists ≡ r.lists → macros ≡ r.macros.items
     → (let s : Still = record {
       form = r.form;
@@ -89,7 +89,7 @@ pub still_is : (r : Rules) (attributes : List DefAttr) (lists : List DefList)
           map body_in macros;
     } in s) ≡ still_of (plain_rules r)
 still_is r attributes lists macros a l m =
-    ap (λ (xs : List DefAttr). let s : Still =
+    ap (λ (xs : List (List AttrItem)). let s : Still =
     record {
       form = r.form;
       attributes = xs;

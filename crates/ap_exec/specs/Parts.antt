@@ -6,8 +6,7 @@ use Rattle.ap_symbol.specs.Recasing.{case_of_lem}
 use Rattle.ap_symbol.specs.declared.recasing.Case.{Case}
 use Rattle.ap_symbol.specs.declared.symbol.Symbol.{Symbol}
 use Rattle.ap_symbol.specs.declared.symbol.Symbol.TheVariants.{Tag, Queue}
-use Rattle.ap_rules.specs.declared.rules.AttrItem.{AttrItem}
-use Rattle.ap_rules.specs.declared.rules.DefAttr.{DefAttr}
+use Rattle.ap_rules.specs.declared.attribute.AttrItem.{AttrItem}
 use Rattle.ap_rules.specs.declared.rules.Form.{Form}
 use Rattle.ap_rules.specs.declared.rules.Form.TheVariants.{Transfer, Interchunk, Postchunk}
 use Rattle.ap_rules.specs.declared.value.Clip.{Clip}
@@ -71,19 +70,19 @@ sought at items (s ∷ word) = found at (longest None items (s ∷ word)) (sough
 abbrev pub tags_in : AttrItem → List Symbol
 tags_in item = item.tags
 
-abbrev pub items_in : Option DefAttr → List (List Symbol)
+abbrev pub items_in : Option (List AttrItem) → List (List Symbol)
 items_in None = []
-items_in (Some attribute) = map tags_in attribute.items
+items_in (Some items) = map tags_in items
 
 -- the tag rows of the attribute of this number
-abbrev pub items_of : List DefAttr → ℕ → List (List Symbol)
+abbrev pub items_of : List (List AttrItem) → ℕ → List (List Symbol)
 items_of attributes n = items_in (slice_get attributes n)
 
 -- Where a part of a word stands: `lem` before the first tag, `lemh` before the first queue or tag,
 -- `lemq` the rest of `lem`, `tags` the run of tags from the first one, `whole` all; an attribute at
 -- the first place from the first tag on where an item fits, as long as the longest that fits there.
 -- A chunk's content is no part of its name.
-abbrev pub span_of : List DefAttr → ClipPart → List Symbol → Span
+abbrev pub span_of : List (List AttrItem) → ClipPart → List Symbol → Span
 span_of attributes Lem word = record { start = 0; count = prefix_len is_lemma word }
 span_of attributes Lemh word = record { start = 0; count = prefix_len is_head word }
 span_of attributes Lemq word =

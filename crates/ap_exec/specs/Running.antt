@@ -3,7 +3,7 @@ use Rattle.std.specs.Prelude.{ℕ, zero, suc, ◌-◌, ◌==◌, List, [], ◌�
 use Rattle.ap_symbol.specs.Recasing.{case_of_lem, recase_lem}
 use Rattle.ap_symbol.specs.declared.symbol.Symbol.{Symbol}
 use Rattle.ap_rules.specs.Plain.{PlainPiece, values_of, PlainStatement, PlainStatements, PlainWhens, choose, assign, append, out, modify_case, call_macro, no_statements, then_statement, no_whens, then_when}
-use Rattle.ap_rules.specs.declared.rules.DefAttr.{DefAttr}
+use Rattle.ap_rules.specs.declared.attribute.AttrItem.{AttrItem}
 use Rattle.ap_rules.specs.declared.rules.DefList.{DefList}
 use Rattle.ap_rules.specs.declared.rules.Form.{Form}
 use Rattle.ap_rules.specs.declared.statement.Place.{Place}
@@ -22,7 +22,7 @@ use Rattle.ap_exec.specs.Writing.{written}
 -- what stays as it is while a rule runs
 pub record Still : Type 0 where
   pub form : Form
-  pub attributes : List DefAttr
+  pub attributes : List (List AttrItem)
   pub lists : List DefList
   pub bodies : List PlainStatements
 

@@ -1,7 +1,7 @@
 -- What the parts of a rule are read from.
 use Rattle.std.specs.Prelude.{ℕ, List, [], Option, Some, None, slice_get}
 use Rattle.ap_symbol.specs.declared.symbol.Symbol.{Symbol}
-use Rattle.ap_rules.specs.declared.rules.DefAttr.{DefAttr}
+use Rattle.ap_rules.specs.declared.attribute.AttrItem.{AttrItem}
 use Rattle.ap_rules.specs.declared.rules.DefList.{DefList}
 use Rattle.ap_rules.specs.declared.rules.Form.{Form}
 use Rattle.ap_stream.specs.declared.item.Inner.{Inner}
@@ -18,7 +18,7 @@ pub record Shown : Type 0 where
 -- variables hold.
 pub record Sight : Type 0 where
   pub form : Form
-  pub attributes : List DefAttr
+  pub attributes : List (List AttrItem)
   pub lists : List DefList
   pub here : List (Option ℕ)
   pub units : List Shown

@@ -1,7 +1,7 @@
 -- Writing to a part of a unit.
 use Rattle.std.specs.Prelude.{ℕ, ◌+◌, ◌-◌, Bool, true, false, List, ◌++◌, length, take, drop, if◌then◌else◌, nat_le, ◌==◌}
 use Rattle.ap_symbol.specs.declared.symbol.Symbol.{Symbol}
-use Rattle.ap_rules.specs.declared.rules.DefAttr.{DefAttr}
+use Rattle.ap_rules.specs.declared.attribute.AttrItem.{AttrItem}
 use Rattle.ap_rules.specs.declared.rules.Form.{Form}
 use Rattle.ap_rules.specs.declared.value.Clip.{Clip}
 use Rattle.ap_rules.specs.declared.value.ClipPart.{ClipPart}
@@ -48,7 +48,7 @@ written_at part side span value unit = if is_kept part span.count then unit
     else replaced side span value unit
 
 -- the unit with a value in place of the part that a clip names; its link is ignored
-abbrev pub written : Form → List DefAttr → Clip → List Symbol → Shown → Shown
+abbrev pub written : Form → List (List AttrItem) → Clip → List Symbol → Shown → Shown
 written form attributes c value unit =
     written_at c.part (side_in form c.side)
     (span_of attributes c.part (word_on (side_in form c.side) c.queue unit)) value unit

@@ -195,12 +195,13 @@ fn fits_at(item: &Word, name: Option<&[u8]>, word: &[Symbol]) -> bool
     item_fits(item.symbols(), word)
 }
 
-/// The length of the longest item that fits at the front of the word.
-fn longest(items: &[AttrItem], word: &[Symbol]) -> Option<usize>
+/// The length of the longest item that fits at the front of the word, which begins with the tag of
+/// this name, where one is given.
+fn longest_of(items: &[AttrItem], name: Option<&[u8]>, word: &[Symbol]) -> Option<usize>
+    requires { IfSome name (λ n. BeginsWithTag n.now word.now) }
     ensures value { result ≡ longest None (map tags_in items.now) word.now }
     ensures within { IfSome result (λ n. n ≤ length word.now) }
 {
-    let name = name_at(word);
     let mut best = None;
     for item in items {
         if fits_at(&item.tags, name, word) {
@@ -210,16 +211,31 @@ fn longest(items: &[AttrItem], word: &[Symbol]) -> Option<usize>
     best
 }
 
-/// Where an item fits first, as long as the longest that fits there.
-fn sought(start: usize, items: &[AttrItem], word: &[Symbol]) -> Range
+/// The length of the longest item of the attribute that fits at the front of the word.
+#[tactic(auto, using(crate::proofs::Attributes::none_fits))]
+fn longest(attribute: &DefAttr, word: &[Symbol]) -> Option<usize>
+    ensures value { result ≡ longest None (map tags_in attribute.now) word.now }
+    ensures within { IfSome result (λ n. n ≤ length word.now) }
+{
+    let name = name_at(word);
+    if let Some(name) = name {
+        if attribute.lacks(name) {
+            return None;
+        }
+    }
+    longest_of(attribute.items(), name, word)
+}
+
+/// Where an item of the attribute fits first, as long as the longest that fits there.
+fn sought(start: usize, attribute: &DefAttr, word: &[Symbol]) -> Range
     requires { start + length word.now < 2 ^ 64 }
-    ensures value { span result ≡ sought start (map tags_in items.now) word.now }
+    ensures value { span result ≡ sought start (map tags_in attribute.now) word.now }
     ensures within { result.start + result.count ≤ start + length word.now }
 {
     let mut rest = word;
     let mut at = start;
     'places: while let Some((_, more)) = rest.split_first() {
-        if let Some(count) = longest(items, rest) {
+        if let Some(count) = longest(attribute, rest) {
             return Range { start: at, count };
         }
         at += 1;
@@ -231,14 +247,18 @@ fn sought(start: usize, items: &[AttrItem], word: &[Symbol]) -> Range
     }
 }
 
+#[tactic(auto, using(crate::proofs::Attributes::sought_nothing, crate::proofs::Attributes::items_are))]
 fn attribute_span(attributes: &[DefAttr], n: usize, start: usize, word: &[Symbol]) -> Range
     requires { start + length word.now < 2 ^ 64 }
     ensures value { span result ≡ sought start (items_of attributes.now n) word.now }
     ensures within { result.start + result.count ≤ start + length word.now }
 {
     match attributes.get(n) {
-        None => sought(start, &[], word),
-        Some(attribute) => sought(start, attribute.items.as_slice(), word),
+        None => Range {
+            start: start + word.len(),
+            count: 0,
+        },
+        Some(attribute) => sought(start, attribute, word),
     }
 }
 

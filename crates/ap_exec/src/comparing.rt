@@ -3,6 +3,7 @@ ghost use Rattle.std.specs.Prelude.{◌≡◌, true, map};
 ghost use Rattle.ap_symbol.specs.Fitting.{fits_lem};
 ghost use Rattle.ap_exec.specs.Comparing.{same_symbols, same_words, is_begun_by, is_ended_by, holds_part, compared, compared_some};
 ghost use Rattle.ap_exec.specs.Conditions.{word_in};
+ghost use Rattle.ap_exec.specs.declared.comparing.Way.TheVariants.{Equals};
 
 use crate::clips::are_apart;
 use ap_rules::ListItem;
@@ -130,10 +131,27 @@ pub(crate) fn compared(way: Way, caseless: bool, word: &[Symbol], other: &[Symbo
     }
 }
 
+/// Whether a word is some item of a list, where items of another length are passed over.
+#[tactic(auto, using(crate::proofs::SameLetters::other_lengths))]
+fn is_some_item(caseless: bool, word: &[Symbol], items: &[ListItem]) -> bool
+    ensures { result ≡ compared_some Equals caseless word.now (map word_in items.now) }
+{
+    let len = word.len();
+    for item in items {
+        if item.v.len() == len && same_each(word, item.v.symbols(), caseless) {
+            return true;
+        }
+    }
+    false
+}
+
 /// Whether it does so with some item of a list.
 pub(crate) fn compared_some(way: Way, caseless: bool, word: &[Symbol], items: &[ListItem]) -> bool
     ensures { result ≡ compared_some way caseless word.now (map word_in items.now) }
 {
+    if matches!(way, Way::Equals) {
+        return is_some_item(caseless, word, items);
+    }
     for item in items {
         if compared(way, caseless, word, item.v.symbols()) {
             return true;

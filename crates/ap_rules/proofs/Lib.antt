@@ -1,3 +1,4 @@
+pub mod Marks
 pub mod ValueViews
 pub mod ConditionViews
 pub mod StatementViews

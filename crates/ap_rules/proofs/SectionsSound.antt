@@ -25,7 +25,7 @@ use Rattle.ap_rules.specs.declared.faults.Reach.{Reach}
 use Rattle.ap_rules.specs.declared.refusal.RuleFault.{RuleFault}
 use Rattle.ap_rules.specs.declared.rules.CatItem.{CatItem}
 use Rattle.ap_rules.specs.declared.rules.DefCat.{DefCat}
-use Rattle.ap_rules.specs.declared.rules.DefAttr.{DefAttr}
+use Rattle.ap_rules.specs.declared.attribute.AttrItem.{AttrItem}
 use Rattle.ap_rules.specs.declared.rules.DefaultPiece.{DefaultPiece}
 use Rattle.ap_rules.specs.declared.rules.DefaultPiece.TheVariants.{Chunk, Lu}
 use Rattle.ap_rules.specs.declared.rules.Form.{Form}
@@ -94,8 +94,8 @@ attributes_sound nothing = tt
 attributes_sound (element tag inner more) =
     by (is_named (codes "def-attr") tag) (attributes_sound more)
   where
-    attr : DefAttr
-    attr = record { items = attr_items inner }
+    attr : List AttrItem
+    attr = attr_items inner
 
     by : (t : Bool) → Each IsSoundAttr (attributes more) →
         Each IsSoundAttr (cond t (attr ∷ attributes more) (attributes more))
@@ -141,7 +141,7 @@ categories_count form (element tag inner more) =
 attributes_count : (own : Children) → length (attributes own) ≡ count_named (codes "def-attr") own
 attributes_count nothing = refl
 attributes_count (element tag inner more) =
-    count_either (is_named (codes "def-attr") tag) (record { items = attr_items inner })
+    count_either (is_named (codes "def-attr") tag) (attr_items inner)
     (attributes more) (count_named (codes "def-attr") more) (attributes_count more)
 
 variables_count : (own : Children) → length (variables own) ≡ count_named (codes "def-var") own

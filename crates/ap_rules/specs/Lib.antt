@@ -1,3 +1,4 @@
+pub mod Attributes
 pub mod Plain
 pub mod Views
 pub mod Children

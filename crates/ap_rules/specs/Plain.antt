@@ -1,7 +1,7 @@
 -- The rules of a file as plain trees, in the table's order, with a number in place of each name.
 use Rattle.std.specs.Prelude.{ℕ, Bool, List, [], ◌∷◌, Option}
 use Rattle.ap_symbol.specs.declared.symbol.Symbol.{Symbol}
-use Rattle.ap_rules.specs.declared.rules.DefAttr.{DefAttr}
+use Rattle.ap_rules.specs.declared.attribute.AttrItem.{AttrItem}
 use Rattle.ap_rules.specs.declared.rules.DefCat.{DefCat}
 use Rattle.ap_rules.specs.declared.rules.DefList.{DefList}
 use Rattle.ap_rules.specs.declared.rules.DefVar.{DefVar}
@@ -139,7 +139,7 @@ pub record PlainRules : Type 0 where
   pub line : ℕ
   pub default : DefaultPiece
   pub categories : List DefCat
-  pub attributes : List DefAttr
+  pub attributes : List (List AttrItem)
   pub variables : List DefVar
   pub lists : List DefList
   pub macros : List PlainMacro

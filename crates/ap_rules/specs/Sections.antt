@@ -15,9 +15,8 @@ use Rattle.ap_rules.specs.Statements.{statements}
 use Rattle.ap_rules.specs.Texts.{word_of, tags_of, given_text}
 use Rattle.ap_rules.specs.Values.{Scope}
 use Rattle.ap_rules.specs.declared.defined.Defined.{Defined}
-use Rattle.ap_rules.specs.declared.rules.AttrItem.{AttrItem}
+use Rattle.ap_rules.specs.declared.attribute.AttrItem.{AttrItem}
 use Rattle.ap_rules.specs.declared.rules.CatItem.{CatItem}
-use Rattle.ap_rules.specs.declared.rules.DefAttr.{DefAttr}
 use Rattle.ap_rules.specs.declared.rules.DefCat.{DefCat}
 use Rattle.ap_rules.specs.declared.rules.DefList.{DefList}
 use Rattle.ap_rules.specs.declared.rules.DefVar.{DefVar}
@@ -77,10 +76,10 @@ attr_items (element tag own more) =
     (tags_of false (given_text (value_of (codes "tags") tag.attributes)))) ++ attr_items more
     else attr_items more
 
-abbrev pub attributes : Children → List DefAttr
+abbrev pub attributes : Children → List (List AttrItem)
 attributes nothing = []
 attributes (element tag own more) = if is_named (codes "def-attr") tag
-    then record { items = attr_items own } ∷ attributes more else attributes more
+    then attr_items own ∷ attributes more else attributes more
 
 -- the word of `v`, which is empty where it isn't given
 abbrev pub word_of_v : Tag → List Symbol

@@ -7,9 +7,8 @@ use Rattle.ap_rules.specs.Faults.{is_transfer, is_length, reach_to, rule_reach}
 use Rattle.ap_rules.specs.Pieces.{is_named_once}
 use Rattle.ap_rules.specs.Plain.{PlainValue, PlainValues, clip, lit, lit_tag, var, get_case_from, case_of, concat, blank_value, no_values, then_value, PlainComparison, PlainMembership, PlainCondition, PlainConditions, all_of, one_of, negated, equal, begins_with, ends_with, contains_substring, is_in, begins_with_list, ends_with_list, no_conditions, then_condition, PlainChunkPiece, chunk_unit, chunk_units, chunk_blank, PlainChunk, PlainPiece, blank, unit, units, chunk, value_chunk, PlainStatement, PlainStatements, PlainWhens, choose, assign, append, out, modify_case, call_macro, no_statements, then_statement, no_whens, then_when, PlainMacro, PlainRule, PlainRules}
 use Rattle.ap_rules.specs.declared.faults.Reach.{Reach}
-use Rattle.ap_rules.specs.declared.rules.AttrItem.{AttrItem}
+use Rattle.ap_rules.specs.declared.attribute.AttrItem.{AttrItem}
 use Rattle.ap_rules.specs.declared.rules.CatItem.{CatItem}
-use Rattle.ap_rules.specs.declared.rules.DefAttr.{DefAttr}
 use Rattle.ap_rules.specs.declared.rules.DefCat.{DefCat}
 use Rattle.ap_rules.specs.declared.rules.DefaultPiece.{DefaultPiece}
 use Rattle.ap_rules.specs.declared.rules.DefaultPiece.TheVariants as default
@@ -237,8 +236,8 @@ IsSoundCat c = Each IsSoundCatItem c.items
 abbrev pub IsSoundAttrItem : AttrItem → Type 0
 IsSoundAttrItem item = Each (IsTag false) item.tags
 
-abbrev pub IsSoundAttr : DefAttr → Type 0
-IsSoundAttr a = Each IsSoundAttrItem a.items
+abbrev pub IsSoundAttr : List AttrItem → Type 0
+IsSoundAttr items = Each IsSoundAttrItem items
 
 -- Rules are sound.
 pub record IsSound (r : PlainRules) : Type 0 where

@@ -1,6 +1,7 @@
 //! Rule files: the trees of rules, and the reader of a rule file.
 #![tactic(auto)]
 
+mod attribute;
 mod children;
 mod condition;
 mod conditions;
@@ -19,6 +20,7 @@ mod texts;
 mod value;
 mod values;
 
+pub use attribute::{AttrItem, DefAttr};
 pub use condition::{And, Comparison, Condition, Membership, Not, Or};
 pub use laws::{
     has_one_fault, reads_what_the_grammar_spells, refuses_by_the_first_fault, spells_is_sound,
@@ -28,8 +30,8 @@ pub use piece::{Chunk, ChunkPiece, Lu, Mlu, Piece, Tag, ValueChunk};
 pub use reading::read_rules;
 pub use refusal::{RuleFault, RuleKind, RuleRefusal};
 pub use rules::{
-    AttrItem, CatItem, DefAttr, DefCat, DefList, DefMacro, DefVar, DefaultPiece, Form, ListItem,
-    PatternItem, Rule, Rules,
+    CatItem, DefCat, DefList, DefMacro, DefVar, DefaultPiece, Form, ListItem, PatternItem, Rule,
+    Rules,
 };
 pub use statement::{Append, CallMacro, Choose, Let, ModifyCase, Out, Place, Statement, When};
 pub use value::{B, CaseOf, Clip, ClipPart, Concat, GetCaseFrom, Lit, LitTag, Side, Value, Var};

@@ -1,6 +1,7 @@
 ghost use Rattle.std.specs.Prelude.{◌≡◌};
 ghost use Rattle.ap_rules.specs.Views.{makes_chunks};
 
+use crate::attribute::DefAttr;
 use crate::statement::Statement;
 use ap_symbol::{Sequence, Word};
 
@@ -35,18 +36,6 @@ pub struct CatItem {
 #[derive(Drop)]
 pub struct DefCat {
     pub items: Sequence<CatItem>,
-}
-
-/// `attr-item`: tags in a row.
-#[derive(Drop)]
-pub struct AttrItem {
-    pub tags: Word,
-}
-
-/// `def-attr`: an attribute.
-#[derive(Drop)]
-pub struct DefAttr {
-    pub items: Sequence<AttrItem>,
 }
 
 /// `def-var`: a variable.

@@ -9,13 +9,13 @@ ghost use Rattle.ap_markup.specs.Said.{value_of};
 ghost use Rattle.ap_rules.specs.Texts.{given_text, tags_of};
 ghost use Rattle.ap_rules.specs.Views.{plain_macro, plain_rule};
 
+use crate::attribute::{AttrItem, DefAttr};
 use crate::children::{next_element, within};
 use crate::defined::{Defined, npar_of};
 use crate::faults::{is_chunk, is_length, reach_to, rule_reach};
 use crate::pieces::word_given;
 use crate::rules::{
-    AttrItem, CatItem, DefAttr, DefCat, DefList, DefMacro, DefVar, DefaultPiece, Form, ListItem,
-    PatternItem, Rule,
+    CatItem, DefCat, DefList, DefMacro, DefVar, DefaultPiece, Form, ListItem, PatternItem, Rule,
 };
 use crate::statements::statements;
 use crate::texts::{given_text, tags_of, word_of};
@@ -128,7 +128,7 @@ pub fn attributes(alloc: Global, parts: &[Part]) -> Result<Sequence<DefAttr>, Me
     'rest: while let Some((node, more)) = next_element(rest) {
         if is_named("def-attr", node) {
             let items = attr_items(alloc, &node.parts)?;
-            made.push(DefAttr { items })?;
+            made.push(DefAttr::new(items))?;
         }
         rest = more;
     }
