@@ -247,7 +247,6 @@ fn sought(start: usize, attribute: &DefAttr, word: &[Symbol]) -> Range
     }
 }
 
-#[tactic(auto, using(crate::proofs::Attributes::sought_nothing, crate::proofs::Attributes::items_are))]
 fn attribute_span(attributes: &[DefAttr], n: usize, start: usize, word: &[Symbol]) -> Range
     requires { start + length word.now < 2 ^ 64 }
     ensures value { span result ≡ sought start (items_of attributes.now n) word.now }

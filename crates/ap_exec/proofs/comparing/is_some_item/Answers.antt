@@ -1,4 +1,4 @@
-use Rattle.std.proofs.Common.{◌≡◌, sym, ap, ◌∙◌}
+use Rattle.std.proofs.Common.{sym, ap, ◌∙◌}
 use Rattle.ap_exec.specs.Comparing.{same_words}
 use Rattle.ap_exec.proofs.SameLetters.{other_lengths, passed_over}
 use Rattle.ap_exec.proofs.comparing.is_some_item.Goals as goal
