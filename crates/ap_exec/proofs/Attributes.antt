@@ -1,7 +1,7 @@
 -- Which items fit: one of one tag fits that tag alone, and none fits a tag with which none begins.
-use Rattle.std.proofs.Common.{◌≡◌, ◌≢◌, ℕ, suc, ◌+◌, Bool, true, false, List, [], ◌∷◌, length, map, cond, slice_get, Option, Some, None, refl, ap, ◌∙◌, append-nil, arith, bytes_eq}
-use Rattle.std.proofs.lemmas.Bool.{and_left, and_parts, or_parts}
-use Rattle.std.specs.List.{list_any}
+use Rattle.std.proofs.Common.{◌≡◌, ◌≢◌, ℕ, suc, ◌+◌, Bool, true, false, List, [], ◌∷◌, length, map, cond, slice_get, Option, Some, None, refl, ap, sym, ◌∙◌, append-nil, arith, bytes_eq}
+use Rattle.std.proofs.lemmas.Bool.{and_left, and_parts}
+use Rattle.std.specs.List.{filter}
 use Rattle.std.proofs.lemmas.Slice.Eq.{bytes_eq-Decides}
 use Rattle.ap_symbol.specs.Rendering.{rendering, tag_bytes}
 use Rattle.ap_symbol.specs.declared.symbol.Symbol.{Symbol}
@@ -40,7 +40,7 @@ others_fail item name word begins one other = ap (item_fits item) begins.front
     ∙ not_true (item_fits item (Tag name ∷ begins.rest))
     (λ fits. other (fits_alone item name begins.rest one fits))
 
--- a tag with which no item begins
+-- items that don't begin with a tag
 
 other_first : (item : List Symbol) (name : List ℕ) (rest : List Symbol) →
     tag_is_first name item ≡ false → item_fits item (Tag name ∷ rest) ≡ false
@@ -55,21 +55,41 @@ other_first (Alarm ∷ more) name rest none = refl
 other_first (Star ∷ more) name rest none = refl
 other_first (At ∷ more) name rest none = refl
 
-best_stays : (best : Option ℕ) (items : List AttrItem) (name : List ℕ) (rest : List Symbol) →
-    list_any (begins_with_tag name) items ≡ false →
-    longest best (map tags_in items) (Tag name ∷ rest) ≡ best
-best_stays best [] name rest none = refl
-best_stays best (item ∷ items) name rest none =
-    let parts = or_parts (begins_with_tag name item) (list_any (begins_with_tag name) items) none in
-    ap (λ (fits : Bool). longest (cond fits (longer best (length item.tags)) best)
-    (map tags_in items) (Tag name ∷ rest)) (other_first item.tags name rest parts.0)
-    ∙ best_stays best items name rest parts.1
+-- the items that begin with the tag tell the longest
+begun_alone : (best : Option ℕ) (items : List AttrItem) (name : List ℕ) (rest : List Symbol) →
+    longest best (map tags_in items) (Tag name ∷ rest)
+    ≡ longest best (map tags_in (filter (begins_with_tag name) items)) (Tag name ∷ rest)
+begun_alone best [] name rest = refl
+begun_alone best (item ∷ items) name rest =
+    by (λ next. begun_alone next items name rest) (begins_with_tag name item) refl
+  where
+    word : List Symbol
+    word = Tag name ∷ rest
 
-pub none_fits : (items : List AttrItem) (name : List ℕ) (word : List Symbol) →
-    BeginsWithTag name word → list_any (begins_with_tag name) items ≡ false →
-    longest None (map tags_in items) word ≡ None
-none_fits items name word begins none = ap (longest None (map tags_in items)) begins.front
-    ∙ best_stays None items name begins.rest none
+    begun : List AttrItem
+    begun = filter (begins_with_tag name) items
+
+    next : Bool → Option ℕ
+    next fits = cond fits (longer best (length item.tags)) best
+
+    by : ((o : Option ℕ) → longest o (map tags_in items) word ≡ longest o (map tags_in begun) word)
+        → (b : Bool) → begins_with_tag name item ≡ b →
+        longest (next (item_fits item.tags word)) (map tags_in items) word
+        ≡ longest best (map tags_in (cond b (item ∷ begun) begun)) word
+    by more true e = more (next (item_fits item.tags word))
+    by more false e = ap (λ (fits : Bool). longest (next fits) (map tags_in items) word)
+        (other_first item.tags name rest e) ∙ more best
+
+pub near_alone : (near items : List AttrItem) (name : List ℕ) (word : List Symbol) →
+    BeginsWithTag name word →
+    filter (begins_with_tag name) near ≡ filter (begins_with_tag name) items →
+    longest None (map tags_in near) word ≡ longest None (map tags_in items) word
+near_alone near items name word begins same =
+    ap (longest None (map tags_in near)) begins.front
+    ∙ begun_alone None near name begins.rest
+    ∙ ap (λ (xs : List AttrItem). longest None (map tags_in xs) (Tag name ∷ begins.rest)) same
+    ∙ sym (begun_alone None items name begins.rest)
+    ∙ sym (ap (longest None (map tags_in items)) begins.front)
 
 -- where there are no items, a word is passed to its end
 past_all : (at : ℕ) (word : List Symbol) →

@@ -212,18 +212,15 @@ fn longest_of(items: &[AttrItem], name: Option<&[u8]>, word: &[Symbol]) -> Optio
 }
 
 /// The length of the longest item of the attribute that fits at the front of the word.
-#[tactic(auto, using(crate::proofs::Attributes::none_fits))]
+#[tactic(auto, using(crate::proofs::Attributes::near_alone))]
 fn longest(attribute: &DefAttr, word: &[Symbol]) -> Option<usize>
     ensures value { result ≡ longest None (map tags_in attribute.now) word.now }
     ensures within { IfSome result (λ n. n ≤ length word.now) }
 {
-    let name = name_at(word);
-    if let Some(name) = name {
-        if attribute.lacks(name) {
-            return None;
-        }
+    match name_at(word) {
+        None => longest_of(attribute.items(), None, word),
+        Some(name) => longest_of(attribute.near(name), Some(name), word),
     }
-    longest_of(attribute.items(), name, word)
 }
 
 /// Where an item of the attribute fits first, as long as the longest that fits there.

@@ -1,4 +1,4 @@
-pub mod Marks
+pub mod Stretches
 pub mod ValueViews
 pub mod ConditionViews
 pub mod StatementViews

@@ -1,7 +1,7 @@
 //! Attributes.
-ghost use Rattle.std.specs.Prelude.{◌≡◌, ◌<◌, true, false};
-ghost use Rattle.std.specs.List.{list_any};
-ghost use Rattle.ap_rules.specs.Attributes.{begins_with_tag, place_of, IsMarkedWith, AreMarks};
+ghost use Rattle.std.specs.Prelude.{◌≡◌, ◌<◌, ◌+◌, ◌^◌, length};
+ghost use Rattle.std.specs.List.{filter};
+ghost use Rattle.ap_rules.specs.Attributes.{begins_with_tag, place_of, IsStretched, IsMarkedWith, AreStretches};
 
 use ap_symbol::{Sequence, Symbol, Word};
 use std::marker::Model;
@@ -12,59 +12,82 @@ pub struct AttrItem {
     pub tags: Word,
 }
 
+/// The items from a place up to, and without, another.
+#[derive(Clone, Copy)]
+struct Stretch {
+    from: usize,
+    to: usize,
+}
+
 /// `def-attr`: an attribute. Contracts see its items.
 ///
-/// It keeps marks of the tags with which its items begin, so that most tags with which none begins
-/// are told at once.
+/// It keeps where the items stand that begin with a tag, so that few need be tried at a tag.
 #[derive(Drop)]
 pub struct DefAttr {
     items: Sequence<AttrItem>,
-    marks: [bool; 128],
+    stretches: [Stretch; 128],
 }
 
 impl Model for DefAttr {
     ghost use Rattle.std.specs.Prelude.{List};
     ghost use Rattle.ap_rules.specs.declared.attribute.AttrItem.{AttrItem};
-    ghost use Rattle.ap_rules.specs.Attributes.{AreMarks};
+    ghost use Rattle.ap_rules.specs.Attributes.{AreStretches};
 
     ghost Value = { List AttrItem };
 
     ghost view = { λ d. d.items };
 
-    ghost invariant = { λ d. AreMarks d.items d.marks };
+    ghost invariant = { λ d. AreStretches d.items d.stretches };
 }
 
-/// The place of a tag's mark, by the length of its name and by its first byte.
+/// The place of a tag's stretch, by the first byte of its name and the last one.
 fn place_of(name: &[u8]) -> usize
     ensures value { result ≡ place_of name.now }
     ensures within { result < 128 }
 {
-    match name.first() {
-        None => 0,
-        Some(first) => name.len() % 4 * 32 + usize::from(*first) % 32,
+    match (name.first(), name.last()) {
+        (Some(first), Some(last)) => (usize::from(*first) * 8 + usize::from(*last)) % 128,
+        _ => 0,
     }
 }
 
-#[tactic(auto, using(crate::proofs::Marks::marked))]
-/// Marks the tag with which an item begins.
-fn mark(marks: &mut [bool; 128], item: &[Symbol])
-    ensures { IsMarkedWith item.now marks.old marks.new }
+/// The stretch that holds a place behind it as well.
+fn stretched(stretch: Stretch, at: usize) -> Stretch
+    requires { at + 1 < 2 ^ 64 }
+    ensures { IsStretched at stretch result }
+{
+    Stretch {
+        from: if stretch.to == 0 {
+            at
+        } else {
+            stretch.from.min(at)
+        },
+        to: at + 1,
+    }
+}
+
+/// Puts the place of an item into the stretch of the tag with which it begins.
+#[tactic(auto, using(crate::proofs::Stretches::marked))]
+fn mark(stretches: &mut [Stretch; 128], at: usize, item: &[Symbol])
+    requires { at + 1 < 2 ^ 64 }
+    ensures { IsMarkedWith at item.now stretches.old stretches.new }
 {
     if let Some(Symbol::Tag(name)) = item.first() {
-        marks[place_of(name.text().as_bytes())] = true;
+        let place = place_of(name.text().as_bytes());
+        stretches[place] = stretched(stretches[place], at);
     }
 }
 
-#[tactic(auto, using(crate::proofs::Marks::marked_one))]
-/// The marks of the tags with which these items begin.
-fn marks_of(items: &[AttrItem]) -> [bool; 128]
-    ensures { AreMarks items.now result }
+/// The stretches of the tags with which these items begin.
+#[tactic(auto, using(crate::proofs::Stretches::marked_none, crate::proofs::Stretches::marked_more, crate::proofs::Stretches::all_marked))]
+fn stretches_of(items: &[AttrItem]) -> [Stretch; 128]
+    ensures { AreStretches items.now result }
 {
-    let mut marks = [false; 128];
-    for item in items {
-        mark(&mut marks, item.tags.symbols());
+    let mut stretches = [Stretch { from: 0, to: 0 }; 128];
+    for at in 0..items.len() {
+        mark(&mut stretches, at, items[at].tags.symbols());
     }
-    marks
+    stretches
 }
 
 impl DefAttr {
@@ -72,8 +95,8 @@ impl DefAttr {
     pub fn new(items: Sequence<AttrItem>) -> DefAttr
         ensures { result ≡ items }
     {
-        let marks = marks_of(items.as_slice());
-        DefAttr { items, marks }
+        let stretches = stretches_of(items.as_slice());
+        DefAttr { items, stretches }
     }
 
     /// Its items in order.
@@ -83,10 +106,17 @@ impl DefAttr {
         self.items.as_slice()
     }
 
-    /// Whether it can be told at once that none of its items begins with the tag of this name.
-    pub fn lacks(&self, name: &[u8]) -> bool
-        ensures { result ≡ true → list_any (begins_with_tag name.now) self.now ≡ false }
+    /// Items in order, with all that begin with the tag of this name, and mostly with few others.
+    pub fn near(&self, name: &[u8]) -> &[AttrItem]
+        ensures { filter (begins_with_tag name.now) result.now
+            ≡ filter (begins_with_tag name.now) self.now }
     {
-        !self.marks[place_of(name)]
+        let items = self.items.as_slice();
+        let stretch = self.stretches[place_of(name)];
+        if stretch.from <= stretch.to && stretch.to <= items.len() {
+            &items[stretch.from..stretch.to]
+        } else {
+            items
+        }
     }
 }
