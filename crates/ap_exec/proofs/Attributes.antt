@@ -91,6 +91,13 @@ near_alone near items name word begins same =
     ∙ sym (begun_alone None items name begins.rest)
     ∙ sym (ap (longest None (map tags_in items)) begins.front)
 
+pub none_near : (near items : List AttrItem) (name : List ℕ) (word : List Symbol) →
+    BeginsWithTag name word → length near ≡ 0 →
+    filter (begins_with_tag name) near ≡ filter (begins_with_tag name) items →
+    longest None (map tags_in items) word ≡ None
+none_near [] items name word begins none same = sym (near_alone [] items name word begins same)
+none_near (item ∷ near) items name word begins none same = absurd (omega (arith, none))
+
 -- where there are no items, a word is passed to its end
 past_all : (at : ℕ) (word : List Symbol) →
     sought at [] word ≡ (let end : Span = record { start = at + length word; count = 0 } in end)

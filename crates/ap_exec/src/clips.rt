@@ -212,14 +212,20 @@ fn longest_of(items: &[AttrItem], name: Option<&[u8]>, word: &[Symbol]) -> Optio
 }
 
 /// The length of the longest item of the attribute that fits at the front of the word.
-#[tactic(auto, using(crate::proofs::Attributes::near_alone))]
+#[tactic(auto, using(crate::proofs::Attributes::near_alone, crate::proofs::Attributes::none_near))]
 fn longest(attribute: &DefAttr, word: &[Symbol]) -> Option<usize>
     ensures value { result ≡ longest None (map tags_in attribute.now) word.now }
     ensures within { IfSome result (λ n. n ≤ length word.now) }
 {
     match name_at(word) {
         None => longest_of(attribute.items(), None, word),
-        Some(name) => longest_of(attribute.near(name), Some(name), word),
+        Some(name) => {
+            let near = attribute.near(name);
+            if near.is_empty() {
+                return None;
+            }
+            longest_of(near, Some(name), word)
+        }
     }
 }
 

@@ -10,7 +10,7 @@ loop-item-preserved c =
     passed_over c.args.caseless c.args.word.now c.args.items.now c.loop-item.item-index item
     c.loop-item-test.true c.item-item.is
     (elim c.else-len.branch [
-      else-len-via-then-len+else-same_each w ↦
+      | else-len-via-then-len+else-same_each w ↦
           ap (same_words c.args.caseless c.args.word.now) (sym w.symbols.ensures.symbols)
           ∙ sym w.same_each.ensures ∙ w.if-same_each.false
       | else-len-via-else-len w ↦ other_lengths c.args.caseless c.args.word.now item.v
