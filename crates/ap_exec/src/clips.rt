@@ -150,25 +150,6 @@ fn longer(best: Option<usize>, len: usize) -> Option<usize>
     }
 }
 
-/// Whether the bytes of an item tell at once that it isn't the one tag of this name: they have
-/// another length, or another first letter.
-fn is_other(item: &Word, name: &[u8]) -> bool
-    ensures one { result ≡ true → length item.now ≡ 1 }
-    ensures other { result ≡ true → rendering item.now ≢ tag_bytes name.now }
-{
-    if item.len() != 1 {
-        return false;
-    }
-    let bytes = item.rendered();
-    if bytes.len() != name.len() + 2 {
-        return true;
-    }
-    match (bytes.get(1), name.first()) {
-        (Some(own), Some(first)) => *own != *first,
-        _ => false,
-    }
-}
-
 /// The name of the tag with which a word begins.
 fn name_at(word: &[Symbol]) -> Option<&[u8]>
     ensures { IfSome result (λ name. BeginsWithTag name.now word.now) }
@@ -179,32 +160,30 @@ fn name_at(word: &[Symbol]) -> Option<&[u8]>
     }
 }
 
-/// Whether the word, which begins with the tag of this name, where one is given, begins with the
-/// item.
-#[tactic(auto, using(crate::proofs::Attributes::others_fail))]
-fn fits_at(item: &Word, name: Option<&[u8]>, word: &[Symbol]) -> bool
-    requires { IfSome name (λ n. BeginsWithTag n.now word.now) }
+/// Whether the word begins with the item. Most items are one tag.
+#[tactic(auto, using(crate::proofs::Attributes::one_fits))]
+fn fits_at(item: &[Symbol], word: &[Symbol]) -> bool
     ensures value { result ≡ item_fits item.now word.now }
     ensures within { result ≡ true → length item.now ≤ length word.now }
 {
-    if let Some(name) = name {
-        if is_other(item, name) {
-            return false;
-        }
+    match item {
+        [one] => match word.split_first() {
+            None => false,
+            Some((first, _)) => fits(one, first, true),
+        },
+        _ => item_fits(item, word),
     }
-    item_fits(item.symbols(), word)
 }
 
 /// The length of the longest item that fits at the front of the word, which begins with the tag of
 /// this name, where one is given.
-fn longest_of(items: &[AttrItem], name: Option<&[u8]>, word: &[Symbol]) -> Option<usize>
-    requires { IfSome name (λ n. BeginsWithTag n.now word.now) }
+fn longest_of(items: &[AttrItem], word: &[Symbol]) -> Option<usize>
     ensures value { result ≡ longest None (map tags_in items.now) word.now }
     ensures within { IfSome result (λ n. n ≤ length word.now) }
 {
     let mut best = None;
     for item in items {
-        if fits_at(&item.tags, name, word) {
+        if fits_at(item.tags.symbols(), word) {
             best = longer(best, item.tags.len());
         }
     }
@@ -218,13 +197,13 @@ fn longest(attribute: &DefAttr, word: &[Symbol]) -> Option<usize>
     ensures within { IfSome result (λ n. n ≤ length word.now) }
 {
     match name_at(word) {
-        None => longest_of(attribute.items(), None, word),
+        None => longest_of(attribute.items(), word),
         Some(name) => {
             let near = attribute.near(name);
             if near.is_empty() {
                 return None;
             }
-            longest_of(near, Some(name), word)
+            longest_of(near, word)
         }
     }
 }

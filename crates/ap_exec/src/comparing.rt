@@ -60,6 +60,9 @@ pub(crate) fn same_words(a: &[Symbol], b: &[Symbol], caseless: bool) -> bool
     if a.len() != b.len() {
         return false;
     }
+    if let ([s], [t]) = (a, b) {
+        return same_symbols(s, t, caseless);
+    }
     same_each(a, b, caseless)
 }
 
