@@ -1,6 +1,7 @@
 //! The single changes that statements make.
-ghost use Rattle.std.specs.Prelude.{◌≡◌, ◌<◌, ◌-◌, [], List, length, map, true, if◌then◌else◌, nat_le, slice_set, OnOk, IfOk, Option, Some as something, None as nothing, vec_len};
+ghost use Rattle.std.specs.Prelude.{◌≡◌, ◌<◌, ◌-◌, [], List, length, map, true, if◌then◌else◌, nat_le, slice_set, OnOk, IfOk, Option, Ok, Some as something, None as nothing, vec_len};
 ghost use Rattle.ap_symbol.specs.declared.symbol.Symbol.{Symbol};
+ghost use Rattle.ap_symbol.specs.Words.{AreProper};
 ghost use Rattle.ap_rules.specs.Plain.{assign, append, modify_case, out};
 ghost use Rattle.ap_rules.specs.Views.{plain_value, plain_values, plain_piece};
 ghost use Rattle.ap_exec.specs.Pieces.{unit_size, atom_size, atoms_size, piece_size};
@@ -8,6 +9,7 @@ ghost use Rattle.ap_exec.specs.Results.{Gives};
 ghost use Rattle.ap_exec.specs.Running.{sight_of, with_var, with_part, with_place, recased_at, placed, outs, run, called};
 ghost use Rattle.ap_exec.specs.Setting.{IsHeld};
 ghost use Rattle.ap_exec.specs.States.{overlaid, sight, still, now};
+ghost use Rattle.ap_exec.specs.Values.{value_of};
 
 use crate::clips::{number_at, part_at};
 use crate::comparing::same_words;
@@ -17,10 +19,10 @@ use crate::recasing::append_recased;
 use crate::refusal::ExecRefusal;
 use crate::spare::Spare;
 use crate::state::{State, View, World};
-use crate::values::{append_to, direct, push_value, var_at};
+use crate::values::{append as push_all, append_to, direct, push_value, var_at};
 use crate::writing::write_part;
 use ap_rules::{Append, Clip, Let, ModifyCase, Out, Piece as StatedPiece, Place, Value};
-use ap_symbol::{Memory, Word, case_of};
+use ap_symbol::{Memory, Symbol, Word, case_of};
 use std::alloc::Global;
 use std::mem;
 
@@ -157,20 +159,44 @@ fn recased_at(
     Ok(word)
 }
 
-/// Whether the place is a variable that holds the value: then nothing need be made.
-fn is_held(view: &View<'_, '_>, place: &Place, value: &Value) -> bool
+/// Whether the place is a variable that holds what the value gives, which is this word: then nothing
+/// need be made.
+fn is_held(view: &View<'_, '_>, place: &Place, value: &Value, word: &[Symbol]) -> bool
+    requires { value_of (sight view.now) (plain_value value.now) ≡ Ok word.now }
     ensures { result ≡ true → IsHeld (sight view.now) place.now (plain_value value.now) }
 {
+    let _value = value;
     match place {
         Place::Clip(_) => false,
-        Place::Var(var) => match direct(&*view, value) {
-            None => false,
-            Some(word) => {
-                let held = var_at(view.world.vars, view.fresh, var.n);
-                same_words(word, held, false)
-            }
-        },
+        Place::Var(var) => {
+            let held = var_at(view.world.vars, view.fresh, var.n);
+            same_words(word, held, false)
+        }
     }
+}
+
+/// A word of these symbols.
+fn copied(alloc: Global, spare: &mut Spare, symbols: &[Symbol]) -> Result<Word, Memory>
+    requires { AreProper symbols.now }
+    ensures { IfOk result (λ word. word ≡ symbols.now) }
+{
+    let mut word = spare.take(alloc)?;
+    push_all(alloc, symbols, &mut word)?;
+    Ok(word)
+}
+
+/// A word of what a value gives.
+fn made(
+    alloc: Global,
+    view: &View<'_, '_>,
+    spare: &mut Spare,
+    value: &Value,
+) -> Result<Word, ExecRefusal>
+    ensures { Gives (λ w. w) result (value_of (sight view.now) (plain_value value.now)) }
+{
+    let mut word = spare.take(alloc)?;
+    push_value(alloc, &*view, value, &mut word)?;
+    Ok(word)
 }
 
 /// `let`: a place is set to a value.
@@ -186,11 +212,16 @@ pub(crate) fn assign(
         (run (still world.entry) (called (still world.entry) 0) here.now
         (assign held.now.place (plain_value held.now.value)) (now world.entry state.old)) }
 {
-    if is_held(&view_of(world, here, state), &held.place, &held.value) {
-        return Ok(());
-    }
-    let mut value = spare.take(alloc)?;
-    push_value(alloc, &view_of(world, here, state), &held.value, &mut value)?;
+    let view = view_of(world, here, state);
+    let value = match direct(&view, &held.value) {
+        None => made(alloc, &view, spare, &held.value)?,
+        Some(word) => {
+            if is_held(&view, &held.place, &held.value, word) {
+                return Ok(());
+            }
+            copied(alloc, spare, word)?
+        }
+    };
     set_place(alloc, world, here, &held.place, value, state, spare)?;
     Ok(())
 }

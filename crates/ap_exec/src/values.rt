@@ -191,7 +191,8 @@ fn bounded(symbols: &[Symbol]) -> Result<&[Symbol], ExecRefusal>
 /// The symbols of a word, unless it is too long for a value.
 #[tactic(auto, unfolding(crate::specs::Values::sized))]
 fn short_word(word: &Word) -> Option<&[Symbol]>
-    ensures { IfSome result (λ s. bounded word.now ≡ Ok s.now) }
+    ensures value { IfSome result (λ s. bounded word.now ≡ Ok s.now) }
+    ensures proper { IfSome result (λ s. AreProper s.now) }
 {
     if word.rendered().len() > UNIT_MAX {
         return None;
@@ -218,9 +219,10 @@ fn short_part<'a>(
     queue: bool,
     unit: &'a Lent<'_>,
 ) -> Option<&'a [Symbol]>
-    ensures { IfSome result (λ s. bounded (cut
+    ensures value { IfSome result (λ s. bounded (cut
         (span_of attributes.now part (word_on side queue unit.now)) (word_on side queue unit.now))
         ≡ Ok s.now) }
+    ensures proper { IfSome result (λ s. AreProper s.now) }
 {
     if is_short_on(side, unit) {
         return Some(part_on(attributes, part, side, queue, unit));
@@ -230,7 +232,8 @@ fn short_part<'a>(
 
 /// What a clip without a link gives, where the word that it reads isn't too long for a value.
 fn short_clip<'a>(view: &View<'a, '_>, clip: &Clip) -> Option<&'a [Symbol]>
-    ensures { IfSome result (λ s. bounded (clip_of (sight view.now) clip.now) ≡ Ok s.now) }
+    ensures value { IfSome result (λ s. bounded (clip_of (sight view.now) clip.now) ≡ Ok s.now) }
+    ensures proper { IfSome result (λ s. AreProper s.now) }
 {
     if clip.link_to.is_some() {
         return None;
@@ -246,7 +249,9 @@ fn short_clip<'a>(view: &View<'a, '_>, clip: &Clip) -> Option<&'a [Symbol]>
 
 /// What a value gives, where that is a part of what there is and isn't too long for certain.
 pub(crate) fn direct<'a>(view: &View<'a, '_>, value: &'a Value) -> Option<&'a [Symbol]>
-    ensures { IfSome result (λ s. value_of (sight view.now) (plain_value value.now) ≡ Ok s.now) }
+    ensures value { IfSome result
+        (λ s. value_of (sight view.now) (plain_value value.now) ≡ Ok s.now) }
+    ensures proper { IfSome result (λ s. AreProper s.now) }
 {
     match value {
         Value::Clip(clip) => short_clip(&*view, clip),

@@ -13,5 +13,5 @@ returns-then-is_held c =
     let place = c.args.held.now.place in
     let value = plain_value c.args.held.now.value in
     held_stays w (called w 0) c.args.here.now place value (now c.args.world c.args.state.now)
-    (subst (λ (z : Sight). IsHeld z place value) c.view_of.ensures
+    (subst (λ (z : Sight). IsHeld z place value) c.view_of-view.ensures
     (c.is_held.ensures c.if-is_held.true))
