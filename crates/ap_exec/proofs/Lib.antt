@@ -10,6 +10,7 @@ pub mod Overlays
 pub mod Compounds
 pub mod WordLaws
 pub mod Setting
+pub mod Standing
 pub mod Splices
 pub mod Borders
 pub mod SizeLaws

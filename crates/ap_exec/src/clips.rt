@@ -290,7 +290,7 @@ pub(crate) fn span_of(
 }
 
 /// The symbols of a word at a range, as far as there are any.
-fn cut(range: Range, word: &[Symbol]) -> &[Symbol]
+pub(crate) fn cut(range: Range, word: &[Symbol]) -> &[Symbol]
     requires { AreProper word.now }
     ensures value { result.now ≡ cut (span range) word.now }
     ensures proper { AreProper result.now }

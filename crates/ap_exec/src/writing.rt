@@ -1,10 +1,11 @@
 //! Writing to a part of a unit.
 ghost use Rattle.std.specs.Prelude.{◌≡◌, ◌+◌, ◌≤◌, true, length, OnOk, IfOk};
-ghost use Rattle.ap_exec.specs.Parts.{word_on};
+ghost use Rattle.ap_exec.specs.Parts.{word_on, cut};
 ghost use Rattle.ap_exec.specs.Ranges.{span};
 ghost use Rattle.ap_exec.specs.Writing.{spliced, moved, replaced, written, is_kept};
 
-use crate::clips::{Range, division_on, side_in, span_of, word_on};
+use crate::clips::{Range, cut, division_on, side_in, span_of, word_on};
+use crate::comparing::same_words;
 use crate::lent::Lent;
 use crate::spare::Spare;
 use crate::values::append;
@@ -88,6 +89,33 @@ fn replace(
     Ok(())
 }
 
+/// Whether the value is what stands at a range of the word.
+fn is_part(range: Range, value: &Word, word: &Word) -> bool
+    ensures { result ≡ true → value.now ≡ cut (span range) word.now }
+{
+    let part = cut(range, word.symbols());
+    same_words(part, value.symbols(), false)
+}
+
+/// Whether the value stands at a range of the word on a side of a unit, and no border moves where
+/// it is put in its own place.
+#[tactic(auto, using(crate::proofs::Standing::source_stays, crate::proofs::Standing::target_stays))]
+fn stands(side: Side, range: Range, value: &Word, unit: &Lent<'_>) -> bool
+    requires { range.start + range.count ≤ length (word_on side true unit.now) }
+    ensures { result ≡ true → replaced side (span range) value.now unit.now ≡ unit.now }
+{
+    match side {
+        Side::Source => is_part(range, value, unit.source()),
+        Side::Target => {
+            let border = unit.border();
+            if border < range.start || border - range.start < range.count {
+                return false;
+            }
+            is_part(range, value, unit.target())
+        }
+    }
+}
+
 /// Puts a value in place of the part that a clip names.
 pub(crate) fn write_part(
     alloc: Global,
@@ -108,7 +136,7 @@ pub(crate) fn write_part(
         word_on(side, clip.queue, unit),
         known,
     );
-    if is_kept(clip.part, range.count) {
+    if is_kept(clip.part, range.count) || stands(side, range, value, unit) {
         return Ok(());
     }
     replace(alloc, side, range, value, unit, spare)
