@@ -1,6 +1,6 @@
 pub mod Spreading
 pub mod Others
-pub mod Running
+pub mod Outlining
 pub mod Arriving
 pub mod RowLaws
 pub mod StackLaws

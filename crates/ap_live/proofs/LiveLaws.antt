@@ -17,10 +17,12 @@ use Rattle.ap_fst.proofs.Listing.{in_map, in_mapped, IsImage}
 use Rattle.ap_fst.proofs.WalkLaws.{walk_then}
 use Rattle.ap_fst.proofs.SilenceLaws.{left_word_then}
 use Rattle.ap_live.specs.Fitting.{Input, fits_inputs, fits_side, is_empty_side}
+use Rattle.ap_live.specs.Outlines.{IsOutline}
 use Rattle.ap_live.specs.Spreads.{Picked}
 use Rattle.ap_live.specs.Rows.{Reach, begin, silent, taken, AreRows, IsKnown, Tells, Lives, IsLive}
 use Rattle.ap_live.specs.Tails.{AreBacks}
 use Rattle.ap_live.specs.Outputs.{IsOutput, FitBeginning}
+use Rattle.ap_live.specs.declared.outline.Outline.{Outline}
 use Rattle.ap_live.specs.declared.rows.Row.{Row}
 use Rattle.ap_live.proofs.Spreading.{both_true, to_in}
 use Rattle.ap_live.proofs.KnownLaws.{nothing_known}
@@ -303,12 +305,14 @@ outputs_law m seen l rows backs words r live h k output =
 
 pub start_law : (m : Machine) (l : Lives) → AreRows m.edges [] l.rows →
     ((at : ℕ) (row : Row) → slice_get l.rows at ≡ Some row → Tells m.finals row) → l.known ≡ [] →
-    l.links ≡ [] → l.path ≡ [] → (IsTrue l.is_void ↔ (m.finals ≡ [])) → IsLive m [] l
-start_law m l are told known links path void =
+    l.links ≡ [] → l.path ≡ [] → IsOutline m.edges l.outline →
+    (IsTrue l.is_void ↔ (m.finals ≡ [])) → IsLive m [] l
+start_law m l are told known links path outlined void =
     record {
       rows_are = are;
       known_is =
           nothing_known m.edges m.finals l.rows l.known l.links l.path told known links path;
+      outline_is = outlined;
       void_is = void;
     }
 
@@ -318,8 +322,8 @@ pub live_on : (m : Machine) (seen seen' : List Input) (l old new : Lives) →
     IsKnown m.edges m.finals old.rows old.known old.links old.path →
     AreRows m.edges seen' new.rows
     × IsKnown m.edges m.finals new.rows new.known new.links new.path) →
-    new.is_void ≡ old.is_void → IsLive m seen' new
-live_on m seen seen' l old new live o h v =
+    new.outline ≡ old.outline → new.is_void ≡ old.is_void → IsLive m seen' new
+live_on m seen seen' l old new live o h t v =
     let live' : IsLive m seen old = subst (λ (z : Lives). IsLive m seen z) (sym o) live in
     let both : AreRows m.edges seen' new.rows
     × IsKnown m.edges m.finals new.rows new.known new.links new.path =
@@ -327,6 +331,8 @@ live_on m seen seen' l old new live o h v =
     record {
       rows_are = both.0;
       known_is = both.1;
+      outline_is =
+          subst (λ (z : Outline). IsOutline m.edges z) (sym t) live'.outline_is;
       void_is =
           subst (λ (z : Bool). IsTrue z ↔ (m.finals ≡ [])) (sym v) live'.void_is;
     }

@@ -70,7 +70,7 @@ side_is input other None is h = cc
 side_is input other (Some x) is h =
     elim (is.only x h) [ inl e ↦ inl (ap (λ (z : Symbol). Some z) e) | inr e ↦ inr (x, refl, e) ]
 
-place_has : (edges : List Edge) (pick : Option Input) (from s j : ℕ) (left : Option Symbol)
+pub place_has : (edges : List Edge) (pick : Option Input) (from s j : ℕ) (left : Option Symbol)
     (p : Picked edges pick from s j) → p.edge.label.left ≡ left → HasLeft edges left j
 place_has edges pick from s j left p h e at =
     let same : p.edge ≡ e = same_Some p.edge e (sym p.at ∙ at) in

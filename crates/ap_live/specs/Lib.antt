@@ -1,6 +1,6 @@
 pub mod Fitting
 pub mod Spreads
-pub mod Runs
+pub mod Outlines
 pub mod Rows
 pub mod Tails
 pub mod Outputs

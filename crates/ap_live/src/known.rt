@@ -2,10 +2,12 @@ ghost use Rattle.std.specs.Prelude.{◌≡◌, ◌++◌, take, ◌∷◌, ◌-�
 ghost use Rattle.std.specs.Option.{option_copied};
 ghost use Rattle.ap_fst.specs.declared.label.Edge.{Edge};
 ghost use Rattle.ap_live.specs.Fitting.{Input};
+ghost use Rattle.ap_live.specs.Outlines.{IsOutline};
 ghost use Rattle.ap_live.specs.Rows.{IsNext, AreRows, IsKnown, Follows, IsLinked, HasStates};
 ghost use Rattle.ap_live.specs.declared.rows.Row.{Row};
 
 use crate::held::{HeldRow, SharedRow};
+use crate::outline::Outline;
 use crate::picking::{Pick, is_symbol};
 use crate::stack::Rows;
 use ap_fst::Fst;
@@ -473,11 +475,12 @@ fn add_new(
     rows: &mut Rows,
     known: &mut Known,
     fst: &Fst,
-    hints: &[usize],
+    outline: &Outline,
     input: &Symbol,
     sensitive: bool,
 ) -> Result<(), Memory>
-    ensures ok { OnOk result ((seen : List Input) → AreRows fst.now.edges seen rows.old →
+    ensures ok { OnOk result ((seen : List Input) → IsOutline fst.now.edges outline.now →
+        AreRows fst.now.edges seen rows.old →
         IsKnown fst.now.edges fst.now.finals rows.old known.old.rows.items known.old.links.items
         known.old.path.items
         → AreRows fst.now.edges (seen ++ record { symbol = input.now; sensitive = sensitive } ∷ [])
@@ -489,7 +492,7 @@ fn add_new(
         × (known.new.path.items ≡ known.old.path.items)) }
 {
     let pick = Pick::Fitting(input, sensitive);
-    rows.push_next(fst, hints, pick)?;
+    rows.push_next(fst, outline, pick)?;
     let _ = plant(known, rows.as_slice());
     let _ = remember(known, rows, input, sensitive);
     let _ = note(known);
@@ -502,11 +505,12 @@ fn add_next(
     rows: &mut Rows,
     known: &mut Known,
     fst: &Fst,
-    hints: &[usize],
+    outline: &Outline,
     input: &Symbol,
     sensitive: bool,
 ) -> Result<(), Memory>
-    ensures ok { OnOk result ((seen : List Input) → AreRows fst.now.edges seen rows.old →
+    ensures ok { OnOk result ((seen : List Input) → IsOutline fst.now.edges outline.now →
+        AreRows fst.now.edges seen rows.old →
         IsKnown fst.now.edges fst.now.finals rows.old known.old.rows.items known.old.links.items
         known.old.path.items
         → AreRows fst.now.edges (seen ++ record { symbol = input.now; sensitive = sensitive } ∷ [])
@@ -518,7 +522,7 @@ fn add_next(
         × (known.new.path.items ≡ known.old.path.items)) }
 {
     match find(known, rows.len(), input, sensitive) {
-        None => add_new(rows, known, fst, hints, input, sensitive),
+        None => add_new(rows, known, fst, outline, input, sensitive),
         Some((to, set)) => add_known(rows, known, to, set),
     }
 }
@@ -529,11 +533,12 @@ pub(crate) fn add_row(
     rows: &mut Rows,
     known: &mut Known,
     fst: &Fst,
-    hints: &[usize],
+    outline: &Outline,
     input: &Symbol,
     sensitive: bool,
 ) -> Result<(), Memory>
-    ensures ok { OnOk result ((seen : List Input) → AreRows fst.now.edges seen rows.old →
+    ensures ok { OnOk result ((seen : List Input) → IsOutline fst.now.edges outline.now →
+        AreRows fst.now.edges seen rows.old →
         IsKnown fst.now.edges fst.now.finals rows.old known.old.rows.items known.old.links.items
         known.old.path.items
         → AreRows fst.now.edges (seen ++ record { symbol = input.now; sensitive = sensitive } ∷ [])
@@ -547,7 +552,7 @@ pub(crate) fn add_row(
     if rows.is_void() {
         return rows.push_void();
     }
-    add_next(rows, known, fst, hints, input, sensitive)
+    add_next(rows, known, fst, outline, input, sensitive)
 }
 
 /// Forgets the known rows.

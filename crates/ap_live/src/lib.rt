@@ -6,13 +6,13 @@
 mod arrivals;
 mod backward;
 mod held;
-mod hints;
 mod items;
 mod known;
 mod laws;
 mod lexicon_laws;
 mod live;
 mod live_sections;
+mod outline;
 mod picking;
 mod readable;
 mod readings;

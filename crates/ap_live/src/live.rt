@@ -9,8 +9,8 @@ ghost use Rattle.ap_fst.specs.Trimming.{IsTrimmed};
 
 use crate::backward::backs_of;
 use crate::held::{ends_finally, reaches_none};
-use crate::hints::hints_of;
 use crate::known::{Known, add_row, cut_rows, nothing_known};
+use crate::outline::{Outline, outline_of};
 use crate::stack::{Rows, first_rows};
 use crate::wording::ordered_words;
 use ap_fst::Fst;
@@ -28,13 +28,12 @@ use std::marker::Model;
 /// Rows that were computed are kept, and taken again where the same input comes at the same states.
 /// Where they have become too many, `cut` to no input lets them go.
 ///
-/// `hints` has the places where the edges of states begin, in the transducer that it was started
-/// for. They are tried before they are used, so that a wrong one costs time alone.
+/// `outline` is that of the transducer that it was started for.
 #[derive(Debug, Drop)]
 pub struct Live {
     rows: Rows,
     known: Known,
-    hints: Vec<usize>,
+    outline: Outline,
     is_void: bool,
 }
 
@@ -49,6 +48,7 @@ impl Model for Live {
       links =
           l.known.links.items;
       path = l.known.path.items;
+      outline = l.outline;
       is_void = l.is_void;
     } };
 }
@@ -70,13 +70,13 @@ impl Live {
     pub fn start(alloc: Global, fst: &Fst) -> Result<Live, Memory>
         ensures { IfOk result (λ live. IsLive fst.now [] live) }
     {
-        let hints = hints_of(alloc, fst)?;
-        let rows = first_rows(alloc, fst, hints.as_slice())?;
+        let outline = outline_of(alloc, fst)?;
+        let rows = first_rows(alloc, fst, &outline)?;
         let is_void = has_no_final(fst);
         Ok(Live {
             rows,
             known: nothing_known(alloc),
-            hints,
+            outline,
             is_void,
         })
     }
@@ -90,12 +90,12 @@ impl Live {
             ∷ []) self.new) }
         ensures err { OnErr result (self.new ≡ self.old) }
     {
-        let hints = self.hints.as_slice();
+        let outline = &self.outline;
         add_row(
             &mut self.rows,
             &mut self.known,
             fst,
-            hints,
+            outline,
             input,
             sensitive,
         )

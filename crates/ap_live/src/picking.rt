@@ -59,16 +59,6 @@ pub(crate) fn is_letter(symbol: &Symbol) -> bool {
     matches!(symbol, Symbol::Letter(_))
 }
 
-/// Whether the side is this symbol.
-pub(crate) fn is_left(side: &Option<Symbol>, symbol: &Symbol) -> bool
-    ensures { IsTrue result ↔ (side.now ≡ Some symbol.now) }
-{
-    match side {
-        None => false,
-        Some(left) => is_symbol(left, symbol),
-    }
-}
-
 fn is_other(symbol: &Symbol, other: Option<&Symbol>) -> bool
     ensures { IsTrue result ↔ (option_copied other.entry ≡ Some symbol.now) }
 {

@@ -1,9 +1,11 @@
 ghost use Rattle.std.specs.Prelude.{◌≡◌, ◌++◌, ◌∷◌, ◌-◌, ℕ, [], List, IfOk, OnOk, OnErr, IsTrue, Some, false, length, slice_get, take};
 ghost use Rattle.ap_live.specs.Fitting.{pick_of};
+ghost use Rattle.ap_live.specs.Outlines.{IsOutline};
 ghost use Rattle.ap_live.specs.Rows.{AreRows, IsNext, IsVoid, Tells};
 ghost use Rattle.ap_live.specs.declared.rows.Row.{Row};
 
 use crate::held::{HeldRow, SharedRow};
+use crate::outline::Outline;
 use crate::picking::Pick;
 use crate::rows::{Row, fill_row, first_row, no_row};
 use ap_fst::Fst;
@@ -70,11 +72,11 @@ impl Rows {
     pub(crate) fn push_next(
         &mut self,
         fst: &Fst,
-        hints: &[usize],
+        outline: &Outline,
         pick: Pick<'_>,
     ) -> Result<(), Memory>
-        ensures ok { OnOk result ((last : Row) → slice_get self.old (length self.old - 1)
-            ≡ Some last → (row : Row)
+        ensures ok { OnOk result ((last : Row) → IsOutline fst.now.edges outline.now →
+            slice_get self.old (length self.old - 1) ≡ Some last → (row : Row)
             × ((self.new ≡ self.old ++ row ∷ [])
             × IsNext fst.now.edges (pick_of pick.entry) last.states.items row
             × Tells fst.now.finals row)) }
@@ -83,7 +85,7 @@ impl Rows {
         let Some(last) = self.held[..self.count].last() else {
             return Ok(());
         };
-        fill_row(fst, hints, last.states(), pick, &mut self.room)?;
+        fill_row(fst, outline, last.states(), pick, &mut self.room)?;
         if self.held.len() <= self.count {
             let room = no_row(self.allocator());
             self.held
@@ -166,12 +168,13 @@ impl Rows {
 }
 
 /// The rows before any input.
-pub(crate) fn first_rows(alloc: Global, fst: &Fst, hints: &[usize]) -> Result<Rows, Memory>
+pub(crate) fn first_rows(alloc: Global, fst: &Fst, outline: &Outline) -> Result<Rows, Memory>
+    requires { IsOutline fst.now.edges outline.now }
     ensures rows { IfOk result (λ rows. AreRows fst.now.edges [] rows) }
     ensures told { IfOk result (λ rows. (at : ℕ) (row : Row) → slice_get rows at ≡ Some row →
         Tells fst.now.finals row) }
 {
-    let row = first_row(alloc, fst, hints)?;
+    let row = first_row(alloc, fst, outline)?;
     let mut first = HeldRow::own(row);
     first.share(alloc);
     let rows = Rows::one(alloc, first)?;

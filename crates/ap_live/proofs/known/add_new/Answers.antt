@@ -11,14 +11,14 @@ use Rattle.ap_live.proofs.KnownLaws.{known_grown, known_same}
 use Rattle.ap_live.proofs.known.add_new.Goals as goal
 
 pub returns-clause-ok : goal.returns-clause-ok
-returns-clause-ok c = λ seen live is.
+returns-clause-ok c = λ seen outlined live is.
     let edges : List Edge = c.args.fst.now.edges in
     let finals : List ℕ = c.args.fst.now.finals in
     let input : Input = record { symbol = c.args.input.now; sensitive = c.args.sensitive } in
     let rows : List Row = c.args.rows.now in
     let rows' : List Row = c.push_next.new.self in
     let (last, at) = last_there rows (length seen) live.count in
-    let (row, facts) = c.in_ok-push_next.ensures.ok last at in
+    let (row, facts) = c.in_ok-push_next.ensures.ok last outlined at in
     let grown : rows' ≡ rows ++ row ∷ [] = facts.0 in
     let next : IsNext edges (Some input) last.states.items row = facts.1 in
     let told : Tells finals row = facts.2 in

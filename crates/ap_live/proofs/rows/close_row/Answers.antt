@@ -6,9 +6,9 @@ use Rattle.ap_live.proofs.rows.close_row.Goals as goal
 
 pub returns-clause-closed : goal.returns-clause-closed
 returns-clause-closed c =
-    closed_sorted c.args.fst.now.edges c.args.row.now.states.items c.clear.new.self.items
+    λ is. closed_sorted c.args.fst.now.edges c.args.row.now.states.items c.clear.new.self.items
     c.close.new.states.items c.close.new.links.items c.sort_arrivals.new.arrivals.items
-    c.clear.ensures.items c.sort_arrivals.ensures.members c.in_ok-close.ensures
+    c.clear.ensures.items c.sort_arrivals.ensures.members (c.in_ok-close.ensures is)
 
 pub returns-clause-order : goal.returns-clause-order
 returns-clause-order c = record { taken = c.requires.order; silent = c.sort_arrivals.ensures.order }

@@ -7,7 +7,7 @@ use Rattle.ap_live.proofs.StackLaws.{row_behind, row_over}
 use Rattle.ap_live.proofs.stack.Rows.push_next.Goals as goal
 
 pub returns-then-len-self-clause-ok : goal.returns-then-len-self-clause-ok
-returns-then-len-self-clause-ok c = λ last at.
+returns-then-len-self-clause-ok c = λ last is at.
     let held : List Row = c.self.inside.held.items in
     let row : Row = c.fill_row.new.row in
     let count : c.self.inside.count ≡ length held =
@@ -18,7 +18,7 @@ returns-then-len-self-clause-ok c = λ last at.
     (ap (take c.self.inside.count) c.deref.ensures.value ∙ c.self.view_is) ∙ at) in
     let next : IsNext c.args.fst.now.edges (pick_of c.args.pick) last.states.items row =
     subst (λ (z : List ℕ). IsNext c.args.fst.now.edges (pick_of c.args.pick) z row)
-    (c.states.ensures ∙ ap (λ (z : Row). z.states.items) same) c.in_ok-fill_row.ensures.next in (
+    (c.states.ensures ∙ ap (λ (z : Row). z.states.items) same) (c.in_ok-fill_row.ensures.next is) in (
       row,
       (
         row_behind c.args.self.now held c.push.new.self.items c.self.inside.count row
@@ -30,7 +30,7 @@ returns-then-len-self-clause-ok c = λ last at.
     )
 
 pub returns-clause-ok : goal.returns-clause-ok
-returns-clause-ok c = λ last at.
+returns-clause-ok c = λ last is at.
     let held : List Row = c.self.inside.held.items in
     let row : Row = c.fill_row.new.row in
     let below : c.self.inside.count < length held =
@@ -41,7 +41,7 @@ returns-clause-ok c = λ last at.
     (ap (take c.self.inside.count) c.deref.ensures.value ∙ c.self.view_is) ∙ at) in
     let next : IsNext c.args.fst.now.edges (pick_of c.args.pick) last.states.items row =
     subst (λ (z : List ℕ). IsNext c.args.fst.now.edges (pick_of c.args.pick) z row)
-    (c.states.ensures ∙ ap (λ (z : Row). z.states.items) same) c.in_ok-fill_row.ensures.next in (
+    (c.states.ensures ∙ ap (λ (z : Row). z.states.items) same) (c.in_ok-fill_row.ensures.next is) in (
       row,
       (
         row_over c.args.self.now held c.self.inside.count row c.take_over.new.self c.self.view_is

@@ -1,0 +1,17 @@
+use Rattle.std.proofs.Common.{ℕ, ◌≡◌, ◌<◌, ◌≤◌, ◌-◌, Some, slice_get}
+use Rattle.ap_live.specs.Outlines.{Rises}
+use Rattle.ap_live.specs.declared.outline.Entry.{Entry}
+use Rattle.ap_live.proofs.outline.low_of.Given as goal
+
+abbrev pub invariant-loop-low : goal.invariant-loop-low
+invariant-loop-low l = record {
+  from : l.first ≤ l.low;
+  within : (l.low < l.high → l.high ≤ l.last);
+  before : Rises l.entries l.first l.last → (j : ℕ) (x : Entry) →
+      slice_get l.entries j ≡ Some x → l.first ≤ j → j < l.low → x.left < l.code;
+  behind : Rises l.entries l.first l.last → (j : ℕ) (x : Entry) →
+      slice_get l.entries j ≡ Some x → l.high ≤ j → j < l.last → l.code ≤ x.left;
+}
+
+abbrev pub decreases-loop-low : goal.decreases-loop-low
+decreases-loop-low l = l.high - l.low

@@ -1,0 +1,191 @@
+ghost use Rattle.std.specs.Prelude.{◌≡◌, ◌<◌, ◌≤◌, ◌+◌, ℕ, IfOk, OnOk, IsTrue, List, Some, length, slice_get};
+ghost use Rattle.std.specs.List.Sorted.{IsNonDecreasingBy};
+ghost use Rattle.ap_fst.specs.Machines.{edge_from, IsSpan};
+ghost use Rattle.ap_fst.specs.declared.label.Edge.{Edge};
+ghost use Rattle.ap_live.specs.Outlines.{AreEntries, AreFirsts, IsCut, IsFirstPlace, IsOutline, Rises, left_code};
+
+use ap_fst::{Edge, Fst};
+use ap_symbol::{Memory, Symbol};
+use std::alloc::Global;
+
+/// The code of a left side with a tag or a mark. That of an empty side is 0, and that of a letter
+/// is one more than the letter.
+const OTHER: u32 = u32::MAX;
+
+/// The code of an edge's left side, and the state that it enters.
+#[derive(Clone, Copy, Debug)]
+pub struct Entry {
+    pub left: u32,
+    pub to: u32,
+}
+
+/// What of a transducer is read at each step, in little room: for each state the place of its first
+/// edge, with one more for the end, and for each edge an entry. Where a transducer doesn't fit
+/// there are fewer of them, and its edges are looked up by halving.
+#[derive(Debug, Drop)]
+pub struct Outline {
+    pub firsts: Vec<u32>,
+    pub entries: Vec<Entry>,
+}
+
+/// The code of a letter.
+pub(crate) fn letter_code(letter: char) -> u32
+    ensures code { result ≡ letter + 1 }
+    ensures small { result < 4_294_967_295 }
+{
+    letter as u32 + 1
+}
+
+/// The code of a left side.
+fn code_of(side: &Option<Symbol>) -> u32
+    ensures { result ≡ left_code side.now }
+{
+    match side {
+        None => 0,
+        Some(Symbol::Letter(letter)) => letter_code(*letter),
+        Some(_) => OTHER,
+    }
+}
+
+/// Whether the edges before this place leave smaller states.
+fn is_behind_smaller(edges: &[Edge], place: usize, from: usize) -> bool
+    requires { IsNonDecreasingBy edge_from edges.now }
+    ensures end { IsTrue result → place ≤ length edges.now }
+    ensures before { IsTrue result → (j : ℕ) (e : Edge) → slice_get edges.now j ≡ Some e →
+        j < place → e.from < from }
+{
+    if place == 0 {
+        return true;
+    }
+    if edges.len() < place {
+        return false;
+    }
+    edges[place - 1].from < from
+}
+
+/// Whether the edges from this place on leave no smaller states.
+fn is_before_others(edges: &[Edge], place: usize, from: usize) -> bool
+    requires { IsNonDecreasingBy edge_from edges.now }
+    ensures { IsTrue result → (j : ℕ) (e : Edge) → slice_get edges.now j ≡ Some e → place ≤ j →
+        from ≤ e.from }
+{
+    if edges.len() <= place {
+        return true;
+    }
+    from <= edges[place].from
+}
+
+/// Whether the edges of a state begin at this place, which the edges beside it tell.
+fn is_first(edges: &[Edge], place: usize, from: usize) -> bool
+    requires { IsNonDecreasingBy edge_from edges.now }
+    ensures { IsTrue result → IsFirstPlace edges.now from place }
+{
+    is_behind_smaller(edges, place, from) && is_before_others(edges, place, from)
+}
+
+/// Lengthens the places to those of so many states, by this one, as far as it is theirs.
+fn fill(edges: &[Edge], len: usize, place: usize, firsts: &mut Vec<u32>) -> Result<(), Memory>
+    requires { IsNonDecreasingBy edge_from edges.now }
+    ensures { OnOk result (AreFirsts edges.now firsts.old.items
+        → AreFirsts edges.now firsts.new.items) }
+{
+    let Ok(first) = u32::try_from(place) else {
+        return Ok(());
+    };
+    for _ in firsts.len()..len {
+        if !is_first(edges, place, firsts.len()) {
+            return Ok(());
+        }
+        firsts.push(first)?;
+    }
+    Ok(())
+}
+
+/// For each state, and for the one behind the last, the place of the first edge that leaves no
+/// smaller state. A transducer may claim more states than memory has room for, so states beyond
+/// about twice the number of edges have none.
+fn firsts_of(alloc: Global, fst: &Fst) -> Result<Vec<u32>, Memory>
+    ensures { IfOk result (λ firsts. AreFirsts fst.now.edges firsts.items) }
+{
+    let edges = fst.edges();
+    let most = edges.len().saturating_mul(2).saturating_add(16);
+    let all = fst.states().saturating_add(1).min(most);
+    let mut firsts = Vec::with_capacity(alloc, all)?;
+    for place in 0..edges.len() {
+        let len = edges[place].from.saturating_add(1).min(all);
+        fill(edges, len, place, &mut firsts)?;
+    }
+    fill(edges, all, edges.len(), &mut firsts)?;
+    Ok(firsts)
+}
+
+/// The entries of edges, up to the first that enters a state whose number is too great.
+fn entries_of(alloc: Global, edges: &[Edge]) -> Result<Vec<Entry>, Memory>
+    ensures { IfOk result (λ entries. AreEntries edges.now entries.items) }
+{
+    let mut entries = Vec::with_capacity(alloc, edges.len())?;
+    for edge in edges {
+        let Ok(to) = u32::try_from(edge.to) else {
+            return Ok(entries);
+        };
+        let left = code_of(&edge.label.left);
+        entries.push(Entry { left, to })?;
+    }
+    Ok(entries)
+}
+
+/// The outline of a transducer.
+pub(crate) fn outline_of(alloc: Global, fst: &Fst) -> Result<Outline, Memory>
+    ensures { IfOk result (λ outline. IsOutline fst.now.edges outline) }
+{
+    let firsts = firsts_of(alloc, fst)?;
+    let entries = entries_of(alloc, fst.edges())?;
+    Ok(Outline { firsts, entries })
+}
+
+fn first_at(firsts: &[u32], state: usize) -> Option<usize>
+    ensures { result ≡ slice_get firsts.now state }
+{
+    match firsts.get(state) {
+        None => None,
+        Some(first) => Some(*first as usize),
+    }
+}
+
+/// The places from the first up to the second that hold the entries of a state's edges, if they are
+/// all there.
+pub(crate) fn span_in(outline: &Outline, from: usize) -> Option<(usize, usize)>
+    ensures last { (first last : ℕ) → result ≡ Some (first, last) →
+        last ≤ length outline.now.entries.items }
+    ensures span { (edges : List Edge) (first last : ℕ) → result ≡ Some (first, last) →
+        IsOutline edges outline.now → IsSpan edges from first last }
+{
+    if from == usize::MAX {
+        return None;
+    }
+    let firsts = outline.firsts.as_slice();
+    let first = first_at(firsts, from)?;
+    let last = first_at(firsts, from + 1)?;
+    if outline.entries.len() < last {
+        return None;
+    }
+    Some((first, last))
+}
+
+/// The first of these places whose entry has no smaller code than this, by halving.
+pub(crate) fn low_of(entries: &[Entry], first: usize, last: usize, code: u32) -> usize
+    requires { last ≤ length entries.now }
+    ensures { Rises entries.now first last → IsCut entries.now first last code result }
+{
+    let mut low = first;
+    let mut high = last;
+    while low < high {
+        let middle = low + (high - low) / 2;
+        if entries[middle].left < code {
+            low = middle + 1;
+        } else {
+            high = middle;
+        }
+    }
+    low
+}
