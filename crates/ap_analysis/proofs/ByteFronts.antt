@@ -1,8 +1,8 @@
 -- Steps that are known by bytes: their marks, and what the work gives.
-use Rattle.std.specs.Prelude.{◌≡◌, ℕ, zero, suc, ◌+◌, ◌<◌, ◌≤◌, Bool, true, false, List, [], ◌∷◌, ◌++◌, length, take, drop, Option, Some, None, IfSome, Result, Ok, Err, IfOk}
-use Rattle.std.proofs.Common.{arith, refl, ap, sym, ◌∙◌, subst, inl, get_or}
+use Rattle.std.specs.Prelude.{◌≡◌, ℕ, zero, suc, ◌+◌, ◌-◌, ◌<◌, ◌≤◌, max, Bool, true, false, List, [], ◌∷◌, ◌++◌, length, take, drop, Option, Some, None, IfSome, Result, Ok, Err, IfOk}
+use Rattle.std.proofs.Common.{arith, refl, ap, sym, ◌∙◌, subst, inl, append_assoc, length-drop}
 use Rattle.std.proofs.lemmas.Bool.{false≢true}
-use Rattle.std.proofs.lemmas.List.{append-nil, length-take-le, take-take}
+use Rattle.std.proofs.lemmas.List.{append-nil, length-take-le, take-take, take_all}
 use Rattle.std.proofs.lemmas.List.{take_more}
 use Rattle.ap_fst.specs.Sections.{Parts}
 use Rattle.ap_stream.specs.Bare.{bare_item, bare_items, bare_run}
@@ -17,6 +17,7 @@ use Rattle.ap_stream.specs.declared.dialect.Dialect.TheVariants.{Raw}
 use Rattle.ap_stream.specs.declared.front.Front.{Front}
 use Rattle.ap_stream.specs.declared.item.Read.{Read}
 use Rattle.ap_stream.proofs.BareReads.{bare_spelled, bare_reads, rest_reads, items_size}
+use Rattle.ap_stream.proofs.FrontLaws.{then_given}
 use Rattle.ap_stream.proofs.StepLaws.{turn_wrote}
 use Rattle.ap_live.specs.Lexicon.{Lexicon, IsCoherent, lexicon_of}
 use Rattle.ap_analysis.specs.Analysis.{copied, first_step}
@@ -39,81 +40,6 @@ pub bytes_are : (place : ℕ) (bytes : List ℕ) → bytes_of (bare_items place 
 bytes_are place [] = refl
 bytes_are place (b ∷ bytes) =
     let k = bytes_are (counted (place + 1)) bytes in omega (arith, k)
-
--- a byte more agrees with a key
-bytes_next : (bytes : List ℕ) (i : ℕ) → i < length bytes → take (i + 1) (byte_marks bytes)
-    ≡ take i (byte_marks bytes) ++ mark_of (bare_item (get_or bytes i 0)) ∷ []
-bytes_next [] i lt = absurd (omega arith)
-bytes_next (b ∷ bytes) zero lt = refl
-bytes_next (b ∷ bytes) (suc i) lt =
-    let count : suc i + 1 ≡ suc (i + 1) = omega arith in
-    rw count (ap (λ (ms : List ℕ). mark_of (bare_item b) ∷ ms) (bytes_next bytes i (omega arith)))
-
-pub spells_next : (bytes key : List ℕ) (i m : ℕ) → i < length bytes → i < length key →
-    m ≡ mark_of (bare_item (get_or bytes i 0)) → m ≡ get_or key i 0 →
-    take i (byte_marks bytes) ≡ take i key → take (i + 1) (byte_marks bytes) ≡ take (i + 1) key
-spells_next bytes key i m lb lk e f same =
-    bytes_next bytes i lb
-    ∙ ap (λ (ms : List ℕ). ms ++ mark_of (bare_item (get_or bytes i 0)) ∷ []) same
-    ∙ ap (λ (x : ℕ). take i key ++ x ∷ []) (sym e ∙ f) ∙ sym (take_more key i 0 lk)
-
-copied_bare : (place : ℕ) (front : List ℕ) → bare_run front ≡ true → 0 < length front →
-    copied (bare_items place front) ≡ Gives 1 (take 1 front)
-copied_bare place [] h some = absurd (omega arith)
-copied_bare place (b ∷ front) h some =
-    ap (Gives 1) (append-nil (spelled (bare_item b)) ∙ bare_spelled b front h)
-
--- what an entry gives whose key is that of the bytes
-module _ (lexicon : Lexicon) (sensitive : Bool) (entry : Entry) (piece : List ℕ) (seen : ℕ)
-    (some : 0 < seen) (fits : seen ≤ length piece) (most : seen ≤ 257)
-    (bare : bare_run (take seen piece) ≡ true)
-    (same : take (length entry.key.items) (byte_marks (take seen piece)) ≡ entry.key.items)
-    (kept : IsKept lexicon sensitive entry) where
-  counts : length (take seen piece) ≡ seen
-  counts = length-take-le seen piece fits
-
-  entry_step : (place : ℕ) → (first_step lexicon sensitive (bare_items place (take seen piece))
-      ≡ given entry (bare_items place (take seen piece)))
-      × (span lexicon (bare_items place (take seen piece))
-      < length (bare_items place (take seen piece)))
-  entry_step place =
-      let n = bytes_are place (take seen piece) in
-      kept.step (bare_items place (take seen piece))
-      (ap (take (length entry.key.items)) (marks_are place (take seen piece)) ∙ same)
-      (rw n (omega (arith, counts, most)))
-
-  pub gives_text : (used : ℕ) (before after : List ℕ) → entry.copies ≡ false →
-      used ≡ entry.count → 0 < used → used ≤ seen → after ≡ before ++ entry.text →
-      IsFront lexicon sensitive piece used seen before after
-  gives_text used before after copies count least within is = record {
-    some = least;
-    within = within;
-    most = fits;
-    bare = bare;
-    text = entry.text;
-    is = is;
-    step = λ place. (
-      (entry_step place).0 ∙ rw copies (ap (λ n. Gives n entry.text) (sym count)),
-      (entry_step place).1,
-    );
-  }
-
-  pub gives_first : (before after : List ℕ) → entry.copies ≡ true →
-      after ≡ before ++ take 1 piece → IsFront lexicon sensitive piece 1 seen before after
-  gives_first before after copies is = record {
-    some = omega arith;
-    within = omega (arith, some);
-    most = fits;
-    bare = bare;
-    text = take 1 piece;
-    is = is;
-    step = λ place. (
-      (entry_step place).0
-          ∙ rw copies (copied_bare place (take seen piece) bare (rw counts some)
-          ∙ ap (Gives 1) (take-take 1 seen piece (omega (arith, some)))),
-      (entry_step place).1,
-    );
-  }
 
 -- the work on the items, and then on those behind the step
 module _ (p : Parts) (sensitive finished : Bool) (whole : IsCoherent (lexicon_of p sensitive))
@@ -162,26 +88,43 @@ module _ (p : Parts) (sensitive finished : Bool) (whole : IsCoherent (lexicon_of
     gives = front_gives;
   }
 
--- what is found gives what the work gives where nothing is held
-pub found_gave : {E : Type 0} (r : Result (Option Front) E) (p : Parts)
-    (sensitive finished : Bool) (items : List Read) (now : Held) (piece before after : List ℕ)
-    (entries : List Entry) →
+-- what is seen gives what the work gives where nothing is held
+pub seen_gave : (p : Parts) (sensitive finished : Bool) (items : List Read) (now : Held)
+    (piece : List ℕ) (used seen : ℕ) (before after : List ℕ) →
     record { compiled = p; sensitive = sensitive; items = items; finished = finished } ≡ now →
     length items ≡ 0 → IsCoherent (lexicon_of now.compiled now.sensitive) →
-    AreKept (lexicon_of p sensitive) sensitive entries →
-    IfOk r (λ found. IfSome found (λ front. (lexicon : Lexicon) (s : Bool) →
-    AreKept lexicon s entries → IsFront lexicon s piece front.used front.seen before after)) →
-    IfOk r (λ found. IfSome found
-    (λ front. GaveFront work_of Raw now piece front.used front.seen before after))
-found_gave (Err x) p sensitive finished items now piece before after entries view none whole kept
-    says = tt
-found_gave (Ok None) p sensitive finished items now piece before after entries view none whole
-    kept says = tt
-found_gave (Ok (Some front)) p sensitive finished [] now piece before after entries view none
-    whole kept says =
-    subst (λ (h : Held). GaveFront work_of Raw h piece front.used front.seen before after) view
+    IsFront (lexicon_of p sensitive) sensitive piece used seen before after →
+    GaveFront work_of Raw now piece used seen before after
+seen_gave p sensitive finished [] now piece used seen before after view none whole is =
+    subst (λ (h : Held). GaveFront work_of Raw h piece used seen before after) view
     (front_gave p sensitive finished
-    (subst (λ (h : Held). IsCoherent (lexicon_of h.compiled h.sensitive)) (sym view) whole) piece front.used front.seen before after
-    (says (lexicon_of p sensitive) sensitive kept))
-found_gave (Ok (Some front)) p sensitive finished (read ∷ items) now piece before after entries
-    view none whole kept says = absurd (omega (arith, none))
+    (subst (λ (h : Held). IsCoherent (lexicon_of h.compiled h.sensitive)) (sym view) whole) piece
+    used seen before after is)
+seen_gave p sensitive finished (read ∷ items) now piece used seen before after view none whole is =
+    absurd (omega (arith, none))
+
+pub rest_is : (piece : List ℕ) (used : ℕ) →
+    take (length piece - used) (drop used piece) ≡ drop used piece
+rest_is piece used = take_all (length piece - used) (drop used piece)
+    (let k = length-drop used piece in omega (arith, k))
+
+-- a step, and then one of one byte
+pub both_gave : (now : Held) (piece : List ℕ) (used seen all : ℕ) (before between after : List ℕ) →
+    all ≡ max seen (used + 2) → GaveFront work_of Raw now piece used seen before between →
+    GaveFront work_of Raw now (drop used piece) 1 2 between after →
+    GaveFront work_of Raw now piece (used + 1) all before after
+both_gave now piece used seen all before between after e g k =
+    let rest = length-drop used piece in
+    let within = g.within in
+    let most = g.most in
+    let more = k.most in
+    let far : used + 2 ≤ length piece = omega (arith, rest, within, most, more) in
+    record {
+      some = omega arith;
+      within = omega (arith, e);
+      most = omega (arith, e, most, far);
+      given = g.given ++ k.given;
+      is = k.is ∙ ap (λ (z : List ℕ). z ++ k.given) g.is ∙ append_assoc before g.given k.given;
+      gives = then_given work_of Raw now piece used seen 2 1 all g.given k.given within most
+          (omega arith) far (omega (arith, e)) (omega (arith, e)) g.gives k.gives;
+    }

@@ -1,5 +1,5 @@
 -- Runs that hold a test, and items that are alphabetic characters.
-use Rattle.std.specs.Prelude.{◌≡◌, ℕ, suc, zero, ◌<◌, ◌≤◌, Bool, true, false, List, [], ◌∷◌, length, take, IsTrue, ◌↔◌, ◌==◌}
+use Rattle.std.specs.Prelude.{◌≡◌, ℕ, suc, zero, ◌<◌, ◌≤◌, Bool, true, false, List, [], ◌∷◌, length, take, IsTrue, ◌↔◌, ◌==◌, ◌||◌, Some}
 use Rattle.std.specs.List.{list_all, list_any, prefix_len}
 use Rattle.std.proofs.Common.{refl, ap, sym, ◌∙◌, arith, get_or, inl, inr}
 use Rattle.std.proofs.lemmas.Bool.{and_parts}
@@ -15,6 +15,7 @@ use Rattle.ap_stream.specs.declared.item.Read.{Read}
 use Rattle.ap_live.specs.Lexicon.{lexicon_of}
 use Rattle.ap_live.proofs.Finding.{same_answer}
 use Rattle.ap_live.proofs.Spreading.{in_from_any}
+use Rattle.ap_analysis.specs.Endings.{is_ending, ending_symbol}
 use Rattle.ap_analysis.specs.Items.{symbol_of}
 use Rattle.ap_analysis.specs.Licence.{is_letter_symbol, is_alphabetic}
 
@@ -68,3 +69,25 @@ module _ (p : Parts) (sensitive : Bool) (read : Read) (character : Character)
   plain_white w =
       let s : is_letter_symbol (lexicon_of p sensitive) (symbol_of (Plain character)) ≡ false =
       rw w refl in sym (at_item ∙ s)
+
+-- Endings that are not among the letters are no alphabetic characters.
+pub not_listed : (letters : List ℕ) (c : ℕ) (answer : Bool) → IsTrue answer ↔ IsIn c letters →
+    answer ≡ false → has_letter letters c ≡ false
+not_listed letters c answer h e =
+    sym (same_answer answer (has_letter letters c) (IsIn c letters) h
+    (in_from_any c letters, any_from letters c)) ∙ e
+
+module _ (p : Parts) (sensitive : Bool) (stop : has_letter p.alphabet 46 ≡ false)
+    (comma : has_letter p.alphabet 44 ≡ false) (b : ℕ) (ending : is_ending b ≡ true) where
+  listed : (t : Bool) → (b == 46) ≡ t → is_white b ≡ false → has_letter p.alphabet b ≡ false
+  listed true e w = let n : b ≡ 46 = grind (arith, nat_tests) in ap (has_letter p.alphabet) n ∙ stop
+  listed false e w =
+      let n : b ≡ 44 = grind (arith, nat_tests) in ap (has_letter p.alphabet) n ∙ comma
+
+  by_white : (t : Bool) → is_white b ≡ t →
+      is_letter_symbol (lexicon_of p sensitive) (Some (ending_symbol b)) ≡ false
+  by_white true w = rw w refl
+  by_white false w = rw w (listed (b == 46) refl w)
+
+  pub plain_ending : is_letter_symbol (lexicon_of p sensitive) (Some (ending_symbol b)) ≡ false
+  plain_ending = by_white (is_white b) refl

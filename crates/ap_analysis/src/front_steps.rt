@@ -1,0 +1,287 @@
+ghost use Rattle.std.specs.Prelude.{◌≡◌, ◌⊎◌, ℕ, Bool, ◌+◌, ◌<◌, ◌≤◌, List, [], ◌∷◌, ◌++◌, true, false, length, take, None, Ok, IfOk, IfSome, OnOk};
+ghost use Rattle.ap_stream.specs.declared.TheConstants.{FRONT_MAX};
+ghost use Rattle.ap_live.specs.Lexicon.{Lexicon};
+ghost use Rattle.ap_analysis.specs.Endings.{is_ending as ending_test};
+ghost use Rattle.ap_analysis.specs.Fronts.{IsFront};
+ghost use Rattle.ap_analysis.specs.FrontSteps.{IsFrontStep, AreFrontSteps, FitsStep, EndsBare, IsSpaceStep};
+
+use crate::places::{Places, SEED, mix};
+use crate::worth::Worth;
+use ap_stream::{FRONT_MAX, Front, is_bare};
+use ap_symbol::{Bytes, Memory, is_white};
+use std::alloc::Global;
+
+/// The most steps that are kept.
+const STEPS_MAX: usize = 131072;
+
+/// The most bytes that their keys and texts may have.
+const BYTES_MAX: usize = 16777216;
+
+/// The most bytes of a key.
+pub(crate) const KEY_MAX: usize = 256;
+
+/// The number of places for keys.
+const PLACES: usize = 262144;
+
+/// The hash of an open key has this mark at its end.
+const OPEN: u32 = 256;
+
+/// A step that was taken, by the bytes at the front, each of which was an item: `data` has so many
+/// bytes of a key, and then what the step wrote; it used so many bytes. Where the key is open, a
+/// byte comes behind it that may end a word, and it doesn't matter which.
+#[derive(Drop)]
+pub(crate) struct FrontStep {
+    pub(crate) data: Vec<u8>,
+    pub(crate) size: usize,
+    pub(crate) count: usize,
+    pub(crate) any_ending: bool,
+}
+
+/// The steps that are kept by bytes. Where few steps are recalled, only some are kept.
+#[derive(Drop)]
+pub(crate) struct FrontSteps {
+    pub(crate) steps: Vec<FrontStep>,
+    bytes: usize,
+    places: Places,
+    worth: Worth,
+    pub(crate) spaces: bool,
+}
+
+/// Whether the byte may stand behind an open key: white space, a full stop or a comma.
+fn is_ending(byte: u8) -> bool
+    ensures { result ≡ ending_test byte }
+{
+    is_white(byte as char) || byte == b'.' || byte == b','
+}
+
+/// Whether the bytes are the same.
+fn are_same(a: &[u8], b: &[u8]) -> bool
+    ensures { result ≡ true → a.now ≡ b.now }
+{
+    a == b
+}
+
+impl FrontStep {
+    /// How many bytes of the piece decide this step, if they do: the key, what comes behind an open
+    /// one, and one more where white space is the last, since a blank is over only at the byte
+    /// behind it.
+    fn seen(&self, piece: &[u8]) -> Option<usize>
+        ensures { IfSome result (FitsStep self.now piece.now) }
+    {
+        let size = self.size;
+        if size == 0 || size > KEY_MAX || self.data.len() < size || piece.len() <= size {
+            return None;
+        }
+        if !are_same(&piece[..size], &self.data[..size]) {
+            return None;
+        }
+        if self.any_ending {
+            if !is_ending(piece[size]) {
+                return None;
+            }
+            return behind(piece, size, size);
+        }
+        behind(piece, 0, size - 1)
+    }
+}
+
+/// The number of bytes up to this one, and one more where it is white space, if each byte from the
+/// first one on is an item.
+fn behind(piece: &[u8], first: usize, last: usize) -> Option<usize>
+    requires order { first ≤ last }
+    requires few { last ≤ 256 }
+    requires within { last < length piece.now }
+    ensures { IfSome result (EndsBare piece.now first last) }
+{
+    let seen = if is_white(piece[last] as char) {
+        last + 2
+    } else {
+        last + 1
+    };
+    if piece.len() < seen || !is_bare(&piece[first..seen]) {
+        return None;
+    }
+    Some(seen)
+}
+
+/// The step, if it is that of the bytes. Its text is appended.
+pub(crate) fn front_of(
+    step: &FrontStep,
+    piece: &[u8],
+    into: &mut Bytes,
+) -> Result<Option<Front>, Memory>
+    ensures gave { IfOk result (λ found. IfSome found (λ front. (lexicon : Lexicon)
+        (sensitive : Bool) → IsFrontStep lexicon sensitive step.now →
+        IsFront lexicon sensitive piece.now front.used front.seen into.old into.new)) }
+    ensures short { OnOk result (length into.new < length into.old + FRONT_MAX) }
+    ensures none { result ≡ Ok None → into.new ≡ into.old }
+{
+    let Some(seen) = step.seen(piece) else {
+        return Ok(None);
+    };
+    let text = &step.data[step.size..];
+    if text.len() >= FRONT_MAX || step.count == 0 || step.count > seen {
+        return Ok(None);
+    }
+    into.extend(text)?;
+    Ok(Some(Front {
+        used: step.count,
+        seen,
+    }))
+}
+
+/// Writes the places of a key: those of its fronts behind the first byte that is no letter, and its
+/// own.
+fn point(places: &mut Places, key: &[u8], any_ending: bool, number: u32) {
+    let mut hash = SEED;
+    let mut met = false;
+    for i in 0..key.len() {
+        hash = mix(hash, u32::from(key[i]));
+        met = met || !key[i].is_ascii_alphabetic();
+        if met {
+            places.set(hash, number, !any_ending && i == key.len() - 1);
+        }
+    }
+    if any_ending {
+        places.set(mix(hash, OPEN), number, true);
+    }
+}
+
+/// Whether the step copies a space, whatever comes behind it.
+fn is_space(step: &FrontStep) -> bool
+    ensures { result ≡ true → IsSpaceStep step.now }
+{
+    step.size == 1 && step.count == 1 && !step.any_ending && are_same(step.data.as_slice(), b"  ")
+}
+
+/// Whether it is known that a space is copied, where it was before, or the step tells it.
+fn knows_space(before: bool, step: &FrontStep) -> bool
+    ensures { result ≡ true → (before ≡ true) ⊎ IsSpaceStep step.now }
+{
+    before || is_space(step)
+}
+
+impl FrontSteps {
+    pub(crate) fn new(alloc: Global) -> FrontSteps
+        ensures { (lexicon : Lexicon) (sensitive : Bool) → AreFrontSteps lexicon sensitive result }
+    {
+        FrontSteps {
+            steps: Vec::new(alloc),
+            bytes: 0,
+            places: Places::new(alloc),
+            worth: Worth::new(),
+            spaces: false,
+        }
+    }
+
+    /// The step that the bytes may begin with.
+    fn hinted(&self, piece: &[u8]) -> Option<usize> {
+        let mut hash = SEED;
+        let mut met = false;
+        for i in 0..piece.len().min(KEY_MAX) {
+            let byte = piece[i];
+            if !byte.is_ascii_alphabetic() {
+                met = true;
+                if i > 0 && is_ending(byte) {
+                    if let Some(place) = self.places.find(mix(hash, OPEN)) {
+                        return Some(place.number());
+                    }
+                }
+            }
+            hash = mix(hash, u32::from(byte));
+            if met {
+                let place = self.places.find(hash)?;
+                if place.is_whole() {
+                    return Some(place.number());
+                }
+            }
+        }
+        None
+    }
+
+    /// The step at the front of the bytes, if it is kept. Its text is appended.
+    pub(crate) fn recall(&mut self, piece: &[u8], into: &mut Bytes) -> Result<Option<Front>, Memory>
+        ensures steps { self.new.steps ≡ self.old.steps }
+        ensures spaces { self.new.spaces ≡ self.old.spaces }
+        ensures gave { IfOk result (λ found. IfSome found (λ front. (lexicon : Lexicon)
+            (sensitive : Bool) → AreFrontSteps lexicon sensitive self.old →
+            IsFront lexicon sensitive piece.now front.used front.seen into.old into.new)) }
+        ensures short { OnOk result (length into.new < length into.old + FRONT_MAX) }
+        ensures none { result ≡ Ok None → into.new ≡ into.old }
+    {
+        let Some(at) = self.hinted(piece) else {
+            return Ok(None);
+        };
+        if at >= self.steps.len() {
+            return Ok(None);
+        }
+        let found = front_of(&self.steps[at], piece, into)?;
+        if let Some(front) = found {
+            self.worth.count(front.used);
+        }
+        Ok(found)
+    }
+
+    /// Whether the bytes begin with a space that is copied.
+    pub(crate) fn copies_space(&self, piece: &[u8]) -> bool
+        ensures { result ≡ true → (lexicon : Lexicon) (sensitive : Bool) →
+            AreFrontSteps lexicon sensitive self.now → (before : List ℕ) →
+            IsFront lexicon sensitive piece.now 1 2 before (before ++ 32 ∷ []) }
+    {
+        self.spaces && piece.len() >= 2 && piece[0] == b' ' && is_bare(&piece[..2])
+    }
+
+    /// Whether each step that is searched is kept.
+    pub(crate) fn is_dense(&self) -> bool {
+        self.worth.is_dense()
+    }
+
+    /// Forgets all, where there is no room for one more.
+    fn make_room(&mut self) -> Result<(), Memory>
+        ensures { (lexicon : Lexicon) (sensitive : Bool) →
+            AreFrontSteps lexicon sensitive self.old → AreFrontSteps lexicon sensitive self.new }
+    {
+        if self.steps.len() >= STEPS_MAX || self.bytes >= BYTES_MAX {
+            self.steps.clear();
+            self.bytes = 0;
+            self.places.free(PLACES)?;
+        }
+        if self.places.count() < PLACES {
+            self.places.free(PLACES)?;
+            self.steps.reserve_exact(STEPS_MAX)?;
+        }
+        Ok(())
+    }
+
+    fn add(&mut self, step: FrontStep) -> Result<(), Memory>
+        ensures { (lexicon : Lexicon) (sensitive : Bool) → IsFrontStep lexicon sensitive step →
+            AreFrontSteps lexicon sensitive self.old → AreFrontSteps lexicon sensitive self.new }
+    {
+        self.make_room()?;
+        let held = self.steps.len();
+        if held >= STEPS_MAX || step.data.len() < step.size {
+            return Ok(());
+        }
+        self.bytes = self.bytes.saturating_add(step.data.len());
+        let spaces = knows_space(self.spaces, &step);
+        point(
+            &mut self.places,
+            &step.data[..step.size],
+            step.any_ending,
+            held as u32,
+        );
+        self.steps.push(step)?;
+        self.spaces = spaces;
+        Ok(())
+    }
+
+    /// Keeps a step, if it is worth it and there is memory.
+    pub(crate) fn keep(&mut self, step: FrontStep)
+        ensures { (lexicon : Lexicon) (sensitive : Bool) → IsFrontStep lexicon sensitive step →
+            AreFrontSteps lexicon sensitive self.old → AreFrontSteps lexicon sensitive self.new }
+    {
+        if self.worth.is_worth() {
+            let _ = self.add(step);
+        }
+    }
+}
