@@ -1,32 +1,26 @@
 -- Steps that are known by bytes: their marks, and what the work gives.
-use Rattle.std.specs.Prelude.{◌≡◌, ℕ, zero, suc, ◌+◌, ◌-◌, ◌<◌, ◌≤◌, max, Bool, true, false, List, [], ◌∷◌, ◌++◌, length, take, drop, Option, Some, None, IfSome, Result, Ok, Err, IfOk}
+use Rattle.std.specs.Prelude.{◌≡◌, ℕ, ◌+◌, ◌-◌, ◌≤◌, max, Bool, false, List, [], ◌∷◌, ◌++◌, length, take, drop}
 use Rattle.std.proofs.Common.{arith, refl, ap, sym, ◌∙◌, subst, inl, append_assoc, length-drop}
 use Rattle.std.proofs.lemmas.Bool.{false≢true}
-use Rattle.std.proofs.lemmas.List.{append-nil, length-take-le, take-take, take_all}
-use Rattle.std.proofs.lemmas.List.{take_more}
+use Rattle.std.proofs.lemmas.List.{length-take-le, take_all}
 use Rattle.ap_fst.specs.Sections.{Parts}
-use Rattle.ap_stream.specs.Bare.{bare_item, bare_items, bare_run}
-use Rattle.ap_stream.specs.Copying.{preceded}
+use Rattle.ap_stream.specs.Bare.{bare_item, bare_items}
 use Rattle.ap_stream.specs.Fronts.{GivesFront, GaveFront}
 use Rattle.ap_stream.specs.Reading.{reads, counted}
 use Rattle.ap_stream.specs.Rest.{worked}
-use Rattle.ap_stream.specs.Spelling.{spelled}
-use Rattle.ap_stream.specs.Steps.{Gives, bytes_of}
-use Rattle.ap_stream.specs.Told.{Told, Ending, behind, or_else, stop_at}
+use Rattle.ap_stream.specs.Steps.{bytes_of}
+use Rattle.ap_stream.specs.Told.{Told, behind, or_else, stop_at}
 use Rattle.ap_stream.specs.declared.dialect.Dialect.TheVariants.{Raw}
-use Rattle.ap_stream.specs.declared.front.Front.{Front}
 use Rattle.ap_stream.specs.declared.item.Read.{Read}
-use Rattle.ap_stream.proofs.BareReads.{bare_spelled, bare_reads, rest_reads, items_size}
+use Rattle.ap_stream.proofs.BareReads.{bare_reads, rest_reads, items_size}
 use Rattle.ap_stream.proofs.FrontLaws.{then_given}
 use Rattle.ap_stream.proofs.StepLaws.{turn_wrote}
-use Rattle.ap_live.specs.Lexicon.{Lexicon, IsCoherent, lexicon_of}
-use Rattle.ap_analysis.specs.Analysis.{copied, first_step}
-use Rattle.ap_analysis.specs.Entries.{IsKept, AreKept, given}
+use Rattle.ap_live.specs.Lexicon.{IsCoherent, lexicon_of}
+use Rattle.ap_analysis.specs.Analysis.{first_step}
 use Rattle.ap_analysis.specs.Fronts.{byte_marks, IsFront}
 use Rattle.ap_analysis.specs.Held.{Held, work_of}
 use Rattle.ap_analysis.specs.Kept.{mark_of, marks}
 use Rattle.ap_analysis.specs.Licence.{span}
-use Rattle.ap_analysis.specs.declared.kept.Entry.{Entry}
 use Rattle.ap_analysis.proofs.Steps.{settles}
 
 -- items of bare bytes

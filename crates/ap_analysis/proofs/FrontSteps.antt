@@ -1,19 +1,16 @@
 -- Steps that are kept by bytes: when a new one is true.
-use Rattle.std.specs.Prelude.{◌≡◌, ◌⊎◌, ℕ, suc, zero, ◌+◌, ◌*◌, ◌<◌, ◌≤◌, Bool, true, false, ◌||◌, ◌==◌, List, [], ◌∷◌, ◌++◌, length, take, drop, map, refl, if◌then◌else◌, Some}
-use Rattle.std.specs.List.{list_any, AllByRecursion}
+use Rattle.std.specs.Prelude.{◌≡◌, ◌⊎◌, ℕ, suc, zero, ◌+◌, ◌*◌, ◌<◌, ◌≤◌, Bool, true, false, ◌==◌, List, [], ◌∷◌, ◌++◌, length, take, drop, refl, Some}
 use Rattle.std.proofs.Common.{arith, ap, sym, ◌∙◌, subst, inl, inr, get_or}
 use Rattle.std.proofs.lemmas.Bool.{cases_lt}
 use Rattle.std.proofs.lemmas.Bool.Decides.{nat_tests}
-use Rattle.std.proofs.lemmas.List.{length-take, length-append, take-append-drop, take-map, drop-map, take_all, drop_all, length-map, take-append-le, drop-append-le, take-take, take_more}
+use Rattle.std.proofs.lemmas.List.{length-take, length-append, take-append-drop, take-map, drop-map, take_all, length-map, take-take, take_more}
 use Rattle.std.proofs.Math.Seq.{take-add}
 use Rattle.ap_symbol.specs.Words.{is_white as white_letter}
 use Rattle.ap_symbol.specs.declared.symbol.Symbol.{Symbol}
 use Rattle.ap_stream.specs.Bare.{bare_item, bare_items, bare_run}
 use Rattle.ap_stream.specs.Blanks.{is_white}
-use Rattle.ap_stream.specs.Limits.{span_max}
 use Rattle.ap_stream.specs.Spelling.{spelled}
 use Rattle.ap_stream.specs.Steps.{Gives, bytes_of}
-use Rattle.ap_stream.specs.declared.item.Item.TheVariants as item
 use Rattle.ap_stream.specs.declared.item.Read.{Read}
 use Rattle.ap_stream.proofs.BareReads.{items_size}
 use Rattle.ap_stream.proofs.ItemFronts.{front_short, front_ends, front_goes_on, front_more}
@@ -22,12 +19,11 @@ use Rattle.ap_analysis.specs.Items.{symbol_of, symbols}
 use Rattle.ap_analysis.specs.Endings.{is_ending, ending_symbol, IsOpen}
 use Rattle.ap_analysis.specs.Entries.{IsStep}
 use Rattle.ap_analysis.specs.Fronts.{byte_marks, byte_read, byte_reads, AreRead}
-use Rattle.ap_analysis.specs.FrontSteps.{IsFrontStep, follows_key, key_of, text_of}
+use Rattle.ap_analysis.specs.FrontSteps.{IsFrontStep, follows_key, step_of}
 use Rattle.ap_analysis.specs.Searching.{IsFound}
-use Rattle.ap_analysis.specs.declared.front_steps.FrontStep.{FrontStep}
 use Rattle.ap_analysis.specs.declared.search.Found.{Found}
 use Rattle.ap_analysis.specs.Kept.{mark_of, marks, begins_plain, has_superblank, IsWithinLimit}
-use Rattle.ap_analysis.specs.Licence.{is_alphabetic, is_letter_symbol, begins_alphabetic, surface, licence, viable_length, unknown_length, span}
+use Rattle.ap_analysis.specs.Licence.{is_letter_symbol, begins_alphabetic, surface, licence, viable_length, unknown_length, span}
 use Rattle.ap_analysis.specs.Analysis.{copied, step_within, first_step}
 use Rattle.ap_analysis.proofs.Alike.{same_step, same_span, same_copied, all_in_limit}
 use Rattle.ap_analysis.proofs.ByteFronts.{marks_are, bytes_are}
@@ -170,35 +166,6 @@ module _ (lexicon : Lexicon) (sensitive : Bool) (whole : IsCoherent lexicon) (fr
           ones (b ∷ front) [] s e = absurd (cc)
           ones (b ∷ front) (c ∷ bytes) s e = ap (λ (xs : List ℕ). take 1 xs) e
 
--- A step as it is kept.
-pub made_step : (lexicon : Lexicon) (sensitive : Bool) (step : FrontStep) (key text : List ℕ)
-    (count : ℕ) → step.data.items ≡ key ++ text → step.size ≡ length key → step.count ≡ count →
-    (step.any_ending ≡ true → bare_run key ≡ true)
-    → ((bytes : List ℕ) → bare_run bytes ≡ true → take (length key) bytes ≡ key →
-    follows_key step.any_ending (drop (length key) bytes) ≡ true → length bytes ≤ 258 → (place : ℕ) →
-    IsStep lexicon sensitive (bare_items place bytes) count text)
-    → IsFrontStep lexicon sensitive step
-made_step lexicon sensitive step key text count held sized counted_ bare_key f =
-    let n : ℕ = length key in
-    let key_is : key_of step ≡ key =
-    ap (λ (k : ℕ). take k step.data.items) sized ∙ ap (take n) held
-    ∙ take-append-le n key text (omega arith) ∙ take_all n key (omega arith) in
-    let text_is : text_of step ≡ text =
-    ap (λ (k : ℕ). drop k step.data.items) sized ∙ ap (drop n) held
-    ∙ drop-append-le n key text (omega arith)
-    ∙ ap (λ (z : List ℕ). z ++ text) (drop_all n key (omega arith)) in
-    record {
-      bare = λ e. ap bare_run key_is ∙ bare_key e;
-      gives = λ bytes bare same follows few place.
-          let s = f bytes bare (ap (λ (k : ℕ). take k bytes) (sym sized) ∙ same ∙ key_is)
-          (ap (λ (k : ℕ). follows_key step.any_ending (drop k bytes)) (sym sized) ∙ follows)
-          few place in (
-            s.0 ∙ ap (λ (k : ℕ). Gives k text) (sym counted_)
-                ∙ ap (Gives step.count) (sym text_is),
-            s.1,
-          );
-    }
-
 first_plain : (bytes : List ℕ) → 0 < length bytes → white_letter (get_or bytes 0 0) ≡ false →
     begins_plain (marks (byte_reads bytes)) ≡ true
 first_plain [] some w = absurd (omega (arith, some))
@@ -208,8 +175,7 @@ first_plain (b ∷ bytes) some w = ap begins_plain (read_marks (b ∷ bytes)) �
 module _ (lexicon : Lexicon) (sensitive : Bool) (whole : IsCoherent lexicon) (piece : List ℕ)
     (n : ℕ) (fits : n ≤ length piece) (few : n ≤ 256) (found : Found)
     (is : IsFound lexicon (byte_reads (take n piece)) false found) (count : ℕ) (text : List ℕ)
-    (gives : first_step lexicon sensitive (byte_reads (take n piece)) ≡ Gives count text)
-    (step : FrontStep) (counts : step.count ≡ count) where
+    (gives : first_step lexicon sensitive (byte_reads (take n piece)) ≡ Gives count text) where
   abbrev front : List ℕ
   front = take n piece
 
@@ -242,36 +208,37 @@ module _ (lexicon : Lexicon) (sensitive : Bool) (whole : IsCoherent lexicon) (pi
       heads (suc k) [] lt = refl
       heads (suc k) (b ∷ bytes) lt = refl
 
-  module _ (held : step.data.items ≡ key ++ text) (sized : step.size ≡ length key)
-      (closed : step.any_ending ≡ false) where
-    by_key : ((bytes : List ℕ) → take (found.span + 1) bytes ≡ take (found.span + 1) front →
-        length bytes ≤ 258 → (place : ℕ) → IsStep lexicon sensitive (bare_items place bytes) count text)
-        → IsFrontStep lexicon sensitive step
-    by_key f = made_step lexicon sensitive step key text count held sized counts
-        (λ e. absurd (let no : true ≡ false = sym e ∙ closed in cc))
-        (λ bytes bare same follows short place. f bytes
-        (ap (λ (k : ℕ). take k bytes) (sym key_size) ∙ same ∙ key_front) short place)
+  by_key : ((bytes : List ℕ) → take (found.span + 1) bytes ≡ take (found.span + 1) front →
+      length bytes ≤ 258 → (place : ℕ) → IsStep lexicon sensitive (bare_items place bytes) count text)
+      → IsFrontStep lexicon sensitive (step_of key text count false)
+  by_key f = record {
+    bare = λ e. absurd (cc);
+    gives = λ bytes bare same follows short place. f bytes
+        (ap (λ (k : ℕ). take k bytes) (sym key_size) ∙ same ∙ key_front) short place;
+  }
 
-    pub closed_plain : white_letter (get_or piece 0 0) ≡ false → IsFrontStep lexicon sensitive step
-    closed_plain w = by_key (λ bytes same short place.
-        other_step lexicon sensitive whole front found.span spans
-        (omega (arith, inside, front_size)) (omega (arith, front_size, few)) count text gives bytes
-        same short place (first_plain front (omega (arith, inside, front_size))
-        (ap white_letter (first_byte (omega (arith, inside))) ∙ w)))
+  pub closed_plain : white_letter (get_or piece 0 0) ≡ false →
+      IsFrontStep lexicon sensitive (step_of key text count false)
+  closed_plain w = by_key (λ bytes same short place.
+      other_step lexicon sensitive whole front found.span spans
+      (omega (arith, inside, front_size)) (omega (arith, front_size, few)) count text gives bytes
+      same short place (first_plain front (omega (arith, inside, front_size))
+      (ap white_letter (first_byte (omega (arith, inside))) ∙ w)))
 
-    pub closed_copies : found.licence ≡ 0 → found.unknown ≡ 0 → IsFrontStep lexicon sensitive step
-    closed_copies l u =
-        let none : licence lexicon (byte_reads front) ≡ 0 = sym is.licence_is ∙ l in
-        let no_run : unknown_length lexicon (byte_reads front) ≡ 0 = sym is.unknown_is ∙ u in
-        let copies : first_step lexicon sensitive (byte_reads front) ≡ copied (byte_reads front) =
-        within lexicon sensitive (byte_reads front) (all_in_limit lexicon (byte_reads front)
-        (let k = read_bytes front in omega (arith, k, front_size, few)))
-        ∙ step_copied lexicon sensitive (byte_reads front) none
-        (sym (unknown_run lexicon (byte_reads front) none) ∙ no_run) in
-        by_key (λ bytes same short place.
-        copying_step lexicon sensitive whole front found.span spans
-        (omega (arith, inside, front_size)) (omega (arith, front_size, few)) count text gives bytes
-        same short place none no_run copies)
+  pub closed_copies : found.licence ≡ 0 → found.unknown ≡ 0 →
+      IsFrontStep lexicon sensitive (step_of key text count false)
+  closed_copies l u =
+      let none : licence lexicon (byte_reads front) ≡ 0 = sym is.licence_is ∙ l in
+      let no_run : unknown_length lexicon (byte_reads front) ≡ 0 = sym is.unknown_is ∙ u in
+      let copies : first_step lexicon sensitive (byte_reads front) ≡ copied (byte_reads front) =
+      within lexicon sensitive (byte_reads front) (all_in_limit lexicon (byte_reads front)
+      (let k = read_bytes front in omega (arith, k, front_size, few)))
+      ∙ step_copied lexicon sensitive (byte_reads front) none
+      (sym (unknown_run lexicon (byte_reads front) none) ∙ no_run) in
+      by_key (λ bytes same short place.
+      copying_step lexicon sensitive whole front found.span spans
+      (omega (arith, inside, front_size)) (omega (arith, front_size, few)) count text gives bytes
+      same short place none no_run copies)
 
 -- Endings.
 
@@ -388,14 +355,11 @@ module _ (lexicon : Lexicon) (sensitive : Bool) (whole : IsCoherent lexicon) (pi
     (n : ℕ) (fits : n ≤ length piece) (few : n ≤ 256) (found : Found)
     (is : IsFound lexicon (byte_reads (take n piece)) false found) (count : ℕ) (text : List ℕ)
     (gives : first_step lexicon sensitive (byte_reads (take n piece)) ≡ Gives count text)
-    (step : FrontStep) (counts : step.count ≡ count)
-    (held : step.data.items ≡ take found.span piece ++ text)
-    (sized : step.size ≡ length (take found.span piece)) (free : step.any_ending ≡ true)
     (asked : found.any_ending ≡ true) (some : 0 < found.span)
     (bare_key : bare_run (take found.span piece) ≡ true)
     (w : white_letter (get_or piece 0 0) ≡ false) where
   within_n : found.span < n
-  within_n = inside lexicon sensitive whole piece n fits few found is count text gives step counts
+  within_n = inside lexicon sensitive whole piece n fits few found is count text gives
 
   size_n : length (take n piece) ≡ n
   size_n = let t = length-take n piece in omega (arith, t, fits)
@@ -438,7 +402,7 @@ module _ (lexicon : Lexicon) (sensitive : Bool) (whole : IsCoherent lexicon) (pi
       (is.ending_is asked) e ending ∙ gives) bytes alike_e short place
       (plain_head found.span (take n piece) e some (omega (arith, more))
       (ap white_letter (first_byte lexicon sensitive whole piece n fits few found is count text gives
-      step counts (omega (arith, within_n))) ∙ w))
+      (omega (arith, within_n))) ∙ w))
 
   by_ending : (bytes after : List ℕ) → drop found.span bytes ≡ after →
       follows_key true after ≡ true → take found.span bytes ≡ take found.span piece →
@@ -448,13 +412,13 @@ module _ (lexicon : Lexicon) (sensitive : Bool) (whole : IsCoherent lexicon) (pi
   by_ending bytes (e ∷ rest) h ending same short place =
       with_ending bytes e rest h ending same short place
 
-  pub open_step : IsFrontStep lexicon sensitive step
-  open_step = made_step lexicon sensitive step (take found.span piece) text count held sized counts
-      (λ e. bare_key)
-      (λ bytes bare same follows short place. by_ending bytes (drop found.span bytes) refl
-      (ap (λ (t : Bool). follows_key t (drop found.span bytes)) (sym free)
-      ∙ ap (λ (k : ℕ). follows_key step.any_ending (drop k bytes)) (sym size_key) ∙ follows)
-      (ap (λ (k : ℕ). take k bytes) (sym size_key) ∙ same) short place)
+  pub open_step : IsFrontStep lexicon sensitive (step_of (take found.span piece) text count true)
+  open_step = record {
+    bare = λ e. bare_key;
+    gives = λ bytes bare same follows short place. by_ending bytes (drop found.span bytes) refl
+        (ap (λ (k : ℕ). follows_key true (drop k bytes)) (sym size_key) ∙ follows)
+        (ap (λ (k : ℕ). take k bytes) (sym size_key) ∙ same) short place;
+  }
 
 -- one byte more is read
 pub read_more : (piece : List ℕ) (reads : List Read) (byte : ℕ) → AreRead piece reads →

@@ -1,5 +1,5 @@
 -- Runs that hold a test, and items that are alphabetic characters.
-use Rattle.std.specs.Prelude.{◌≡◌, ℕ, suc, zero, ◌<◌, ◌≤◌, Bool, true, false, List, [], ◌∷◌, length, take, IsTrue, ◌↔◌, ◌==◌, ◌||◌, Some}
+use Rattle.std.specs.Prelude.{◌≡◌, ℕ, suc, zero, ◌<◌, ◌≤◌, Bool, true, false, List, [], ◌∷◌, length, take, IsTrue, ◌↔◌, ◌==◌, Some}
 use Rattle.std.specs.List.{list_all, list_any, prefix_len}
 use Rattle.std.proofs.Common.{refl, ap, sym, ◌∙◌, arith, get_or, inl, inr}
 use Rattle.std.proofs.lemmas.Bool.{and_parts}

@@ -3,7 +3,7 @@ ghost use Rattle.ap_stream.specs.declared.TheConstants.{FRONT_MAX};
 ghost use Rattle.ap_live.specs.Lexicon.{Lexicon};
 ghost use Rattle.ap_analysis.specs.Endings.{is_ending as ending_test};
 ghost use Rattle.ap_analysis.specs.Fronts.{IsFront};
-ghost use Rattle.ap_analysis.specs.FrontSteps.{IsFrontStep, AreFrontSteps, FitsStep, EndsBare, IsSpaceStep};
+ghost use Rattle.ap_analysis.specs.FrontSteps.{IsFrontStep, IsHeld, AreFrontSteps, FitsStep, EndsBare, IsSpaceStep, step_of};
 
 use crate::places::{Places, SEED, mix};
 use crate::worth::Worth;
@@ -26,22 +26,32 @@ const PLACES: usize = 262144;
 /// The hash of an open key has this mark at its end.
 const OPEN: u32 = 256;
 
-/// A step that was taken, by the bytes at the front, each of which was an item: `data` has so many
-/// bytes of a key, and then what the step wrote; it used so many bytes. Where the key is open, a
-/// byte comes behind it that may end a word, and it doesn't matter which.
-#[derive(Drop)]
-pub(crate) struct FrontStep {
-    pub(crate) data: Vec<u8>,
+/// A step by the bytes at the front of a piece: so many of them are its key, and it uses so many.
+/// Where the key is open, a byte comes behind it that may end a word, and it doesn't matter which.
+#[derive(Clone, Copy)]
+pub(crate) struct FrontKey {
     pub(crate) size: usize,
     pub(crate) count: usize,
     pub(crate) any_ending: bool,
 }
 
-/// The steps that are kept by bytes. Where few steps are recalled, only some are kept.
+/// Where a kept step stands: the first of its bytes, how many of them are its key, and how many
+/// behind those are what it wrote. It used so many bytes, and its key may be open.
+#[derive(Clone, Copy)]
+pub(crate) struct Mark {
+    first: u32,
+    size: u16,
+    wrote: u16,
+    count: u16,
+    any_ending: bool,
+}
+
+/// The steps that are kept by bytes, each of which was an item: their keys and texts in one list,
+/// and a mark for each step. Where few steps are recalled, only some are kept.
 #[derive(Drop)]
 pub(crate) struct FrontSteps {
-    pub(crate) steps: Vec<FrontStep>,
-    bytes: usize,
+    pub(crate) marks: Vec<Mark>,
+    pub(crate) bytes: Vec<u8>,
     places: Places,
     worth: Worth,
     pub(crate) spaces: bool,
@@ -61,28 +71,26 @@ fn are_same(a: &[u8], b: &[u8]) -> bool
     a == b
 }
 
-impl FrontStep {
-    /// How many bytes of the piece decide this step, if they do: the key, what comes behind an open
-    /// one, and one more where white space is the last, since a blank is over only at the byte
-    /// behind it.
-    fn seen(&self, piece: &[u8]) -> Option<usize>
-        ensures { IfSome result (FitsStep self.now piece.now) }
-    {
-        let size = self.size;
-        if size == 0 || size > KEY_MAX || self.data.len() < size || piece.len() <= size {
-            return None;
-        }
-        if !are_same(&piece[..size], &self.data[..size]) {
-            return None;
-        }
-        if self.any_ending {
-            if !is_ending(piece[size]) {
-                return None;
-            }
-            return behind(piece, size, size);
-        }
-        behind(piece, 0, size - 1)
+/// How many bytes of the piece decide the step under this key, if they do: the key, what comes
+/// behind an open one, and one more where white space is the last, since a blank is over only at
+/// the byte behind it.
+fn seen_by(key: &[u8], any_ending: bool, piece: &[u8]) -> Option<usize>
+    ensures { IfSome result (FitsStep key.now any_ending piece.now) }
+{
+    let size = key.len();
+    if size == 0 || size > KEY_MAX || piece.len() <= size {
+        return None;
     }
+    if !are_same(&piece[..size], key) {
+        return None;
+    }
+    if any_ending {
+        if !is_ending(piece[size]) {
+            return None;
+        }
+        return behind(piece, size, size);
+    }
+    behind(piece, 0, size - 1)
 }
 
 /// The number of bytes up to this one, and one more where it is white space, if each byte from the
@@ -104,30 +112,30 @@ fn behind(piece: &[u8], first: usize, last: usize) -> Option<usize>
     Some(seen)
 }
 
-/// The step, if it is that of the bytes. Its text is appended.
+/// The step with this key and this text, if it is that of the bytes. Its text is appended.
 pub(crate) fn front_of(
-    step: &FrontStep,
+    key: &[u8],
+    text: &[u8],
+    count: usize,
+    any_ending: bool,
     piece: &[u8],
     into: &mut Bytes,
 ) -> Result<Option<Front>, Memory>
     ensures gave { IfOk result (λ found. IfSome found (λ front. (lexicon : Lexicon)
-        (sensitive : Bool) → IsFrontStep lexicon sensitive step.now →
+        (sensitive : Bool) →
+        IsFrontStep lexicon sensitive (step_of key.now text.now count any_ending) →
         IsFront lexicon sensitive piece.now front.used front.seen into.old into.new)) }
     ensures short { OnOk result (length into.new < length into.old + FRONT_MAX) }
     ensures none { result ≡ Ok None → into.new ≡ into.old }
 {
-    let Some(seen) = step.seen(piece) else {
+    let Some(seen) = seen_by(key, any_ending, piece) else {
         return Ok(None);
     };
-    let text = &step.data[step.size..];
-    if text.len() >= FRONT_MAX || step.count == 0 || step.count > seen {
+    if text.len() >= FRONT_MAX || count == 0 || count > seen {
         return Ok(None);
     }
     into.extend(text)?;
-    Ok(Some(Front {
-        used: step.count,
-        seen,
-    }))
+    Ok(Some(Front { used: count, seen }))
 }
 
 /// Writes the places of a key: those of its fronts behind the first byte that is no letter, and its
@@ -148,17 +156,18 @@ fn point(places: &mut Places, key: &[u8], any_ending: bool, number: u32) {
 }
 
 /// Whether the step copies a space, whatever comes behind it.
-fn is_space(step: &FrontStep) -> bool
-    ensures { result ≡ true → IsSpaceStep step.now }
+fn is_space(key: &[u8], text: &[u8], count: usize, any_ending: bool) -> bool
+    ensures { result ≡ true → IsSpaceStep (step_of key.now text.now count any_ending) }
 {
-    step.size == 1 && step.count == 1 && !step.any_ending && are_same(step.data.as_slice(), b"  ")
+    count == 1 && !any_ending && are_same(key, b" ") && are_same(text, b" ")
 }
 
 /// Whether it is known that a space is copied, where it was before, or the step tells it.
-fn knows_space(before: bool, step: &FrontStep) -> bool
-    ensures { result ≡ true → (before ≡ true) ⊎ IsSpaceStep step.now }
+fn knows_space(before: bool, key: &[u8], text: &[u8], count: usize, any_ending: bool) -> bool
+    ensures { result ≡ true →
+        (before ≡ true) ⊎ IsSpaceStep (step_of key.now text.now count any_ending) }
 {
-    before || is_space(step)
+    before || is_space(key, text, count, any_ending)
 }
 
 impl FrontSteps {
@@ -166,8 +175,8 @@ impl FrontSteps {
         ensures { (lexicon : Lexicon) (sensitive : Bool) → AreFrontSteps lexicon sensitive result }
     {
         FrontSteps {
-            steps: Vec::new(alloc),
-            bytes: 0,
+            marks: Vec::new(alloc),
+            bytes: Vec::new(alloc),
             places: Places::new(alloc),
             worth: Worth::new(),
             spaces: false,
@@ -199,9 +208,29 @@ impl FrontSteps {
         None
     }
 
+    /// The step with this mark, if it is that of the bytes. Its text is appended.
+    fn front_at(&self, mark: Mark, piece: &[u8], into: &mut Bytes) -> Result<Option<Front>, Memory>
+        ensures gave { IfOk result (λ found. IfSome found (λ front. (lexicon : Lexicon)
+            (sensitive : Bool) → IsHeld lexicon sensitive self.now.bytes.items mark →
+            IsFront lexicon sensitive piece.now front.used front.seen into.old into.new)) }
+        ensures short { OnOk result (length into.new < length into.old + FRONT_MAX) }
+        ensures none { result ≡ Ok None → into.new ≡ into.old }
+    {
+        let first = mark.first as usize;
+        let middle = first + mark.size as usize;
+        let end = middle + mark.wrote as usize;
+        if end > self.bytes.len() {
+            return Ok(None);
+        }
+        let key = &self.bytes[first..middle];
+        let text = &self.bytes[middle..end];
+        front_of(key, text, mark.count as usize, mark.any_ending, piece, into)
+    }
+
     /// The step at the front of the bytes, if it is kept. Its text is appended.
     pub(crate) fn recall(&mut self, piece: &[u8], into: &mut Bytes) -> Result<Option<Front>, Memory>
-        ensures steps { self.new.steps ≡ self.old.steps }
+        ensures marks { self.new.marks ≡ self.old.marks }
+        ensures bytes { self.new.bytes ≡ self.old.bytes }
         ensures spaces { self.new.spaces ≡ self.old.spaces }
         ensures gave { IfOk result (λ found. IfSome found (λ front. (lexicon : Lexicon)
             (sensitive : Bool) → AreFrontSteps lexicon sensitive self.old →
@@ -212,10 +241,10 @@ impl FrontSteps {
         let Some(at) = self.hinted(piece) else {
             return Ok(None);
         };
-        if at >= self.steps.len() {
+        if at >= self.marks.len() {
             return Ok(None);
         }
-        let found = front_of(&self.steps[at], piece, into)?;
+        let found = self.front_at(self.marks[at], piece, into)?;
         if let Some(front) = found {
             self.worth.count(front.used);
         }
@@ -236,52 +265,62 @@ impl FrontSteps {
         self.worth.is_dense()
     }
 
-    /// Forgets all, where there is no room for one more.
-    fn make_room(&mut self) -> Result<(), Memory>
+    /// Forgets all, where there is no room for a step of so many bytes.
+    fn make_room(&mut self, size: usize) -> Result<(), Memory>
+        requires { size ≤ 65535 }
         ensures { (lexicon : Lexicon) (sensitive : Bool) →
             AreFrontSteps lexicon sensitive self.old → AreFrontSteps lexicon sensitive self.new }
     {
-        if self.steps.len() >= STEPS_MAX || self.bytes >= BYTES_MAX {
-            self.steps.clear();
-            self.bytes = 0;
+        if self.marks.len() >= STEPS_MAX || self.bytes.len() + size > BYTES_MAX {
+            self.marks.clear();
+            self.bytes.clear();
             self.places.free(PLACES)?;
         }
         if self.places.count() < PLACES {
             self.places.free(PLACES)?;
-            self.steps.reserve_exact(STEPS_MAX)?;
+            self.marks.reserve_exact(STEPS_MAX)?;
         }
         Ok(())
     }
 
-    fn add(&mut self, step: FrontStep) -> Result<(), Memory>
-        ensures { (lexicon : Lexicon) (sensitive : Bool) → IsFrontStep lexicon sensitive step →
+    /// Keeps a step, where there is room, unless no such step is recalled.
+    fn add(&mut self, key: &[u8], text: &[u8], count: usize, any_ending: bool) -> Result<(), Memory>
+        ensures { (lexicon : Lexicon) (sensitive : Bool) →
+            IsFrontStep lexicon sensitive (step_of key.now text.now count any_ending) →
             AreFrontSteps lexicon sensitive self.old → AreFrontSteps lexicon sensitive self.new }
     {
-        self.make_room()?;
-        let held = self.steps.len();
-        if held >= STEPS_MAX || step.data.len() < step.size {
+        if key.len() > KEY_MAX || text.len() >= FRONT_MAX || count > KEY_MAX {
             return Ok(());
         }
-        self.bytes = self.bytes.saturating_add(step.data.len());
-        let spaces = knows_space(self.spaces, &step);
-        point(
-            &mut self.places,
-            &step.data[..step.size],
-            step.any_ending,
-            held as u32,
-        );
-        self.steps.push(step)?;
+        self.make_room(key.len() + text.len())?;
+        let held = self.marks.len();
+        let first = self.bytes.len();
+        if held >= STEPS_MAX || first > BYTES_MAX {
+            return Ok(());
+        }
+        let spaces = knows_space(self.spaces, key, text, count, any_ending);
+        self.bytes.extend_from_slice(key)?;
+        self.bytes.extend_from_slice(text)?;
+        self.marks.push(Mark {
+            first: first as u32,
+            size: key.len() as u16,
+            wrote: text.len() as u16,
+            count: count as u16,
+            any_ending,
+        })?;
+        point(&mut self.places, key, any_ending, held as u32);
         self.spaces = spaces;
         Ok(())
     }
 
     /// Keeps a step, if it is worth it and there is memory.
-    pub(crate) fn keep(&mut self, step: FrontStep)
-        ensures { (lexicon : Lexicon) (sensitive : Bool) → IsFrontStep lexicon sensitive step →
+    pub(crate) fn keep(&mut self, key: &[u8], text: &[u8], count: usize, any_ending: bool)
+        ensures { (lexicon : Lexicon) (sensitive : Bool) →
+            IsFrontStep lexicon sensitive (step_of key.now text.now count any_ending) →
             AreFrontSteps lexicon sensitive self.old → AreFrontSteps lexicon sensitive self.new }
     {
         if self.worth.is_worth() {
-            let _ = self.add(step);
+            let _ = self.add(key, text, count, any_ending);
         }
     }
 }

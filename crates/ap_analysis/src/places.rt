@@ -70,9 +70,7 @@ impl Places {
     pub(crate) fn free(&mut self, count: usize) -> Result<(), Memory> {
         self.list.clear();
         self.list.reserve_exact(count)?;
-        for _ in 0..count {
-            self.list.push(Place { told: FREE })?;
-        }
+        self.list.resize(count, Place { told: FREE })?;
         Ok(())
     }
 

@@ -4,10 +4,10 @@ ghost use Rattle.ap_stream.specs.declared.item.Read.{Read};
 ghost use Rattle.ap_live.specs.Lexicon.{Lexicon, IsCoherent, lexicon_of};
 ghost use Rattle.ap_analysis.specs.Analysis.{first_step};
 ghost use Rattle.ap_analysis.specs.Fronts.{byte_reads, AreRead};
-ghost use Rattle.ap_analysis.specs.FrontSteps.{IsFrontStep};
+ghost use Rattle.ap_analysis.specs.FrontSteps.{IsFrontStep, step_by};
 ghost use Rattle.ap_analysis.specs.Searching.{IsSearch, IsFound};
 
-use crate::front_steps::{FrontStep, KEY_MAX};
+use crate::front_steps::{FrontKey, KEY_MAX};
 use crate::items::read_of_byte;
 use crate::search::{Found, Search};
 use crate::writing::{Written, step_within, take_room};
@@ -88,30 +88,6 @@ fn found_in(
     Ok(None)
 }
 
-/// The step of these bytes: the key, whether any ending may come behind it, and what was written.
-fn step_of(
-    alloc: Global,
-    key: &[u8],
-    any_ending: bool,
-    count: usize,
-    text: &[u8],
-) -> Result<FrontStep, Memory>
-    ensures bytes { IfOk result (λ step. step.data.items ≡ key.now ++ text.now) }
-    ensures size { IfOk result (λ step. step.size ≡ length key.now) }
-    ensures count { IfOk result (λ step. step.count ≡ count) }
-    ensures ending { IfOk result (λ step. step.any_ending ≡ any_ending) }
-{
-    let mut data = Vec::with_capacity(alloc, key.len())?;
-    data.extend_from_slice(key)?;
-    data.extend_from_slice(text)?;
-    Ok(FrontStep {
-        data,
-        size: key.len(),
-        count,
-        any_ending,
-    })
-}
-
 /// Whether the first item is copied.
 fn is_copying(found: Found) -> bool
     ensures { result ≡ true → (found.licence ≡ 0) × (found.unknown ≡ 0) }
@@ -119,37 +95,42 @@ fn is_copying(found: Found) -> bool
     found.licence == 0 && found.unknown == 0
 }
 
-/// The step under its key, where the first item is no white space, or is copied: the bytes that were
+/// The key of the step, where the first item is no white space, or is copied: the bytes that were
 /// seen together, and the one behind them unless it may be any ending.
-fn keyed(
-    alloc: Global,
-    piece: &[u8],
-    found: Found,
-    count: usize,
-    text: &[u8],
-) -> Result<Option<FrontStep>, Memory>
+fn keyed(piece: &[u8], found: Found, count: usize) -> Option<FrontKey>
     requires { found.span < length piece.now }
-    ensures { IfOk result (λ made. IfSome made (λ step. (lexicon : Lexicon) (sensitive : Bool)
-        (n : ℕ) → IsCoherent lexicon → n ≤ length piece.now → n ≤ 256 →
+    ensures size { IfSome result (λ key. key.size ≤ length piece.now) }
+    ensures step { IfSome result (λ key. (lexicon : Lexicon) (sensitive : Bool)
+        (n : ℕ) (text : List ℕ) → IsCoherent lexicon → n ≤ length piece.now → n ≤ 256 →
         IsFound lexicon (byte_reads (take n piece.now)) false found →
-        first_step lexicon sensitive (byte_reads (take n piece.now)) ≡ Gives count text.now →
-        IsFrontStep lexicon sensitive step)) }
+        first_step lexicon sensitive (byte_reads (take n piece.now)) ≡ Gives count text →
+        IsFrontStep lexicon sensitive (step_by piece.now key text)) }
 {
     let span = found.span;
+    let closed = FrontKey {
+        size: span + 1,
+        count,
+        any_ending: false,
+    };
     if is_white(piece[0] as char) {
         if !is_copying(found) {
-            return Ok(None);
+            return None;
         }
-        return Ok(Some(step_of(alloc, &piece[..span + 1], false, count, text)?));
+        return Some(closed);
     }
     if found.any_ending && span > 0 && is_bare(&piece[..span]) {
-        return Ok(Some(step_of(alloc, &piece[..span], true, count, text)?));
+        return Some(FrontKey {
+            size: span,
+            count,
+            any_ending: true,
+        });
     }
-    Ok(Some(step_of(alloc, &piece[..span + 1], false, count, text)?))
+    Some(closed)
 }
 
 /// The step at the front of the bytes by a search, where each byte that decides it is an item, and
-/// nothing else of the text does. The items, the word and the text are room.
+/// nothing else of the text does. What it writes takes the place of the text. The items and the word
+/// are room.
 pub(crate) fn sought(
     alloc: Global,
     compiled: &Compiled,
@@ -160,11 +141,13 @@ pub(crate) fn sought(
     text: &mut Bytes,
     piece: &[u8],
     asks: bool,
-) -> Result<Option<FrontStep>, Memory>
+) -> Result<Option<FrontKey>, Memory>
     requires search { IsSearch compiled.now sensitive [] search.old }
     ensures search { IsSearch compiled.now sensitive reads.new.items search.new }
-    ensures step { IfOk result (λ made. IfSome made
-        (IsFrontStep (lexicon_of compiled.now sensitive) sensitive)) }
+    ensures size { IfOk result (λ made. IfSome made (λ key. key.size ≤ length piece.now)) }
+    ensures step { IfOk result (λ made. IfSome made (λ key.
+        IsFrontStep (lexicon_of compiled.now sensitive) sensitive
+        (step_by piece.now key text.new))) }
 {
     let _ = compiled.alphabet();
     reads.clear();
@@ -180,9 +163,8 @@ pub(crate) fn sought(
             count,
             text: written,
         } => {
-            let step = keyed(alloc, piece, found, count, written.as_slice());
             *text = written;
-            step
+            Ok(keyed(piece, found, count))
         }
     }
 }

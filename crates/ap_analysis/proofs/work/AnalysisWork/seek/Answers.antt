@@ -1,9 +1,9 @@
-use Rattle.std.proofs.Common.{ap, subst, ◌∙◌, List, [], length, Option}
+use Rattle.std.proofs.Common.{ap, subst, ◌∙◌, [], length, Option}
 use Rattle.std.specs.Prelude.{IfSome}
 use Rattle.ap_live.specs.Lexicon.{lexicon_of}
-use Rattle.ap_analysis.specs.FrontSteps.{IsFrontStep}
+use Rattle.ap_analysis.specs.FrontSteps.{IsFrontStep, step_by}
 use Rattle.ap_analysis.specs.Held.{Held}
-use Rattle.ap_analysis.specs.declared.front_steps.FrontStep.{FrontStep}
+use Rattle.ap_analysis.specs.declared.front_steps.FrontKey.{FrontKey}
 use Rattle.ap_analysis.proofs.ByteFronts.{seen_gave}
 use Rattle.ap_analysis.proofs.Running.{some_weaker}
 use Rattle.ap_analysis.proofs.work.AnalysisWork.seek.Goals as goal
@@ -49,9 +49,10 @@ invariant_of-self-in-Some c = (
   c.self.invariant.2,
   c.keep.ensures (lexicon_of c.self.inside.compiled c.self.inside.sensitive)
       c.self.inside.sensitive
-      (subst (λ (o : Option FrontStep). IfSome o
-      (IsFrontStep (lexicon_of c.self.inside.compiled c.self.inside.sensitive)
-      c.self.inside.sensitive)) c.in-Some.is c.in_ok-made.ensures.step) c.self.invariant.3,
+      (rw c.as_slice-text.ensures (subst (λ (o : Option FrontKey). IfSome o (λ key.
+      IsFrontStep (lexicon_of c.self.inside.compiled c.self.inside.sensitive)
+      c.self.inside.sensitive (step_by c.args.piece.now key c.sought-made.new.text)))
+      c.in-Some.is c.in_ok-made.ensures.step)) c.self.invariant.3,
 )
 
 pub returns-in_ok-found-in-Some-clause-gave : goal.returns-in_ok-found-in-Some-clause-gave
@@ -63,7 +64,8 @@ returns-in_ok-found-in-Some-clause-gave c =
     (ap (λ (h : Held). length h.items) c.self.view_is ∙ c.requires.none)
     c.know.ensures.coherent (is (lexicon_of c.self.inside.compiled c.self.inside.sensitive)
     c.self.inside.sensitive
-    (subst (λ (o : Option FrontStep). IfSome o
-    (IsFrontStep (lexicon_of c.self.inside.compiled c.self.inside.sensitive)
-    c.self.inside.sensitive)) c.in-Some.is c.in_ok-made.ensures.step)))
+    (rw c.as_slice-text.ensures (subst (λ (o : Option FrontKey). IfSome o (λ key.
+    IsFrontStep (lexicon_of c.self.inside.compiled c.self.inside.sensitive)
+    c.self.inside.sensitive (step_by c.args.piece.now key c.sought-made.new.text)))
+    c.in-Some.is c.in_ok-made.ensures.step))))
     c.in_ok-found-in-Some.ensures.gave
