@@ -370,6 +370,21 @@ states_as known known' number states states' k e h =
     subst (λ (z : List Row). HasStates z number states') k
     (subst (λ (z : List ℕ). HasStates known' number z) e h)
 
+-- a row behind the last one, by the edges that are picked from its states
+pub row_added : (edges : List Edge) (finals : List ℕ) (seen : List Input) (input : Input)
+    (rows rows' known : List Row) (links : List Link) (path : List ℕ) (row : Row) →
+    ((last : Row) → slice_get rows (length rows - 1) ≡ Some last →
+    IsNext edges (Some input) last.states.items row)
+    → rows' ≡ rows ++ row ∷ [] → Tells finals row → AreRows edges seen rows →
+    IsKnown edges finals rows known links path
+    → AreRows edges (seen ++ input ∷ []) rows' × IsKnown edges finals rows' known links path
+row_added edges finals seen input rows rows' known links path row next grown tells live is =
+    let (last, at) = last_there rows (length seen) live.count in (
+      step_law edges seen input rows rows rows rows' last row last.states.items live refl refl
+          (sym at) refl (next last at) grown,
+      known_grown edges finals rows rows' known links path row grown tells is,
+    )
+
 -- a row without a state behind another one
 pub void_added : (edges : List Edge) (finals : List ℕ) (seen : List Input) (input : Input)
     (rows rows' known : List Row) (links : List Link) (path : List ℕ) (row : Row) →
@@ -377,10 +392,8 @@ pub void_added : (edges : List Edge) (finals : List ℕ) (seen : List Input) (in
     → rows' ≡ rows ++ row ∷ [] → IsVoid row → row.ends ≡ false → AreRows edges seen rows →
     IsKnown edges finals rows known links path
     → AreRows edges (seen ++ input ∷ []) rows' × IsKnown edges finals rows' known links path
-void_added edges finals seen input rows rows' known links path row none grown void ends live is =
-    let (last, at) = last_there rows (length seen) live.count in (
-      step_law edges seen input rows rows rows rows' last row [] live refl refl (sym at)
-          (sym (none last at)) (void_next edges (Some input) row void) grown,
-      known_grown edges finals rows rows' known links path row grown
-          (void_tells finals row void ends) is,
-    )
+void_added edges finals seen input rows rows' known links path row none grown void ends =
+    row_added edges finals seen input rows rows' known links path row
+    (λ last at. subst (λ (z : List ℕ). IsNext edges (Some input) z row) (sym (none last at))
+    (void_next edges (Some input) row void))
+    grown (void_tells finals row void ends)

@@ -1,6 +1,7 @@
 pub mod Spreading
 pub mod Others
 pub mod Outlining
+pub mod Leading
 pub mod Arriving
 pub mod RowLaws
 pub mod StackLaws

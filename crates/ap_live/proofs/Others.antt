@@ -1,7 +1,10 @@
 -- The symbols that fit an input.
-use Rattle.std.proofs.Common.{◌≡◌, ◌⊎◌, inl, inr, ℕ, Bool, true, false, List, refl, sym, ◌∙◌, ap, subst, Option, Some, None}
+use Rattle.std.proofs.Common.{◌≡◌, ◌⊎◌, inl, inr, ℕ, Bool, true, false, List, refl, sym, ◌∙◌, ap, subst, Option, Some, None, arith}
+use Rattle.std.specs.Char.{is_ascii_lowercase}
 use Rattle.std.proofs.lemmas.Option.{none-some, same_Some}
 use Rattle.ap_symbol.specs.Case.{lower_lem}
+use Rattle.ap_symbol.proofs.CaseLaws.{lower_stays}
+use Rattle.std.proofs.lemmas.Bool.Decides.{nat_tests}
 use Rattle.ap_symbol.specs.declared.symbol.Symbol.{Symbol}
 use Rattle.ap_symbol.specs.declared.symbol.Symbol.TheVariants.{Letter}
 use Rattle.ap_symbol.proofs.FittingSymbols.{fits_is}
@@ -61,9 +64,17 @@ other_same c small is e = record {
   ];
 }
 
+small_stays : (c : ℕ) → is_ascii_lowercase c ≡ true → lower_lem c ≡ c
+small_stays c h = lower_stays c (grind (arith, nat_tests))
+
+-- Beside a small letter of ASCII no other fits.
+pub other_small : (c : ℕ) (small : Bool) → small ≡ true → small ≡ is_ascii_lowercase c →
+    IsOther (input_of (Letter c) false) None
+other_small c small t is = other_same c (lower_lem c) refl (small_stays c (sym is ∙ t))
+
 -- the edges that are picked, by their left sides
 
-side_is : (input : Input) (other left : Option Symbol) → IsOther input other →
+pub side_is : (input : Input) (other left : Option Symbol) → IsOther input other →
     fits_side input left ≡ true → (left ≡ Some input.symbol)
     ⊎ ((x : Symbol) × (left ≡ Some x) × (other ≡ Some x))
 side_is input other None is h = cc
@@ -76,7 +87,7 @@ place_has edges pick from s j left p h e at =
     let same : p.edge ≡ e = same_Some p.edge e (sym p.at ∙ at) in
     subst (λ (z : Edge). z.label.left ≡ left) same h
 
-passes_as : (pick : Option Input) (input : Input) (e : Edge) → pick ≡ Some input →
+pub passes_as : (pick : Option Input) (input : Input) (e : Edge) → pick ≡ Some input →
     picks pick e ≡ true → fits_side input e.label.left ≡ true
 passes_as pick input e is h = ap (λ (z : Option Input). picks z e) (sym is) ∙ h
 

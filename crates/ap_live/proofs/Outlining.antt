@@ -176,7 +176,7 @@ place_here : (from : ℕ) (left : Option Symbol) (e : Edge) → e.from ≡ from 
 place_here from left e is = ap (λ (z : Ordering). ordering_index
     (ordering_then z (side_cmp e.label.left left))) (cmp_same e.from from is)
 
-some_at : {X : Type 0} (xs : List X) (j : ℕ) → j < length xs → (x : X) × (slice_get xs j ≡ Some x)
+pub some_at : {X : Type 0} (xs : List X) (j : ℕ) → j < length xs → (x : X) × (slice_get xs j ≡ Some x)
 some_at [] j h = absurd (omega arith)
 some_at (x ∷ xs) zero h = (x, refl)
 some_at (x ∷ xs) (suc j) h = some_at xs j (omega arith)

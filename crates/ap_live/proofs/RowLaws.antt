@@ -347,17 +347,21 @@ pub no_members : {X : Type 0} (xs : List X) → nat_eq (length xs) 0 ≡ true �
 no_members [] h = refl
 no_members (x ∷ xs) h = absurd (grind (arith, nat_tests))
 
+pub void_closed : (edges : List Edge) (row : Row) → IsVoid row →
+    Closed edges [] [] row.states.items row.silent.items
+void_closed edges row void =
+    let none : Closed edges [] [] [] [] =
+    record { spread = spread_nothing edges None [] []; sound = λ s i. elim i [ ] } in
+    subst (λ (z : List Arrival). Closed edges [] [] row.states.items z) (sym void.silent)
+    (subst (λ (z : List ℕ). Closed edges [] [] z []) (sym void.states) none)
+
 pub void_next : (edges : List Edge) (pick : Option Input) (row : Row) → IsVoid row →
     IsNext edges pick [] row
 void_next edges pick row void = record {
   base = [];
   taken = subst (λ (z : List Arrival). Spread edges pick [] [] [] [] z) (sym void.taken)
       (spread_nothing edges pick [] []);
-  closed =
-      let none : Closed edges [] [] [] [] =
-      record { spread = spread_nothing edges None [] []; sound = λ s i. elim i [ ] } in
-      subst (λ (z : List Arrival). Closed edges [] [] row.states.items z) (sym void.silent)
-      (subst (λ (z : List ℕ). Closed edges [] [] z []) (sym void.states) none);
+  closed = void_closed edges row void;
 }
 
 pub void_tells : (finals : List ℕ) (row : Row) → IsVoid row → row.ends ≡ false → Tells finals row

@@ -1,6 +1,7 @@
 pub mod Fitting
 pub mod Spreads
 pub mod Outlines
+pub mod Leads
 pub mod Rows
 pub mod Tails
 pub mod Outputs

@@ -51,6 +51,12 @@ pub record IsVoid (row : Row) : Type 0 where
   pub taken : row.taken.items ≡ []
   pub silent : row.silent.items ≡ []
 
+-- a row with one state, which one edge that took an input leads to
+pub record IsOne (a : Arrival) (row : Row) : Type 0 where
+  pub states : row.states.items ≡ a.to ∷ []
+  pub taken : row.taken.items ≡ a ∷ []
+  pub silent : row.silent.items ≡ []
+
 -- The row's edges stand in the order of the states that they lead to.
 pub record IsOrdered (row : Row) : Type 0 where
   pub taken : IsNonDecreasingBy arrival_to row.taken.items

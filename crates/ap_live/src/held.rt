@@ -1,15 +1,15 @@
-ghost use Rattle.std.specs.Prelude.{◌≡◌, ◌↔◌, ℕ, List, IfOk, IsTrue, Some, false, slice_get};
+ghost use Rattle.std.specs.Prelude.{◌≡◌, ◌↔◌, ℕ, List, IfOk, IsTrue, OnOk, Some, false, slice_get};
 ghost use Rattle.std.specs.List.Sorted.{IsNonDecreasingBy};
 ghost use Rattle.ap_fst.specs.declared.label.Edge.{Edge};
 ghost use Rattle.ap_fst.specs.Lists.{IsIn};
 ghost use Rattle.ap_fst.specs.Machines.{Machine};
 ghost use Rattle.ap_live.specs.Fitting.{Input};
-ghost use Rattle.ap_live.specs.Rows.{AreRows, IsOrdered, IsVoid, Reach, Tells};
+ghost use Rattle.ap_live.specs.Rows.{AreRows, IsOne, IsOrdered, IsVoid, Reach, Tells};
 ghost use Rattle.ap_live.specs.Spreads.{arrival_to};
 ghost use Rattle.ap_live.specs.declared.rows.Row.{Row};
 
 use crate::arrivals::Arrival;
-use crate::rows::{Row, clear_row, no_row};
+use crate::rows::{Row, become_one, clear_row, no_row};
 use ap_symbol::Memory;
 use std::alloc::Global;
 use std::marker::Model;
@@ -135,6 +135,15 @@ impl HeldRow {
     {
         clear_row(&mut self.own);
         self.shared = None;
+    }
+
+    /// Becomes a row with one state, which one edge with a left symbol leads to.
+    pub(crate) fn become_one(&mut self, arrival: Arrival, ends: bool) -> Result<(), Memory>
+        ensures one { OnOk result (IsOne arrival self.new) }
+        ensures ends { OnOk result (self.new.ends ≡ ends) }
+    {
+        self.shared = None;
+        become_one(&mut self.own, arrival, ends)
     }
 
     /// Shares the row from now on, if there is memory for that.

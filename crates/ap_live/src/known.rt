@@ -2,11 +2,13 @@ ghost use Rattle.std.specs.Prelude.{◌≡◌, ◌++◌, take, ◌∷◌, ◌-�
 ghost use Rattle.std.specs.Option.{option_copied};
 ghost use Rattle.ap_fst.specs.declared.label.Edge.{Edge};
 ghost use Rattle.ap_live.specs.Fitting.{Input};
+ghost use Rattle.ap_live.specs.Leads.{IsLeadOfAll};
 ghost use Rattle.ap_live.specs.Outlines.{IsOutline};
 ghost use Rattle.ap_live.specs.Rows.{IsNext, AreRows, IsKnown, Follows, IsLinked, HasStates};
 ghost use Rattle.ap_live.specs.declared.rows.Row.{Row};
 
 use crate::held::{HeldRow, SharedRow};
+use crate::lead::{Lead, lead_of};
 use crate::outline::Outline;
 use crate::picking::{Pick, is_symbol};
 use crate::stack::Rows;
@@ -527,8 +529,22 @@ fn add_next(
     }
 }
 
-/// Adds the row after one input more. Behind a row without a state comes another one, and else one
-/// that is known or computed. After a refusal nothing is changed.
+/// Where an input leads from the only state of the last row.
+fn lead_of_last(rows: &Rows, fst: &Fst, outline: &Outline, input: &Symbol, sensitive: bool) -> Lead
+    ensures { (last : Row) → IsOutline fst.now.edges outline.now →
+        slice_get rows.now (length rows.now - 1) ≡ Some last → IsLeadOfAll fst.now.edges
+        (record { symbol = input.now; sensitive = sensitive }) last.states.items result }
+{
+    let _ = fst.states();
+    match rows.only_state() {
+        None => Lead::Elsewhere,
+        Some(from) => lead_of(outline, from, input, sensitive),
+    }
+}
+
+/// Adds the row after one input more. Behind a row without a state comes another one. Where the
+/// last row has one state, and by one edge alone the input leads on from it to one, that is told at
+/// once; else the row is known or computed. After a refusal nothing is changed.
 pub(crate) fn add_row(
     rows: &mut Rows,
     known: &mut Known,
@@ -552,7 +568,11 @@ pub(crate) fn add_row(
     if rows.is_void() {
         return rows.push_void();
     }
-    add_next(rows, known, fst, outline, input, sensitive)
+    match lead_of_last(rows, fst, outline, input, sensitive) {
+        Lead::Nowhere => rows.push_void(),
+        Lead::To(arrival) => rows.push_one(arrival, fst.is_final(arrival.to)),
+        Lead::Elsewhere => add_next(rows, known, fst, outline, input, sensitive),
+    }
 }
 
 /// Forgets the known rows.

@@ -9,6 +9,7 @@ mod held;
 mod items;
 mod known;
 mod laws;
+mod lead;
 mod lexicon_laws;
 mod live;
 mod live_sections;

@@ -1,4 +1,4 @@
-ghost use Rattle.std.specs.Prelude.{◌≡◌, ◌<◌, ◌≤◌, ◌+◌, ℕ, IfOk, OnOk, IsTrue, List, Some, length, slice_get};
+ghost use Rattle.std.specs.Prelude.{false, ◌≡◌, ◌<◌, ◌≤◌, ◌+◌, ℕ, IfOk, OnOk, IsTrue, List, Some, length, slice_get};
 ghost use Rattle.std.specs.List.Sorted.{IsNonDecreasingBy};
 ghost use Rattle.ap_fst.specs.Machines.{edge_from, IsSpan};
 ghost use Rattle.ap_fst.specs.declared.label.Edge.{Edge};
@@ -36,14 +36,30 @@ pub(crate) fn letter_code(letter: char) -> u32
     letter as u32 + 1
 }
 
+/// The code of an input, as of a left side.
+pub(crate) fn code_of_input(input: &Symbol) -> u32
+    ensures { result ≡ left_code (Some input.now) }
+{
+    match input {
+        Symbol::Letter(letter) => letter_code(*letter),
+        _ => OTHER,
+    }
+}
+
+/// Whether the code is that of tags and marks.
+pub(crate) fn is_other_code(code: u32) -> bool
+    ensures { result ≡ false → code < 4_294_967_295 }
+{
+    code == OTHER
+}
+
 /// The code of a left side.
 fn code_of(side: &Option<Symbol>) -> u32
     ensures { result ≡ left_code side.now }
 {
     match side {
         None => 0,
-        Some(Symbol::Letter(letter)) => letter_code(*letter),
-        Some(_) => OTHER,
+        Some(symbol) => code_of_input(symbol),
     }
 }
 

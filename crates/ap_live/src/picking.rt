@@ -19,6 +19,9 @@ pub(crate) enum Pick<'a> {
 fn lower_other(c: char) -> Option<Symbol>
     ensures { IsOther (record { symbol = Letter c; sensitive = false }) result }
 {
+    if c.is_ascii_lowercase() {
+        return None;
+    }
     let small = lower(c);
     if small == c {
         return None;

@@ -1,13 +1,14 @@
 ghost use Rattle.std.specs.Prelude.{◌≡◌, ◌++◌, ◌∷◌, ◌-◌, ℕ, [], List, IfOk, OnOk, OnErr, IsTrue, Some, false, length, slice_get, take};
 ghost use Rattle.ap_live.specs.Fitting.{pick_of};
 ghost use Rattle.ap_live.specs.Outlines.{IsOutline};
-ghost use Rattle.ap_live.specs.Rows.{AreRows, IsNext, IsVoid, Tells};
+ghost use Rattle.ap_live.specs.Rows.{AreRows, IsNext, IsOne, IsVoid, Tells};
 ghost use Rattle.ap_live.specs.declared.rows.Row.{Row};
 
+use crate::arrivals::Arrival;
 use crate::held::{HeldRow, SharedRow};
 use crate::outline::Outline;
 use crate::picking::Pick;
-use crate::rows::{Row, fill_row, first_row, no_row};
+use crate::rows::{Row, become_one, fill_row, first_row, no_row};
 use ap_fst::Fst;
 use ap_symbol::Memory;
 use std::alloc::Global;
@@ -126,6 +127,37 @@ impl Rows {
         Ok(())
     }
 
+    /// The state of the last row, if it has one alone.
+    pub(crate) fn only_state(&self) -> Option<usize>
+        ensures { (state : ℕ) (last : Row) → result ≡ Some state →
+            slice_get self.now (length self.now - 1) ≡ Some last →
+            last.states.items ≡ state ∷ [] }
+    {
+        match self.held[..self.count].last() {
+            None => None,
+            Some(last) => only_of(last.states()),
+        }
+    }
+
+    /// Adds a row with one state, which one edge with a left symbol leads to. After a refusal
+    /// nothing is changed.
+    pub(crate) fn push_one(&mut self, arrival: Arrival, ends: bool) -> Result<(), Memory>
+        ensures ok { OnOk result ((row : Row) × ((self.new ≡ self.old ++ row ∷ [])
+            × IsOne arrival row × (row.ends ≡ ends))) }
+        ensures err { OnErr result (self.new ≡ self.old) }
+    {
+        if self.held.len() <= self.count {
+            let mut row = no_row(self.allocator());
+            become_one(&mut row, arrival, ends)?;
+            self.held.push(HeldRow::own(row))?;
+            self.count += 1;
+            return Ok(());
+        }
+        self.held[self.count].become_one(arrival, ends)?;
+        self.count += 1;
+        Ok(())
+    }
+
     /// Adds a row that is shared. After a refusal nothing is changed.
     pub(crate) fn push_shared(&mut self, row: SharedRow) -> Result<(), Memory>
         ensures ok { OnOk result (self.new ≡ self.old ++ row ∷ []) }
@@ -165,6 +197,16 @@ impl Rows {
             self.held.truncate(MOST_SPARE);
         }
     }
+}
+
+/// The item, if it is the only one.
+fn only_of(items: &[usize]) -> Option<usize>
+    ensures { (item : ℕ) → result ≡ Some item → items.now ≡ item ∷ [] }
+{
+    if items.len() != 1 {
+        return None;
+    }
+    Some(items[0])
 }
 
 /// The rows before any input.
