@@ -157,7 +157,9 @@ pub(crate) fn sought(
     let lives = &search.lives;
     let items = reads.as_slice();
     let room = take_room(alloc, text);
-    match step_within(alloc, compiled, sensitive, lives, items, found, seen, room)? {
+    match step_within(
+        alloc, compiled, sensitive, lives, items, found, piece, seen, room,
+    )? {
         Written::Stops { .. } => Ok(None),
         Written::Gives {
             count,

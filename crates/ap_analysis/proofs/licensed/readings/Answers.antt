@@ -20,10 +20,8 @@ licensed_are : (c : After-alphabet) → c.push_kind-3.new.into.items
 licensed_are c =
     let lexicon = lexicon_of c.args.compiled.now c.args.sensitive in
     let seen = surface c.args.reads.now c.args.count in
-    mapped_four (carry_lem c.case_carried-case.result) (carried c.args.sensitive seen)
-    (λ word. c.case_carried-case.ensures word
-    ∙ ap (λ (z : List Symbol). carried c.args.sensitive z word) (c.symbols.ensures.symbols
-    ∙ c.requires.seen))
+    mapped_four (carry_lem c.seen_case-case.result) (carried c.args.sensitive seen)
+    (c.seen_case-case.ensures c.requires.seen.0 c.args.reads.now c.args.count c.requires.seen.1)
     (standard_words lexicon c.args.reads.now c.args.count) (lexicon.readings Inconditional seen)
     (lexicon.readings Postblank seen) (lexicon.readings Preblank seen) _ _ _ _ _
     c.new-words.ensures.items
