@@ -236,6 +236,17 @@ arrive edges before later s last whole (goes {labels = labels} j e at from is wa
     (ap (λ (z : List Label). fits_inputs (left_word z) later) (sym is) ∙ fit)
     (λ b l r h. arrive edges b l e.to last labels walk r h)
 
+-- The inputs that fit a beginning lead to a state, and so do those that have an output.
+pub beginning_reaches : (m : Machine) (seen : List Input) → FitBeginning m seen →
+    (s : ℕ) × Reach m.edges seen s
+beginning_reaches m seen b =
+    reached_on m.edges [] seen 0 b.accepted.last b.labels b.accepted.walk (begin refl refl) b.fit
+
+pub output_reaches : (m : Machine) (seen : List Input) (output : List Symbol) →
+    (o : IsOutput m seen output) → Reach m.edges seen o.accepted.last
+output_reaches m seen output o =
+    arrive m.edges [] seen 0 o.accepted.last o.labels o.accepted.walk (begin refl refl) o.fit
+
 -- ---- the calls
 
 pub accepts_law : (m : Machine) (seen : List Input) (l : Lives) (rows : List Row) (answer : Bool) →
@@ -279,9 +290,7 @@ dead_law m seen l rows void none ok trimmed live r v not_void h =
     let k = h m.edges seen (subst (λ (z : List Row). AreRows m.edges seen z) (sym r)
     live.rows_are) in
     let some : m.finals ≡ [] → ⊥ = λ e. let t : l.is_void ≡ true = live.void_is.1 e in cc in (
-      (λ t b. let (s, reach) =
-          reached_on m.edges [] seen 0 b.accepted.last b.labels b.accepted.walk (begin refl refl)
-          b.fit in k.0 t s reach),
+      (λ t b. let (s, reach) = beginning_reaches m seen b in k.0 t s reach),
       (λ f. k.1 (λ s reach. f (beginning m seen s ok trimmed some reach))),
     )
 

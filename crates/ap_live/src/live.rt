@@ -1,4 +1,4 @@
-ghost use Rattle.std.specs.Prelude.{◌≡◌, ◌++◌, ◌∷◌, ◌↔◌, [], List, IfOk, OnOk, OnErr, IsTrue, length, take, not};
+ghost use Rattle.std.specs.Prelude.{◌≡◌, ℕ, ◌++◌, ◌∷◌, ◌↔◌, [], List, IfOk, OnOk, OnErr, IsTrue, length, take, not};
 ghost use Rattle.std.specs.List.Sorted.{IsStrictlySortedBy};
 ghost use Rattle.ap_symbol.specs.Rendering.{word_cmp};
 ghost use Rattle.ap_symbol.specs.declared.symbol.Symbol.{Symbol};
@@ -61,7 +61,7 @@ fn has_no_final(fst: &Fst) -> bool
 
 impl Live {
     ghost use Rattle.ap_live.specs.Fitting.{Input};
-    ghost use Rattle.ap_live.specs.Rows.{IsLive};
+    ghost use Rattle.ap_live.specs.Rows.{IsLive, Reach};
     ghost use Rattle.ap_live.specs.Outputs.{IsOutput, FitBeginning, WritesWords};
     ghost use Rattle.ap_live.specs.Found.{outputs, has_output, is_viable};
 
@@ -147,6 +147,14 @@ impl Live {
             IsLive m (take len seen) self.new }
     {
         cut_rows(&mut self.rows, &mut self.known, len);
+    }
+
+    /// Whether the inputs reach no state. It takes no memory.
+    pub(crate) fn reaches_none(&self) -> bool
+        ensures { (m : Machine) (seen : List Input) → IsLive m seen self.now →
+            (IsTrue result ↔ ((s : ℕ) → Reach m.edges seen s → ⊥)) }
+    {
+        reaches_none(self.rows.as_slice())
     }
 
     /// Whether the inputs fit no beginning of the left word of an accepted label list. This is

@@ -1,4 +1,4 @@
-ghost use Rattle.std.specs.Prelude.{◌≡◌, true, false, None, not, ◌++◌, ◌∷◌, [], List, take, IfOk};
+ghost use Rattle.std.specs.Prelude.{◌≡◌, ℕ, true, false, None, Some, not, ◌++◌, ◌∷◌, [], List, take, IfOk};
 ghost use Rattle.ap_symbol.specs.declared.symbol.Symbol.{Symbol};
 ghost use Rattle.ap_fst.specs.Machines.{Machine};
 ghost use Rattle.ap_fst.specs.Sections.{IsSection};
@@ -6,6 +6,7 @@ ghost use Rattle.ap_fst.specs.Silence.{HasNoEmptyCycle};
 ghost use Rattle.ap_live.specs.Fitting.{Input};
 ghost use Rattle.ap_live.specs.Found.{outputs, has_output, is_viable};
 ghost use Rattle.ap_live.specs.Outputs.{WritesWords};
+ghost use Rattle.ap_live.specs.Rows.{Lives, Reach};
 
 use crate::live::Live;
 use ap_fst::Fst;
@@ -14,10 +15,12 @@ use std::alloc::Global;
 
 /// What the symbols so far reach in one section of a compiled dictionary. A section without a final
 /// state accepts nothing: no live set is held for it, so that a kind of sections without entries
-/// costs no step anything.
+/// costs no step anything. Where the symbols reach nothing, those that come behind them are counted
+/// alone.
 #[derive(Drop)]
 pub struct SectionLive {
     live: Option<Live>,
+    behind: usize,
 }
 
 impl SectionLive {
@@ -28,10 +31,16 @@ impl SectionLive {
         ensures { IfOk result (λ section. IsSectionLive fst.now [] section) }
     {
         if fst.finals().is_empty() {
-            return Ok(SectionLive { live: None });
+            return Ok(SectionLive {
+                live: None,
+                behind: 0,
+            });
         }
         let live = Live::start(alloc, fst)?;
-        Ok(SectionLive { live: Some(live) })
+        Ok(SectionLive {
+            live: Some(live),
+            behind: 0,
+        })
     }
 
     /// Whether there is anything to go on from.
@@ -39,6 +48,37 @@ impl SectionLive {
         ensures { result ≡ false → self.now.live ≡ None }
     {
         self.live.is_some()
+    }
+
+    /// Whether a live set is held, and nothing is reached.
+    fn is_over(&self) -> bool
+        ensures over { result ≡ true → (m : Machine) (seen : List Input) →
+            IsSectionLive m seen self.now → (s : ℕ) → Reach m.edges seen s → ⊥ }
+        ensures held { result ≡ true → (live : Lives) × (self.now.live ≡ Some live) }
+        ensures not { result ≡ false → (live : Lives) → self.now.live ≡ Some live →
+            self.now.behind ≡ 0 }
+    {
+        match &self.live {
+            None => false,
+            Some(live) => self.behind > 0 || live.reaches_none(),
+        }
+    }
+
+    /// Counts a symbol more, where nothing is reached, and answers whether that was possible. If
+    /// not, nothing was changed.
+    fn pass(&mut self) -> bool
+        ensures passed { result ≡ true → (m : Machine) (seen : List Input) (last : Input) →
+            ((s : ℕ) → Reach m.edges seen s → ⊥) → IsSectionLive m seen self.old →
+            IsSectionLive m (seen ++ last ∷ []) self.new }
+        ensures stayed { result ≡ false → self.new ≡ self.old }
+    {
+        match self.behind.checked_add(1) {
+            None => false,
+            Some(more) => {
+                self.behind = more;
+                true
+            }
+        }
     }
 
     /// The same as `step`, with a look before it: for a kind of sections that mostly has no entries.
@@ -62,6 +102,9 @@ impl SectionLive {
             ∷ []) self.new }
         ensures stayed { result ≡ false → self.new ≡ self.old }
     {
+        if self.is_over() {
+            return self.pass();
+        }
         match &mut self.live {
             None => true,
             Some(live) => match live.step(fst, input, sensitive) {
@@ -80,6 +123,10 @@ impl SectionLive {
         if !stepped {
             return;
         }
+        if self.behind > 0 {
+            self.behind -= 1;
+            return;
+        }
         match &mut self.live {
             None => {}
             Some(live) => {
@@ -96,7 +143,15 @@ impl SectionLive {
     {
         match &mut self.live {
             None => {}
-            Some(live) => live.cut(len),
+            Some(live) => {
+                let first = live.len();
+                if len < first {
+                    live.cut(len);
+                    self.behind = 0;
+                } else {
+                    self.behind = self.behind.min(len - first);
+                }
+            }
         }
     }
 
@@ -107,7 +162,7 @@ impl SectionLive {
     {
         match &self.live {
             None => true,
-            Some(live) => live.is_dead(),
+            Some(live) => self.behind > 0 || live.is_dead(),
         }
     }
 
@@ -116,9 +171,10 @@ impl SectionLive {
         ensures { (seen : List Input) → HasNoEmptyCycle fst.now →
             IsSectionLive fst.now seen self.now → result ≡ has_output fst.now seen }
     {
+        let _ = fst.states();
         match &self.live {
             None => false,
-            Some(live) => live.accepts(fst),
+            Some(live) => self.behind == 0 && live.accepts(fst),
         }
     }
 
@@ -130,9 +186,13 @@ impl SectionLive {
         ensures { IfOk result (λ words. (seen : List Input) → IsSectionLive fst.now seen self.now →
             words ≡ outputs fst.now seen) }
     {
+        let _ = fst.states();
         match &self.live {
             None => Ok(Words::new(alloc)),
             Some(live) => {
+                if self.behind > 0 {
+                    return Ok(Words::new(alloc));
+                }
                 if !live.accepts(fst) {
                     return Ok(Words::new(alloc));
                 }
