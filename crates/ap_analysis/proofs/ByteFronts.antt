@@ -1,10 +1,11 @@
 -- Steps that are known by bytes: their marks, and what the work gives.
-use Rattle.std.specs.Prelude.{◌≡◌, ℕ, ◌+◌, ◌-◌, ◌≤◌, max, Bool, false, List, [], ◌∷◌, ◌++◌, length, take, drop}
+use Rattle.std.specs.Prelude.{◌≡◌, ℕ, ◌+◌, ◌-◌, ◌≤◌, max, nat_eq, Bool, true, false, List, [], ◌∷◌, ◌++◌, length, take, drop}
 use Rattle.std.proofs.Common.{arith, refl, ap, sym, ◌∙◌, subst, inl, append_assoc, length-drop}
 use Rattle.std.proofs.lemmas.Bool.{false≢true}
-use Rattle.std.proofs.lemmas.List.{length-take-le, take_all}
+use Rattle.std.proofs.lemmas.Bool.Decides.{nat_tests}
+use Rattle.std.proofs.lemmas.List.{drop-take, length-take-le, take_all}
 use Rattle.ap_fst.specs.Sections.{Parts}
-use Rattle.ap_stream.specs.Bare.{bare_item, bare_items}
+use Rattle.ap_stream.specs.Bare.{bare_item, bare_items, bare_run}
 use Rattle.ap_stream.specs.Fronts.{GivesFront, GaveFront}
 use Rattle.ap_stream.specs.Reading.{reads, counted}
 use Rattle.ap_stream.specs.Rest.{worked}
@@ -12,10 +13,10 @@ use Rattle.ap_stream.specs.Steps.{bytes_of}
 use Rattle.ap_stream.specs.Told.{Told, behind, or_else, stop_at}
 use Rattle.ap_stream.specs.declared.dialect.Dialect.TheVariants.{Raw}
 use Rattle.ap_stream.specs.declared.item.Read.{Read}
-use Rattle.ap_stream.proofs.BareReads.{bare_reads, rest_reads, items_size}
+use Rattle.ap_stream.proofs.BareReads.{bare_drop, bare_reads, rest_reads, items_size}
 use Rattle.ap_stream.proofs.FrontLaws.{then_given}
 use Rattle.ap_stream.proofs.StepLaws.{turn_wrote}
-use Rattle.ap_live.specs.Lexicon.{IsCoherent, lexicon_of}
+use Rattle.ap_live.specs.Lexicon.{IsCoherent, Lexicon, lexicon_of}
 use Rattle.ap_analysis.specs.Analysis.{first_step}
 use Rattle.ap_analysis.specs.Fronts.{byte_marks, IsFront}
 use Rattle.ap_analysis.specs.Held.{Held, work_of}
@@ -81,6 +82,20 @@ module _ (p : Parts) (sensitive finished : Bool) (whole : IsCoherent (lexicon_of
     is = is.is;
     gives = front_gives;
   }
+
+-- what is seen beyond what is used are items
+pub seen_bare : (lexicon : Lexicon) (sensitive : Bool) (piece : List ℕ) (used seen : ℕ)
+    (before after : List ℕ) → seen ≡ used + 2 →
+    IsFront lexicon sensitive piece used seen before after →
+    bare_run (take 2 (drop used piece)) ≡ true
+seen_bare lexicon sensitive piece used seen before after e is =
+    ap bare_run (sym (drop-take used 2 piece)
+    ∙ ap (λ (k : ℕ). drop used (take k piece)) (sym e))
+    ∙ bare_drop used (take seen piece) is.bare
+
+pub told_two : (seen used left : ℕ) → left ≡ seen - used → nat_eq left 2 ≡ true →
+    seen ≡ used + 2
+told_two seen used left e t = let two : left ≡ 2 = grind (arith, nat_tests) in omega arith
 
 -- what is seen gives what the work gives where nothing is held
 pub seen_gave : (p : Parts) (sensitive finished : Bool) (items : List Read) (now : Held)

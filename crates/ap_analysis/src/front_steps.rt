@@ -1,5 +1,6 @@
 ghost use Rattle.std.specs.Prelude.{◌≡◌, ◌⊎◌, ℕ, Bool, ◌+◌, ◌<◌, ◌≤◌, List, [], ◌∷◌, ◌++◌, true, false, length, take, None, Ok, IfOk, IfSome, OnOk};
 ghost use Rattle.ap_stream.specs.declared.TheConstants.{FRONT_MAX};
+ghost use Rattle.ap_stream.specs.Bare.{bare_run};
 ghost use Rattle.ap_live.specs.Lexicon.{Lexicon};
 ghost use Rattle.ap_analysis.specs.Endings.{is_ending as ending_test};
 ghost use Rattle.ap_analysis.specs.Fronts.{IsFront};
@@ -259,13 +260,19 @@ impl FrontSteps {
         Ok(found)
     }
 
-    /// Whether the bytes begin with a space that is copied.
-    pub(crate) fn copies_space(&self, piece: &[u8]) -> bool
-        ensures { result ≡ true → (lexicon : Lexicon) (sensitive : Bool) →
-            AreFrontSteps lexicon sensitive self.now → (before : List ℕ) →
+    /// Whether the bytes begin with a space that is copied. It may be told that the first two of
+    /// them are items.
+    pub(crate) fn copies_space(&self, piece: &[u8], told: bool) -> bool
+        ensures copied { result ≡ true → (told ≡ true → bare_run (take 2 piece.now) ≡ true) →
+            (lexicon : Lexicon) (sensitive : Bool) → AreFrontSteps lexicon sensitive self.now →
+            (before : List ℕ) →
             IsFront lexicon sensitive piece.now 1 2 before (before ++ 32 ∷ []) }
+        ensures long { result ≡ true → 2 ≤ length piece.now }
     {
-        self.spaces && piece.len() >= 2 && piece[0] == b' ' && is_bare(&piece[..2])
+        if !self.spaces || piece.len() < 2 || piece[0] != b' ' {
+            return false;
+        }
+        told || is_bare(&piece[..2])
     }
 
     /// Whether each step that is searched is kept.

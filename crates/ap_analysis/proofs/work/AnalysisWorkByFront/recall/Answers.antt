@@ -7,7 +7,7 @@ use Rattle.ap_live.specs.Lexicon.{Lexicon, IsCoherent, lexicon_of}
 use Rattle.ap_analysis.specs.Fronts.{IsFront}
 use Rattle.ap_analysis.specs.FrontSteps.{AreFrontSteps}
 use Rattle.ap_analysis.specs.Held.{Held, work_of}
-use Rattle.ap_analysis.proofs.ByteFronts.{seen_gave}
+use Rattle.ap_analysis.proofs.ByteFronts.{seen_bare, seen_gave}
 use Rattle.ap_analysis.proofs.work.AnalysisWorkByFront.recall.Goals as goal
 use Rattle.ap_analysis.proofs.work.AnalysisWorkByFront.recall.Goals.{In-Some}
 
@@ -27,6 +27,13 @@ with_space-requires-clause-within c =
     let within = is.within in
     let most = is.most in
     omega (arith, within, most)
+
+pub with_space-requires-clause-bare : goal.with_space-requires-clause-bare
+with_space-requires-clause-bare c = λ e.
+    seen_bare (lexicon_of c.self.inside.compiled c.self.inside.sensitive)
+    c.self.inside.sensitive c.args.piece.now c.in-Some.front.used c.in-Some.front.seen
+    c.args.into.now c.recall.new.into e
+    (seen (goal.at.with_space-requires-clause-bare c).In-Some)
 
 pub returns-in-Some-clause-gave : goal.returns-in-Some-clause-gave
 returns-in-Some-clause-gave c =
