@@ -10,6 +10,7 @@ pub mod Backing
 pub mod TailLaws
 pub mod OutputLaws
 pub mod WordLaws
+pub mod Chains
 pub mod LiveLaws
 pub mod WordOrder
 pub mod Finding

@@ -294,23 +294,29 @@ dead_law m seen l rows void none ok trimmed live r v not_void h =
       (λ f. k.1 (λ s reach. f (beginning m seen s ok trimmed some reach))),
     )
 
-pub outputs_law : (m : Machine) (seen : List Input) (l : Lives) (rows : List Row)
-    (backs words : List (List Symbol)) → rows ≡ l.rows → IsLive m seen l →
-    ((s : List Input) → AreRows m.edges s rows → AreBacks m s backs)
-    → ((w : List Symbol) → IsIn w words ↔ IsIn w (map reverse backs)) → (output : List Symbol) →
-    IsIn output words ↔ IsOutput m seen output
-outputs_law m seen l rows backs words r live h k output =
-    let are : AreBacks m seen backs =
-    h seen (subst (λ (z : List Row). AreRows m.edges seen z) (sym r) live.rows_are) in (
-      (λ i. let b : IsImage reverse output backs =
-          in_mapped reverse output backs ((k output).0 i) in
-          subst (λ (z : List Symbol). IsOutput m seen z) (sym b.image)
-          (output_from_tail m seen b.source (are.sound b.source b.listed))),
-      (λ o. (k output).1 (subst (λ (z : List Symbol). IsIn z (map reverse backs))
-          (reverse-reverse output)
-          (in_map reverse (reverse output) backs
-          (are.complete (reverse output) (tail_from_output m seen output o))))),
-    )
+pub outputs_law : (m : Machine) (seen : List Input) (backs words : List (List Symbol)) →
+    AreBacks m seen backs → ((w : List Symbol) → IsIn w words ↔ IsIn w (map reverse backs)) →
+    (output : List Symbol) → IsIn output words ↔ IsOutput m seen output
+outputs_law m seen backs words are k output = (
+  (λ i. let b : IsImage reverse output backs = in_mapped reverse output backs ((k output).0 i) in
+      subst (λ (z : List Symbol). IsOutput m seen z) (sym b.image)
+      (output_from_tail m seen b.source (are.sound b.source b.listed))),
+  (λ o. (k output).1 (subst (λ (z : List Symbol). IsIn z (map reverse backs))
+      (reverse-reverse output)
+      (in_map reverse (reverse output) backs
+      (are.complete (reverse output) (tail_from_output m seen output o))))),
+)
+
+pub live_rows : (m : Machine) (seen : List Input) (l : Lives) (rows : List Row) → rows ≡ l.rows →
+    IsLive m seen l → AreRows m.edges seen rows
+live_rows m seen l rows e live =
+    subst (λ (z : List Row). AreRows m.edges seen z) (sym e) live.rows_are
+
+pub same_members : (m : Machine) (seen : List Input) (words found : List (List Symbol)) →
+    found ≡ words → ((w : List Symbol) → IsIn w words ↔ IsOutput m seen w) → (w : List Symbol) →
+    IsIn w found ↔ IsOutput m seen w
+same_members m seen words found e h w =
+    subst (λ (z : List (List Symbol)). IsIn w z ↔ IsOutput m seen w) (sym e) (h w)
 
 pub start_law : (m : Machine) (l : Lives) → AreRows m.edges [] l.rows →
     ((at : ℕ) (row : Row) → slice_get l.rows at ≡ Some row → Tells m.finals row) → l.known ≡ [] →

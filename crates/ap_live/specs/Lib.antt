@@ -4,6 +4,7 @@ pub mod Outlines
 pub mod Leads
 pub mod Rows
 pub mod Tails
+pub mod Chains
 pub mod Outputs
 pub mod Found
 pub mod Greatest

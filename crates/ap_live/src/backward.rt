@@ -63,7 +63,7 @@ fn is_silent(edge: &Edge) -> bool
     }
 }
 
-fn edge_at(edges: &[Edge], at: usize) -> Option<&Edge>
+pub(crate) fn edge_at(edges: &[Edge], at: usize) -> Option<&Edge>
     ensures { option_copied result ≡ slice_get edges.now at }
 {
     edges.get(at)
@@ -163,7 +163,7 @@ fn move_before(
 }
 
 /// The link, if it is the only one.
-fn only_link(links: &[Arrival]) -> Option<Arrival>
+pub(crate) fn only_link(links: &[Arrival]) -> Option<Arrival>
     ensures { (link : Arrival) → result ≡ Some link → links.now ≡ link ∷ [] }
 {
     match links.split_last() {

@@ -5,6 +5,7 @@
 
 mod arrivals;
 mod backward;
+mod chain;
 mod held;
 mod items;
 mod known;

@@ -7,12 +7,11 @@ ghost use Rattle.ap_fst.specs.Machines.{Machine, IsMachine};
 ghost use Rattle.ap_fst.specs.Silence.{HasNoEmptyCycle};
 ghost use Rattle.ap_fst.specs.Trimming.{IsTrimmed};
 
-use crate::backward::backs_of;
+use crate::chain::words_back;
 use crate::held::{ends_finally, reaches_none};
 use crate::known::{Known, add_row, cut_rows, nothing_known};
 use crate::outline::{Outline, outline_of};
 use crate::stack::{Rows, first_rows};
-use crate::wording::ordered_words;
 use ap_fst::Fst;
 use ap_symbol::{Memory, Symbol, Words};
 use std::alloc::Global;
@@ -115,8 +114,7 @@ impl Live {
         ensures order { IfOk result (λ words. IsStrictlySortedBy word_cmp words) }
     {
         let _ = fst.states();
-        let backs = backs_of(alloc, fst, self.rows.as_slice())?;
-        let words = ordered_words(alloc, backs)?;
+        let words = words_back(alloc, fst, self.rows.as_slice())?;
         Ok(Words::from_vec(words))
     }
 

@@ -15,7 +15,7 @@ use std::alloc::Global;
 
 /// About as many bytes does a symbol render to: a letter to one and up to four, a tag of two
 /// letters to four.
-const SYMBOL_BYTES: usize = 4;
+pub(crate) const SYMBOL_BYTES: usize = 4;
 
 /// The word whose symbols are these, the last first.
 fn word_of(alloc: Global, back: Symbols) -> Result<Word, Memory>

@@ -1,23 +1,20 @@
 use Rattle.std.proofs.Common.{ap, ◌∙◌, subst, sym, List}
-use Rattle.std.specs.Prelude.{◌↔◌, reverse, map}
+use Rattle.std.specs.Prelude.{◌↔◌}
 use Rattle.std.specs.List.Sorted.{IsStrictlySortedBy}
 use Rattle.ap_symbol.specs.Rendering.{word_cmp}
 use Rattle.ap_symbol.specs.declared.symbol.Symbol.{Symbol}
-use Rattle.ap_fst.specs.Lists.{IsIn}
 use Rattle.ap_live.specs.Rows.{Lives}
-use Rattle.ap_live.proofs.LiveLaws.{outputs_law}
 use Rattle.ap_live.proofs.Finding.{words_found}
+use Rattle.ap_live.proofs.LiveLaws.{live_rows, same_members}
 use Rattle.ap_live.proofs.live.Live.finals.Goals as goal
 
 pub returns-clause-outputs : goal.returns-clause-outputs
 returns-clause-outputs c =
-    λ seen live. outputs_law c.args.fst.now seen c.args.self.now c.as_slice.result.now
-    c.in_ok-backs.backs.items c.from_vec.result
-    (c.as_slice.ensures ∙ ap (λ (l : Lives). l.rows) c.self.view_is) live
-    c.in_ok-backs.ensures.outputs
-    (λ w. subst (λ (z : List (List Symbol)). IsIn w z
-    ↔ IsIn w (map reverse c.in_ok-backs.backs.items)) (sym c.from_vec.ensures)
-    (c.in_ok-words.ensures.members w))
+    λ seen live. same_members c.args.fst.now seen c.in_ok-words.words.items c.from_vec.result
+    c.from_vec.ensures
+    (c.in_ok-words.ensures.members seen
+    (live_rows c.args.fst.now seen c.args.self.now c.as_slice.result.now
+    (c.as_slice.ensures ∙ ap (λ (l : Lives). l.rows) c.self.view_is) live))
 
 pub returns-clause-found : goal.returns-clause-found
 returns-clause-found c =
@@ -25,10 +22,8 @@ returns-clause-found c =
     c.requires.no_cycle
     (let P : List (List Symbol) → Type 0 = λ z. IsStrictlySortedBy word_cmp z in
     subst P (sym c.from_vec.ensures) c.in_ok-words.ensures.order)
-    (outputs_law c.args.fst.now seen c.args.self.now c.as_slice.result.now c.in_ok-backs.backs.items
-    c.from_vec.result
-    (c.as_slice.ensures ∙ ap (λ (l : Lives). l.rows) c.self.view_is) live
-    c.in_ok-backs.ensures.outputs
-    (λ w. subst (λ (z : List (List Symbol)). IsIn w z
-    ↔ IsIn w (map reverse c.in_ok-backs.backs.items)) (sym c.from_vec.ensures)
-    (c.in_ok-words.ensures.members w)))
+    (same_members c.args.fst.now seen c.in_ok-words.words.items c.from_vec.result
+    c.from_vec.ensures
+    (c.in_ok-words.ensures.members seen
+    (live_rows c.args.fst.now seen c.args.self.now c.as_slice.result.now
+    (c.as_slice.ensures ∙ ap (λ (l : Lives). l.rows) c.self.view_is) live)))
