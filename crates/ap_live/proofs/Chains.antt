@@ -1,7 +1,7 @@
 -- The only path of the inputs so far, gone back from its end.
-use Rattle.std.proofs.Common.{◌≡◌, ◌⊎◌, inl, inr, ℕ, get_or, ◌+◌, ◌-◌, ◌<◌, ◌≤◌, Bool, true, false, List, [], ◌∷◌, ◌++◌, map, length, take, drop, refl, sym, ◌∙◌, ap, subst, append_assoc, append-nil, arith, Option, Some, None, slice_get, zero, suc, eqb, true≢false, length-take-le}
-use Rattle.std.specs.Prelude.{◌↔◌, reverse, is_some, IfSome}
-use Rattle.std.specs.List.{filter, flat_map}
+use Rattle.std.proofs.Common.{◌≡◌, inl, inr, ℕ, get_or, ◌+◌, ◌<◌, ◌≤◌, Bool, true, false, List, [], ◌∷◌, ◌++◌, length, take, drop, refl, sym, ◌∙◌, ap, subst, append_assoc, append-nil, arith, Option, Some, None, slice_get, eqb, true≢false, length-take-le}
+use Rattle.std.specs.Prelude.{reverse, is_some, IfSome}
+use Rattle.std.specs.List.{filter}
 use Rattle.std.specs.Option.{option_to_list}
 use Rattle.std.proofs.lemmas.Bool.Decides.{nat_tests}
 use Rattle.std.proofs.lemmas.List.{take_all, drop_all, take_more, reverse-append}
@@ -414,12 +414,12 @@ only_kept finals states i s (Some state) lt is none h =
       final = h.final;
       only = λ x k f. elim (in_either x (take i states) (s ∷ [])
           (subst (λ (z : List ℕ). IsIn x z) t k)) [
-        | inl q ↦ h.only x q f
-        | inr q ↦ elim q [
-          | inl e ↦ absurd (none (subst (λ (z : ℕ). IsIn z finals) e f))
-          | inr z ↦ elim z [ ]
-        ]
-      ];
+            | inl q ↦ h.only x q f
+            | inr q ↦ elim q [
+              | inl e ↦ absurd (none (subst (λ (z : ℕ). IsIn z finals) e f))
+              | inr z ↦ elim z [ ]
+            ]
+          ];
     }
 
 pub only_found : (finals states : List ℕ) (i s : ℕ) (only : Option ℕ) → i < length states →
@@ -436,9 +436,9 @@ only_found finals states i s only lt is final n h =
       final = final;
       only = λ x k f. elim (in_either x (take i states) (s ∷ [])
           (subst (λ (z : List ℕ). IsIn x z) t k)) [
-        | inl q ↦ absurd (none x q f)
-        | inr q ↦ elim q [ inl e ↦ e | inr z ↦ elim z [ ] ]
-      ];
+            | inl q ↦ absurd (none x q f)
+            | inr q ↦ elim q [ inl e ↦ e | inr z ↦ elim z [ ] ]
+          ];
     }
 
 pub only_all : (finals states : List ℕ) (n : ℕ) (only : Option ℕ) (state : ℕ) → length states ≤ n →

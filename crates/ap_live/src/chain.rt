@@ -141,12 +141,7 @@ fn chain_of(alloc: Global, fst: &Fst, rows: &[HeldRow]) -> Result<Option<Vec<usi
 }
 
 /// Appends what the edge at a place writes.
-fn push_written(
-    alloc: Global,
-    edges: &[Edge],
-    place: usize,
-    word: &mut Word,
-) -> Result<(), Memory>
+fn push_written(alloc: Global, edges: &[Edge], place: usize, word: &mut Word) -> Result<(), Memory>
     requires { (e : Edge) → IsIn e edges.now → IsTrue (is_word_side e.label.right) }
     ensures { OnOk result (word.new ≡ word.old ++ written_by (slice_get edges.now place)) }
 {

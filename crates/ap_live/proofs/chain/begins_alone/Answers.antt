@@ -1,4 +1,4 @@
-use Rattle.std.proofs.Common.{◌≡◌, ◌∙◌, List, [], ap, eqb, sym}
+use Rattle.std.proofs.Common.{◌∙◌, List, ap, eqb, sym}
 use Rattle.std.specs.List.{filter}
 use Rattle.std.specs.Option.{option_copied}
 use Rattle.ap_live.specs.Spreads.{arrival_to}

@@ -1,5 +1,4 @@
-use Rattle.std.proofs.Common.{◌≡◌, ◌++◌, ◌∷◌, [], List, ap, subst, sym, ℕ}
-use Rattle.ap_symbol.specs.declared.symbol.Symbol.{Symbol}
+use Rattle.std.proofs.Common.{List, subst, sym, ℕ}
 use Rattle.ap_live.specs.Chains.{IsChain, written}
 use Rattle.ap_live.proofs.Chains.{chain_more}
 use Rattle.ap_live.proofs.chain.chain_of.Goals as goal

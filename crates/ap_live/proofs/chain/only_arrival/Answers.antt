@@ -1,4 +1,4 @@
-use Rattle.std.proofs.Common.{◌≡◌, ◌∙◌, List, [], ap, eqb, false, sym, true}
+use Rattle.std.proofs.Common.{◌∙◌, List, ap, eqb, false, sym, true}
 use Rattle.std.specs.List.{filter}
 use Rattle.ap_live.specs.Spreads.{arrival_to}
 use Rattle.ap_live.specs.declared.arrivals.Arrival.{Arrival}

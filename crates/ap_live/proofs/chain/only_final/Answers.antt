@@ -1,4 +1,4 @@
-use Rattle.std.proofs.Common.{◌≡◌, ◌∙◌, ◌+◌, Option, Some, get_or, refl, subst, sym, take, ℕ, false, true}
+use Rattle.std.proofs.Common.{◌≡◌, ◌∙◌, ◌+◌, Option, get_or, refl, subst, sym, take, ℕ, false, true}
 use Rattle.ap_live.proofs.Chains.{IsOnlySoFar, none_of, only_all, only_found, only_kept}
 use Rattle.ap_live.proofs.chain.only_final.Goals as goal
 use Rattle.ap_live.proofs.chain.only_final.Goals.{then-is_final+else-is_some, else-is_final}

@@ -1,10 +1,8 @@
-use Rattle.std.proofs.Common.{◌≡◌, ◌++◌, ◌∙◌, ◌∷◌, [], List, Option, Some, None, ap, append-nil, subst, sym}
-use Rattle.std.specs.Prelude.{IsTrue, OnOk}
+use Rattle.std.proofs.Common.{◌≡◌, ◌++◌, ◌∙◌, ◌∷◌, [], List, Option, ap, append-nil, subst, sym}
+use Rattle.std.specs.Prelude.{OnOk}
 use Rattle.std.specs.Option.{option_copied, option_to_list}
-use Rattle.std.proofs.lemmas.Option.{same_Some}
 use Rattle.ap_symbol.specs.Words.{is_word_symbol}
 use Rattle.ap_symbol.specs.declared.symbol.Symbol.{Symbol}
-use Rattle.ap_fst.specs.declared.label.Edge.{Edge}
 use Rattle.ap_live.specs.Chains.{written_by}
 use Rattle.ap_live.specs.Outputs.{is_word_side}
 use Rattle.ap_live.proofs.Spreading.{in_from_place}

@@ -1,7 +1,6 @@
-use Rattle.std.proofs.Common.{◌≡◌, ◌∙◌, ◌+◌, ◌-◌, ◌<◌, ◌≤◌, Some, ap, arith, length, refl, subst, sym, take, slice_get, ℕ}
+use Rattle.std.proofs.Common.{◌≡◌, ◌∙◌, ◌+◌, ◌-◌, ◌<◌, ◌≤◌, Some, ap, arith, length, refl, subst, sym, take, slice_get}
 use Rattle.std.specs.Option.{option_copied}
 use Rattle.std.proofs.lemmas.Option.{same_Some}
-use Rattle.ap_fst.specs.declared.label.Edge.{Edge}
 use Rattle.ap_live.specs.Chains.{IsOnlyArrival, IsStepBack}
 use Rattle.ap_live.specs.Rows.{IsRow}
 use Rattle.ap_live.specs.declared.chain.StepBack.{StepBack}

@@ -1,4 +1,4 @@
-use Rattle.std.proofs.Common.{◌≡◌, arith, ◌++◌, ◌∙◌, ◌∷◌, [], List, ap, map, subst, sym, refl}
+use Rattle.std.proofs.Common.{◌≡◌, arith, ◌++◌, ◌∙◌, ◌∷◌, [], List, ap, map, subst, sym}
 use Rattle.std.specs.Prelude.{◌↔◌, reverse}
 use Rattle.std.specs.List.Sorted.{IsStrictlySortedBy}
 use Rattle.ap_symbol.specs.Rendering.{word_cmp}

@@ -1,5 +1,4 @@
 use Rattle.std.proofs.Common.{ap, ◌∙◌, subst, sym, List}
-use Rattle.std.specs.Prelude.{◌↔◌}
 use Rattle.std.specs.List.Sorted.{IsStrictlySortedBy}
 use Rattle.ap_symbol.specs.Rendering.{word_cmp}
 use Rattle.ap_symbol.specs.declared.symbol.Symbol.{Symbol}
