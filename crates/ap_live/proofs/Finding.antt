@@ -27,7 +27,8 @@ use Rattle.ap_fst.proofs.Trims.{in_flat, flat_in, IsMade}
 use Rattle.ap_fst.proofs.CycleLaws.{short_walks}
 use Rattle.ap_live.specs.Fitting.{Input, picks, fits_inputs, fits_side, is_empty_side}
 use Rattle.ap_live.specs.Spreads.{Picked}
-use Rattle.ap_live.specs.Rows.{Reach, begin, Lives, IsLive}
+use Rattle.ap_live.specs.Lives.{Lives, IsLive}
+use Rattle.ap_live.specs.Rows.{Reach, begin}
 use Rattle.ap_live.specs.Rows as rows
 use Rattle.ap_live.specs.Tails.{Tail, stop, silent, taken}
 use Rattle.ap_live.specs.Outputs.{IsOutput, FitBeginning, WritesProper, is_proper_side}

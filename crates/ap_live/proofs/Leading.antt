@@ -1,5 +1,5 @@
 -- Where an input leads from one state.
-use Rattle.std.proofs.Common.{◌≡◌, ◌⊎◌, inl, inr, ℕ, ◌+◌, ◌<◌, ◌≤◌, Bool, true, false, List, [], ◌∷◌, refl, sym, ◌∙◌, ap, subst, arith, Option, Some, None, slice_get, length}
+use Rattle.std.proofs.Common.{◌≡◌, inl, inr, ℕ, ◌+◌, ◌<◌, ◌≤◌, Bool, List, [], ◌∷◌, refl, sym, ◌∙◌, ap, subst, arith, Option, Some, None, slice_get, length}
 use Rattle.std.proofs.lemmas.Bool.{cases_lt}
 use Rattle.std.proofs.lemmas.Option.{same_Some}
 use Rattle.std.specs.Prelude.{◌↔◌, IsTrue}
@@ -10,11 +10,11 @@ use Rattle.ap_fst.specs.Lists.{Ascends, IsIn}
 use Rattle.ap_fst.specs.Machines.{IsSpan}
 use Rattle.ap_fst.specs.Order.{edge_cmp}
 use Rattle.ap_fst.specs.declared.label.Edge.{Edge}
-use Rattle.ap_live.specs.Fitting.{Input, picks, fits_side}
+use Rattle.ap_live.specs.Fitting.{Input, fits_side}
 use Rattle.ap_live.specs.Leads.{IsLead, IsLeadOfAll, IsLeadOfOne, IsQuiet, LeadsTo}
-use Rattle.ap_live.specs.Outlines.{IsCut, IsEntry, IsOutline, Rises, left_code}
+use Rattle.ap_live.specs.Outlines.{IsCut, IsEntry, IsOutline, Rises, side_code}
 use Rattle.ap_live.specs.Rows.{IsNext, IsOne, IsVoid, Tells}
-use Rattle.ap_live.specs.Spreads.{AnyPlace, Closed, IsOther, Picked, PickedFrom, Spread, SpreadOne, arrival, given}
+use Rattle.ap_live.specs.Spreads.{AnyPlace, Closed, IsOther, Picked, Spread, SpreadOne, arrival, given}
 use Rattle.ap_live.specs.declared.arrivals.Arrival.{Arrival}
 use Rattle.ap_live.specs.declared.lead.Lead.{Lead}
 use Rattle.ap_live.specs.declared.lead.Lead.TheVariants.{Nowhere, To, Elsewhere}
@@ -42,7 +42,7 @@ module _ (edges : List Edge) (o : Outline) (from first last : ℕ) (is : IsOutli
     (within : last ≤ length o.entries.items) where
   -- An edge of the state has its entry there.
   entry_of : (pick : Option Input) (s j code : ℕ) (p : Picked edges pick from s j) →
-      left_code p.edge.label.left ≡ code → IsAt o first last code j
+      side_code p.edge.label.left ≡ code → IsAt o first last code j
   entry_of pick s j code p same =
       let inside : (first ≤ j) × (j < last) = span.outside j p.edge p.at (sym p.from_is) in
       let high : j < last = inside.1 in
@@ -59,7 +59,7 @@ module _ (edges : List Edge) (o : Outline) (from first last : ℕ) (is : IsOutli
   none_behind : (pick : Option Input) (place code : ℕ) → first ≤ place →
       (place < last → (x : Entry) → slice_get o.entries.items place ≡ Some x → code ≤ x.left) →
       (place < last → (x : Entry) → slice_get o.entries.items place ≡ Some x → x.left ≡ code → ⊥)
-      → (s j : ℕ) (p : Picked edges pick from s j) → left_code p.edge.label.left ≡ code →
+      → (s j : ℕ) (p : Picked edges pick from s j) → side_code p.edge.label.left ≡ code →
       place ≤ j → ⊥
   none_behind pick place code low most other s j p same le =
       let t : IsAt o first last code j = entry_of pick s j code p same in
@@ -74,7 +74,7 @@ module _ (edges : List Edge) (o : Outline) (from first last : ℕ) (is : IsOutli
 
   -- Before the first entry with no smaller code, none has the code.
   none_before : (pick : Option Input) (place code : ℕ) → IsCut o.entries.items first last code place
-      → (s j : ℕ) (p : Picked edges pick from s j) → left_code p.edge.label.left ≡ code →
+      → (s j : ℕ) (p : Picked edges pick from s j) → side_code p.edge.label.left ≡ code →
       j < place → ⊥
   none_before pick place code cut s j p same lt =
       let t : IsAt o first last code j = entry_of pick s j code p same in
@@ -94,26 +94,26 @@ module _ (edges : List Edge) (o : Outline) (from first last : ℕ) (is : IsOutli
   pub quiet : (first < last → (x : Entry) → slice_get o.entries.items first ≡ Some x →
       x.left ≡ 0 → ⊥) → IsQuiet edges from
   quiet other s j p =
-      let none : left_code p.edge.label.left ≡ 0 =
-      ap left_code (side_none p.edge.label.left p.passes) in
+      let none : side_code p.edge.label.left ≡ 0 =
+      ap side_code (side_none p.edge.label.left p.passes) in
       let t : IsAt o first last 0 j = entry_of None s j 0 p none in
       none_behind None first 0 (omega arith) (λ lt x at. omega arith) other s j p none t.low
 
   module _ (input : Input) (code place : ℕ) (other : IsOther input None)
-      (code_is : code ≡ left_code (Some input.symbol))
+      (code_is : code ≡ side_code (Some input.symbol))
       (cut : IsCut o.entries.items first last code place) where
     -- what is picked has the input's code
     code_here : (s j : ℕ) (p : Picked edges (Some input) from s j) →
-        left_code p.edge.label.left ≡ code
+        side_code p.edge.label.left ≡ code
     code_here s j p = elim (side_is input None p.edge.label.left other
         (passes_as (Some input) input p.edge refl p.passes)) [
-          | inl e ↦ ap left_code e ∙ sym code_is
+          | inl e ↦ ap side_code e ∙ sym code_is
           | inr (x, e, f) ↦ absurd (cc)
         ]
 
     pub nowhere : (place < last → (x : Entry) → slice_get o.entries.items place ≡ Some x →
         x.left ≡ code → ⊥) → (s j : ℕ) → Picked edges (Some input) from s j → ⊥
-    nowhere not s j p = let same : left_code p.edge.label.left ≡ code = code_here s j p in
+    nowhere not s j p = let same : side_code p.edge.label.left ≡ code = code_here s j p in
         elim (cases_lt j place) [
           | inl lt ↦ none_before (Some input) place code cut s j p same lt
           | inr le ↦ none_behind (Some input) place code cut.from
@@ -123,7 +123,7 @@ module _ (edges : List Edge) (o : Outline) (from first last : ℕ) (is : IsOutli
     -- the edge at the place alone
     at_place : (place + 1 < last → (x : Entry) → slice_get o.entries.items (place + 1) ≡ Some x →
         x.left ≡ code → ⊥) → (s j : ℕ) → Picked edges (Some input) from s j → j ≡ place
-    at_place not s j p = let same : left_code p.edge.label.left ≡ code = code_here s j p in
+    at_place not s j p = let same : side_code p.edge.label.left ≡ code = code_here s j p in
         let least : first ≤ place = cut.from in
         elim (cases_lt j place) [
           | inl lt ↦ absurd (none_before (Some input) place code cut s j p same lt)
@@ -136,7 +136,7 @@ module _ (edges : List Edge) (o : Outline) (from first last : ℕ) (is : IsOutli
         ]
 
     pub one : (x : Entry) (a : Arrival) → (side : (left : Option Symbol) →
-        left_code left ≡ code → left ≡ Some input.symbol) → place < last →
+        side_code left ≡ code → left ≡ Some input.symbol) → place < last →
         slice_get o.entries.items place ≡ Some x → x.left ≡ code
         → (place + 1 < last → (x : Entry) → slice_get o.entries.items (place + 1) ≡ Some x →
         x.left ≡ code → ⊥) → a.to ≡ x.to → a.edge ≡ place → IsQuiet edges a.to →
@@ -169,8 +169,8 @@ module _ (edges : List Edge) (o : Outline) (from first last : ℕ) (is : IsOutli
         }
 
 -- the left side with a letter's code
-pub letter_side : (symbol : Symbol) (code : ℕ) → code ≡ left_code (Some symbol) →
-    code < 4294967295 → (left : Option Symbol) → left_code left ≡ code → left ≡ Some symbol
+pub letter_side : (symbol : Symbol) (code : ℕ) → code ≡ side_code (Some symbol) →
+    code < 4294967295 → (left : Option Symbol) → side_code left ≡ code → left ≡ Some symbol
 letter_side (Letter c) code is small left h = code_of_letter c left (omega arith) (h ∙ is)
 letter_side (Tag name) code is small left h = absurd (omega arith)
 letter_side Blank code is small left h = absurd (omega arith)

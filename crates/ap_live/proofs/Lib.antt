@@ -2,6 +2,7 @@ pub mod Spreading
 pub mod Others
 pub mod Outlining
 pub mod Leading
+pub mod NodeLaws
 pub mod Arriving
 pub mod RowLaws
 pub mod StackLaws
@@ -11,6 +12,9 @@ pub mod TailLaws
 pub mod OutputLaws
 pub mod WordLaws
 pub mod Chains
+pub mod Writing
+pub mod WayLaws
+pub mod TrailLaws
 pub mod LiveLaws
 pub mod WordOrder
 pub mod Finding

@@ -19,11 +19,15 @@ use Rattle.ap_fst.proofs.SilenceLaws.{left_word_then}
 use Rattle.ap_live.specs.Fitting.{Input, fits_inputs, fits_side, is_empty_side}
 use Rattle.ap_live.specs.Outlines.{IsOutline}
 use Rattle.ap_live.specs.Spreads.{Picked}
-use Rattle.ap_live.specs.Rows.{Reach, begin, silent, taken, AreRows, IsKnown, Tells, Lives, IsLive}
+use Rattle.ap_live.specs.Lives.{IsHeld, IsLive, Lives}
+use Rattle.ap_live.specs.Rows.{Reach, begin, silent, taken, AreRows, AreLiveRows, IsKnown, RowLives, Tells}
 use Rattle.ap_live.specs.Tails.{AreBacks}
 use Rattle.ap_live.specs.Outputs.{IsOutput, FitBeginning}
 use Rattle.ap_live.specs.declared.outline.Outline.{Outline}
 use Rattle.ap_live.specs.declared.rows.Row.{Row}
+use Rattle.ap_live.specs.declared.ways.Ways.{Ways}
+use Rattle.ap_live.specs.declared.ways.Ways.TheVariants.{Nodes, Rows}
+use Rattle.ap_live.specs.Trails.{IsTrail, Trails}
 use Rattle.ap_live.proofs.Spreading.{both_true, to_in}
 use Rattle.ap_live.proofs.KnownLaws.{nothing_known}
 use Rattle.ap_live.proofs.OutputLaws.{output_from_tail, tail_from_output}
@@ -249,46 +253,35 @@ output_reaches m seen output o =
 
 -- ---- the calls
 
-pub accepts_law : (m : Machine) (seen : List Input) (l : Lives) (rows : List Row) (answer : Bool) →
-    IsLive m seen l → rows ≡ l.rows
-    → ((s : List Input) → AreRows m.edges s rows →
-    (IsTrue answer ↔ ((t : ℕ) × (Reach m.edges s t × IsIn t m.finals)))) →
+pub accepts_law : (m : Machine) (seen : List Input) (answer : Bool) →
+    IsTrue answer ↔ ((t : ℕ) × (Reach m.edges seen t × IsIn t m.finals)) →
     IsTrue answer ↔ ((output : List Symbol) × IsOutput m seen output)
-accepts_law m seen l rows answer live r h =
-    let k = h seen (subst (λ (z : List Row). AreRows m.edges seen z) (sym r) live.rows_are) in (
-      (λ t. let (s, (reach, final)) = k.0 t in
-          let w : IsTrace m.edges seen s = trace m.edges seen s reach in (
-            right_word w.labels,
-            record {
-              labels = w.labels;
-              accepted =
-                  record { last = s; final = final; walk = w.walk };
-              fit = w.fit;
-              is = refl;
-            },
-          )),
-      (λ (output, o). k.1 (
-        o.accepted.last,
-        (
-          arrive m.edges [] seen 0 o.accepted.last o.labels o.accepted.walk (begin refl refl)
-              o.fit,
-          o.accepted.final,
-        ),
+accepts_law m seen answer k = (
+  (λ t. let (s, (reach, final)) = k.0 t in
+      let w : IsTrace m.edges seen s = trace m.edges seen s reach in (
+        right_word w.labels,
+        record {
+          labels = w.labels;
+          accepted =
+              record { last = s; final = final; walk = w.walk };
+          fit = w.fit;
+          is = refl;
+        },
       )),
-    )
+  (λ (output, o). k.1 (
+    o.accepted.last,
+    (
+      arrive m.edges [] seen 0 o.accepted.last o.labels o.accepted.walk (begin refl refl)
+          o.fit,
+      o.accepted.final,
+    ),
+  )),
+)
 
-pub told_rows : (m : Machine) (seen : List Input) (l : Lives) (rows : List Row) → IsLive m seen l →
-    rows ≡ l.rows → (at : ℕ) (row : Row) → slice_get rows at ≡ Some row → Tells m.finals row
-told_rows m seen l rows live r at row h =
-    live.known_is.told at row (ap (λ (z : List Row). slice_get z at) (sym r) ∙ h)
-
-pub dead_law : (m : Machine) (seen : List Input) (l : Lives) (rows : List Row) (void none : Bool) →
-    IsMachine m → IsTrimmed m → IsLive m seen l → rows ≡ l.rows → void ≡ l.is_void → void ≡ false
-    → ((edges : List Edge) (s : List Input) → AreRows edges s rows →
-    (IsTrue none ↔ ((t : ℕ) → Reach edges s t → ⊥))) → IsTrue none ↔ (FitBeginning m seen → ⊥)
-dead_law m seen l rows void none ok trimmed live r v not_void h =
-    let k = h m.edges seen (subst (λ (z : List Row). AreRows m.edges seen z) (sym r)
-    live.rows_are) in
+pub dead_law : (m : Machine) (seen : List Input) (l : Lives) (void none : Bool) → IsMachine m →
+    IsTrimmed m → IsLive m seen l → void ≡ l.is_void → void ≡ false →
+    IsTrue none ↔ ((t : ℕ) → Reach m.edges seen t → ⊥) → IsTrue none ↔ (FitBeginning m seen → ⊥)
+dead_law m seen l void none ok trimmed live v not_void k =
     let some : m.finals ≡ [] → ⊥ = λ e. let t : l.is_void ≡ true = live.void_is.1 e in cc in (
       (λ t b. let (s, reach) = beginning_reaches m seen b in k.0 t s reach),
       (λ f. k.1 (λ s reach. f (beginning m seen s ok trimmed some reach))),
@@ -307,10 +300,15 @@ outputs_law m seen backs words are k output = (
       (are.complete (reverse output) (tail_from_output m seen output o))))),
 )
 
-pub live_rows : (m : Machine) (seen : List Input) (l : Lives) (rows : List Row) → rows ≡ l.rows →
-    IsLive m seen l → AreRows m.edges seen rows
-live_rows m seen l rows e live =
-    subst (λ (z : List Row). AreRows m.edges seen z) (sym e) live.rows_are
+-- what is reached, as it is seen
+pub held_as : (m : Machine) (seen : List Input) (l : Lives) (ways : Ways) → ways ≡ l.ways →
+    IsLive m seen l → IsHeld m seen ways
+held_as m seen l ways e live = subst (λ (z : Ways). IsHeld m seen z) (sym e) live.held
+
+pub outline_there : (m : Machine) (seen : List Input) (l : Lives) (outline : Outline) →
+    outline ≡ l.outline → IsLive m seen l → IsOutline m.edges outline
+outline_there m seen l outline e live =
+    subst (λ (z : Outline). IsOutline m.edges z) (sym e) live.outline_is
 
 pub same_members : (m : Machine) (seen : List Input) (words found : List (List Symbol)) →
     found ≡ words → ((w : List Symbol) → IsIn w words ↔ IsOutput m seen w) → (w : List Symbol) →
@@ -318,36 +316,58 @@ pub same_members : (m : Machine) (seen : List Input) (words found : List (List S
 same_members m seen words found e h w =
     subst (λ (z : List (List Symbol)). IsIn w z ↔ IsOutput m seen w) (sym e) (h w)
 
-pub start_law : (m : Machine) (l : Lives) → AreRows m.edges [] l.rows →
-    ((at : ℕ) (row : Row) → slice_get l.rows at ≡ Some row → Tells m.finals row) → l.known ≡ [] →
-    l.links ≡ [] → l.path ≡ [] → IsOutline m.edges l.outline →
-    (IsTrue l.is_void ↔ (m.finals ≡ [])) → IsLive m [] l
-start_law m l are told known links path outlined void =
-    record {
-      rows_are = are;
-      known_is =
-          nothing_known m.edges m.finals l.rows l.known l.links l.path told known links path;
-      outline_is = outlined;
-      void_is = void;
-    }
-
-pub live_on : (m : Machine) (seen seen' : List Input) (l old new : Lives) →
-    IsLive m seen l → old ≡ l
-    → (AreRows m.edges seen old.rows →
-    IsKnown m.edges m.finals old.rows old.known old.links old.path →
-    AreRows m.edges seen' new.rows
-    × IsKnown m.edges m.finals new.rows new.known new.links new.path) →
-    new.outline ≡ old.outline → new.is_void ≡ old.is_void → IsLive m seen' new
+pub live_on : (m : Machine) (seen seen' : List Input) (l old new : Lives) → IsLive m seen l →
+    old ≡ l → (IsHeld m seen old.ways → IsHeld m seen' new.ways) → new.outline ≡ old.outline →
+    new.is_void ≡ old.is_void → IsLive m seen' new
 live_on m seen seen' l old new live o h t v =
     let live' : IsLive m seen old = subst (λ (z : Lives). IsLive m seen z) (sym o) live in
-    let both : AreRows m.edges seen' new.rows
-    × IsKnown m.edges m.finals new.rows new.known new.links new.path =
-    h live'.rows_are live'.known_is in
     record {
-      rows_are = both.0;
-      known_is = both.1;
+      held = h live'.held;
       outline_is =
           subst (λ (z : Outline). IsOutline m.edges z) (sym t) live'.outline_is;
       void_is =
           subst (λ (z : Bool). IsTrue z ↔ (m.finals ≡ [])) (sym v) live'.void_is;
     }
+
+-- ---- by rows of states
+
+pub rows_start : (m : Machine) (r : RowLives) → AreRows m.edges [] r.rows →
+    ((at : ℕ) (row : Row) → slice_get r.rows at ≡ Some row → Tells m.finals row) → r.known ≡ [] →
+    r.links ≡ [] → r.path ≡ [] → AreLiveRows m [] r
+rows_start m r are told known links path = record {
+  rows_are = are;
+  known_is = nothing_known m.edges m.finals r.rows r.known r.links r.path told known links path;
+}
+
+pub rows_on : (m : Machine) (seen seen' : List Input) (r old new : RowLives) →
+    AreLiveRows m seen r → old ≡ r
+    → (AreRows m.edges seen old.rows →
+    IsKnown m.edges m.finals old.rows old.known old.links old.path →
+    AreRows m.edges seen' new.rows
+    × IsKnown m.edges m.finals new.rows new.known new.links new.path) → AreLiveRows m seen' new
+rows_on m seen seen' r old new are o h =
+    let are' : AreLiveRows m seen old = subst (λ (z : RowLives). AreLiveRows m seen z) (sym o) are
+    in
+    let both : AreRows m.edges seen' new.rows
+    × IsKnown m.edges m.finals new.rows new.known new.links new.path =
+    h are'.rows_are are'.known_is in record { rows_are = both.0; known_is = both.1 }
+
+pub rows_as : (m : Machine) (seen : List Input) (r : RowLives) (rows : List Row) →
+    rows ≡ r.rows → AreLiveRows m seen r → AreRows m.edges seen rows
+rows_as m seen r rows e are = subst (λ (z : List Row). AreRows m.edges seen z) (sym e) are.rows_are
+
+pub told_rows : (m : Machine) (seen : List Input) (r : RowLives) (rows : List Row) →
+    AreLiveRows m seen r → rows ≡ r.rows → (at : ℕ) (row : Row) → slice_get rows at ≡ Some row →
+    Tells m.finals row
+told_rows m seen r rows are e at row h =
+    are.known_is.told at row (ap (λ (z : List Row). slice_get z at) (sym e) ∙ h)
+
+-- ---- by either
+
+pub by_nodes : (m : Machine) (seen : List Input) (w : Ways) (t : Trails) → w ≡ Nodes t →
+    IsHeld m seen w → IsTrail m.edges seen t
+by_nodes m seen w t e held = subst (λ (z : Ways). IsHeld m seen z) e held
+
+pub by_rows : (m : Machine) (seen : List Input) (w : Ways) (r : RowLives) → w ≡ Rows r →
+    IsHeld m seen w → AreLiveRows m seen r
+by_rows m seen w r e held = subst (λ (z : Ways). IsHeld m seen z) e held

@@ -3,6 +3,7 @@ use Rattle.std.proofs.Common.{◌≡◌, ◌⊎◌, inl, inr, ℕ, Bool, true, f
 use Rattle.std.specs.Char.{is_ascii_lowercase}
 use Rattle.std.proofs.lemmas.Option.{none-some, same_Some}
 use Rattle.ap_symbol.specs.Case.{lower_lem}
+use Rattle.ap_symbol.specs.Fitting.{fits_lem}
 use Rattle.ap_symbol.proofs.CaseLaws.{lower_stays}
 use Rattle.std.proofs.lemmas.Bool.Decides.{nat_tests}
 use Rattle.ap_symbol.specs.declared.symbol.Symbol.{Symbol}
@@ -90,6 +91,10 @@ place_has edges pick from s j left p h e at =
 pub passes_as : (pick : Option Input) (input : Input) (e : Edge) → pick ≡ Some input →
     picks pick e ≡ true → fits_side input e.label.left ≡ true
 passes_as pick input e is h = ap (λ (z : Option Input). picks z e) (sym is) ∙ h
+
+pub picked_by : (input : Input) (x : Symbol) → fits_lem input.sensitive x input.symbol ≡ true →
+    (e : Edge) → e.label.left ≡ Some x → picks (Some input) e ≡ true
+picked_by input x fits e left = ap (fits_side input) left ∙ fits
 
 pub two_sides : (edges : List Edge) (pick : Option Input) (input : Input) (x y : Symbol)
     (other : Option Symbol) → pick ≡ Some input → input.symbol ≡ x → other ≡ Some y →

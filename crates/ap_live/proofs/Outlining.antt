@@ -1,7 +1,7 @@
 -- The outline of a transducer has its edges.
-use Rattle.std.proofs.Common.{◌≡◌, inl, inr, ℕ, ◌+◌, ◌-◌, ◌<◌, ◌≤◌, true, List, [], ◌∷◌, ◌++◌, refl, sym, ◌∙◌, ap, subst, arith, Option, Some, None, slice_get, length, get_or, suc, zero}
+use Rattle.std.proofs.Common.{◌≡◌, ◌⊎◌, inl, inr, ℕ, ◌+◌, ◌-◌, ◌<◌, ◌≤◌, true, List, [], ◌∷◌, ◌++◌, refl, sym, ◌∙◌, ap, subst, arith, Option, Some, None, slice_get, length, get_or, suc, zero}
 use Rattle.std.proofs.lemmas.Bool.{cases_lt}
-use Rattle.std.proofs.lemmas.Option.{same_Some, slice_get_within, get_or_from_slice_get}
+use Rattle.std.proofs.lemmas.Option.{same_Some, slice_get-get_or, slice_get_within, get_or_from_slice_get}
 use Rattle.std.specs.List.Sorted.{IsNonDecreasingBy}
 use Rattle.std.specs.Ordering.{nat_cmp, ordering_then, ordering_index, ordering_reverse}
 use Rattle.std.specs.declared.cmp.Ordering.{Ordering}
@@ -15,7 +15,7 @@ use Rattle.ap_fst.specs.declared.label.Edge.{Edge}
 use Rattle.ap_fst.proofs.LeftLaws.{places_sorted}
 use Rattle.ap_fst.proofs.OrderLaws.{side_total}
 use Rattle.ap_fst.proofs.PlaceLaws.{cmp_less, cmp_same}
-use Rattle.ap_live.specs.Outlines.{left_code, IsFirstPlace, AreFirsts, IsEntry, AreEntries, IsOutline, Rises, IsCut, IsCoded}
+use Rattle.ap_live.specs.Outlines.{side_code, IsFirstPlace, AreFirsts, IsEntry, AreEntries, IsOutline, Rises, IsCut, IsCoded}
 use Rattle.ap_live.specs.Fitting.{Input, picks, is_empty_side}
 use Rattle.ap_live.specs.Spreads.{SpreadOne, Picked, AnyPlace, HasLeft, HasLeftBelow, IsPlace}
 use Rattle.ap_live.specs.declared.arrivals.Arrival.{Arrival}
@@ -115,7 +115,7 @@ class_rises a b h = elim (cases_lt (side_class b) (side_class a)) [
 ]
 
 -- that of a tag or a mark
-other_code : (o : Option Symbol) → 2 ≤ side_class o → left_code o ≡ 4294967295
+other_code : (o : Option Symbol) → 2 ≤ side_class o → side_code o ≡ 4294967295
 other_code None h = absurd (omega arith)
 other_code (Some (Letter c)) h = absurd (omega arith)
 other_code (Some (Tag name)) h = refl
@@ -134,15 +134,15 @@ letters_rise c d h = elim (cases_lt d c) [
 ]
 
 others_rise : (a b : Option Symbol) → 2 ≤ side_class a → 1 ≤ ordering_index (side_cmp b a) →
-    left_code a ≤ left_code b
+    side_code a ≤ side_code b
 others_rise a b high h =
     let up : side_class a ≤ side_class b = class_rises a b h in
-    let one : left_code a ≡ 4294967295 = other_code a high in
-    let two : left_code b ≡ 4294967295 = other_code b (omega arith) in
+    let one : side_code a ≡ 4294967295 = other_code a high in
+    let two : side_code b ≡ 4294967295 = other_code b (omega arith) in
     omega arith
 
 letter_rises : (c : ℕ) (b : Option Symbol) → c + 1 ≤ 4294967295 →
-    1 ≤ ordering_index (side_cmp b (Some (Letter c))) → c + 1 ≤ left_code b
+    1 ≤ ordering_index (side_cmp b (Some (Letter c))) → c + 1 ≤ side_code b
 letter_rises c None small h = absurd (omega arith)
 letter_rises c (Some (Letter d)) small h =
     let up : c ≤ d = letters_rise c d h in omega arith
@@ -154,8 +154,8 @@ letter_rises c (Some Alarm) small h = small
 letter_rises c (Some Star) small h = small
 letter_rises c (Some At) small h = small
 
-code_rises : (a b : Option Symbol) → left_code a ≤ 4294967295 →
-    1 ≤ ordering_index (side_cmp b a) → left_code a ≤ left_code b
+code_rises : (a b : Option Symbol) → side_code a ≤ 4294967295 →
+    1 ≤ ordering_index (side_cmp b a) → side_code a ≤ side_code b
 code_rises None b small h = omega arith
 code_rises (Some (Letter c)) b small h = letter_rises c b small h
 code_rises (Some (Tag name)) b small h = others_rise (Some (Tag name)) b (omega arith) h
@@ -200,12 +200,22 @@ span_rises edges o from first last is ascend span j k x y at at' low le high =
     ap ordering_index (self_equal (side_cmp left left) (side_total.antisymm left left)) in
     let here' : left_place from left e ≡ ordering_index (side_cmp e.label.left left) =
     place_here from left e (span.inside k e there' (omega arith) high) in
-    let code : x.left ≡ left_code left = one.left_is in
-    let code' : y.left ≡ left_code e.label.left = two.left_is in
+    let code : x.left ≡ side_code left = one.left_is in
+    let code' : y.left ≡ side_code e.label.left = two.left_is in
     let small : x.left ≤ 4294967295 = one.small in
-    let up : left_code left ≤ left_code e.label.left =
+    let up : side_code left ≤ side_code e.label.left =
     code_rises left e.label.left (omega arith) (omega arith) in
     omega arith
+
+abbrev pub no_entry : Entry
+no_entry = record { left = 0; to = 0; right = 0 }
+
+-- what is read at a place
+pub read_at : (entries all : List Entry) (place : ℕ) → entries ≡ all → place < length all →
+    slice_get all place ≡ Some (get_or entries place no_entry)
+read_at entries all place same lt =
+    slice_get-get_or all place no_entry lt
+    ∙ ap (λ (z : List Entry). Some (get_or z place no_entry)) (sym same)
 
 -- ---- the edges with a left side, by its code
 
@@ -228,26 +238,54 @@ coded_there edges o pick from first last low code left within is s j p has =
       entry = x;
       at = at;
       left_is = (is.outline_is.entries j p.edge x p.at at).left_is
-          ∙ ap left_code (has p.edge p.at) ∙ is.left_is;
+          ∙ ap side_code (has p.edge p.at) ∙ is.left_is;
       low = inside.0;
       high = inside.1;
     }
 
 -- Nothing that is picked stands before the place.
+pub none_before : (edges : List Edge) (o : Outline) (pick : Option Input)
+    (from first last low code : ℕ) (left : Option Symbol) → last ≤ length o.entries.items →
+    IsCoded edges o pick from first last low code left
+    → (s j : ℕ) → Picked edges pick from s j → HasLeftBelow edges left low j → ⊥
+none_before edges o pick from first last low code left within is s j p (has, lt) =
+    let t : IsThere o first last code j =
+    coded_there edges o pick from first last low code left within is s j p has in
+    let less : t.entry.left < code = is.cut.before j t.entry t.at t.low lt in
+    let same : t.entry.left ≡ code = t.left_is in
+    omega arith
+
 pub coded_starts : (edges : List Edge) (o : Outline) (pick : Option Input)
     (from first last low code : ℕ) (left : Option Symbol) (states : List ℕ)
     (links : List Arrival) → last ≤ length o.entries.items →
     IsCoded edges o pick from first last low code left
     → SpreadOne edges pick from (HasLeftBelow edges left low) states links states links
 coded_starts edges o pick from first last low code left states links within is =
-    spread_none edges pick from (HasLeftBelow edges left low) states links (λ s j p (has, lt).
-    let t : IsThere o first last code j =
-    coded_there edges o pick from first last low code left within is s j p has in
-    let less : t.entry.left < code = is.cut.before j t.entry t.at t.low lt in
-    let same : t.entry.left ≡ code = t.left_is in
-    absurd (omega arith))
+    spread_none edges pick from (HasLeftBelow edges left low) states links
+    (none_before edges o pick from first last low code left within is)
 
 -- Nothing that is picked stands behind an entry with another code.
+pub all_before : (edges : List Edge) (o : Outline) (pick : Option Input)
+    (from first last low code : ℕ) (left : Option Symbol) (place : ℕ) (x : Entry) →
+    last ≤ length o.entries.items → slice_get o.entries.items place ≡ Some x →
+    (x.left ≡ code → ⊥) → low ≤ place → place < last
+    → IsCoded edges o pick from first last low code left
+    → (s j : ℕ) → Picked edges pick from s j → HasLeft edges left j → HasLeftBelow edges left place j
+all_before edges o pick from first last low code left place x within at other le lt is s j p has =
+    elim (cases_lt j place) [
+      | inl below ↦ (has, below)
+      | inr up ↦
+          let t : IsThere o first last code j =
+          coded_there edges o pick from first last low code left within is s j p has in
+          let least : first ≤ low = is.cut.from in
+          let more : code ≤ x.left = is.cut.behind place x at le lt in
+          let rise : x.left ≤ t.entry.left =
+          span_rises edges o from first last is.outline_is is.ascend is.span place j x t.entry
+          at t.at (omega arith) up t.high in
+          let same : t.entry.left ≡ code = t.left_is in
+          absurd (other (omega arith))
+    ]
+
 pub coded_stops : (edges : List Edge) (o : Outline) (pick : Option Input)
     (from first last low code : ℕ) (left : Option Symbol) (states : List ℕ)
     (links : List Arrival) (states' : List ℕ) (links' : List Arrival) (place : ℕ) (x : Entry) →
@@ -260,29 +298,18 @@ coded_stops edges o pick from first last low code left states links states' link
     at other le lt is h =
     spread_seen edges pick from (HasLeftBelow edges left place) (HasLeft edges left)
     states links states' links'
-    (λ s j p has. elim (cases_lt j place) [
-      | inl below ↦ (has, below)
-      | inr up ↦
-          let t : IsThere o first last code j =
-          coded_there edges o pick from first last low code left within is s j p has in
-          let least : first ≤ low = is.cut.from in
-          let more : code ≤ x.left = is.cut.behind place x at le lt in
-          let rise : x.left ≤ t.entry.left =
-          span_rises edges o from first last is.outline_is is.ascend is.span place j x t.entry
-          at t.at (omega arith) up t.high in
-          let same : t.entry.left ≡ code = t.left_is in
-          absurd (other (omega arith))
-    ]) h
+    (all_before edges o pick from first last low code left place x within at other le lt is) h
 
 -- an entry with the code
-record IsHere (edges : List Edge) (pick : Option Input) (from place : ℕ) (x : Entry) : Type 0 where
-  edge : Edge
-  at : slice_get edges place ≡ Some edge
-  leaves : edge.from ≡ from
-  to_is : edge.to ≡ x.to
-  picked : picks pick edge ≡ true
+pub record IsHere (edges : List Edge) (pick : Option Input) (from place : ℕ)
+    (x : Entry) : Type 0 where
+  pub edge : Edge
+  pub at : slice_get edges place ≡ Some edge
+  pub leaves : edge.from ≡ from
+  pub to_is : edge.to ≡ x.to
+  pub picked : picks pick edge ≡ true
 
-coded_here : (edges : List Edge) (o : Outline) (pick : Option Input)
+pub coded_here : (edges : List Edge) (o : Outline) (pick : Option Input)
     (from first last low code : ℕ) (left : Option Symbol) (place : ℕ) (x : Entry) →
     slice_get o.entries.items place ≡ Some x → x.left ≡ code → low ≤ place → place < last
     → IsCoded edges o pick from first last low code left → IsHere edges pick from place x
@@ -298,6 +325,13 @@ coded_here edges o pick from first last low code left place x at same le lt is =
       to_is = sym entry.to_is;
       picked = is.picked e (is.code_is e.label.left (sym entry.left_is ∙ same));
     }
+
+pub left_below : (edges : List Edge) (left : Option Symbol) (place k : ℕ) →
+    HasLeftBelow edges left (place + 1) k → HasLeftBelow edges left place k ⊎ (k ≡ place)
+left_below edges left place k (has, below) = elim (below_or_at place k below) [
+  | inl under ↦ inl (has, under)
+  | inr it ↦ inr it
+]
 
 pub coded_more : (edges : List Edge) (o : Outline) (pick : Option Input)
     (from first last low code : ℕ) (left : Option Symbol) (states : List ℕ)
@@ -316,13 +350,18 @@ coded_more edges o pick from first last low code left states links states' links
     coded_here edges o pick from first last low code left place x at same le lt is in
     spread_more edges pick from place e.edge (HasLeftBelow edges left place)
     (HasLeftBelow edges left (place + 1)) states links states' links' states'' links'' e.leaves
-    (λ k (has, below). elim (below_or_at place k below) [
-      | inl under ↦ inl (has, under)
-      | inr it ↦ inr it
-    ])
-    h (added edges e.edge e.at e.to_is e.picked)
+    (left_below edges left place) h (added edges e.edge e.at e.to_is e.picked)
 
 -- No edge of the state follows.
+pub all_below : (edges : List Edge) (o : Outline) (pick : Option Input)
+    (from first last low code : ℕ) (left : Option Symbol) (place : ℕ) → last ≤ place →
+    IsCoded edges o pick from first last low code left
+    → (s j : ℕ) → Picked edges pick from s j → HasLeft edges left j → HasLeftBelow edges left place j
+all_below edges o pick from first last low code left place end is s j p has = (
+  has,
+  (let lt : j < last = (is.span.outside j p.edge p.at (sym p.from_is)).1 in omega arith),
+)
+
 pub coded_over : (edges : List Edge) (o : Outline) (pick : Option Input)
     (from first last low code : ℕ) (left : Option Symbol) (states : List ℕ)
     (links : List Arrival) (states' : List ℕ) (links' : List Arrival) (place : ℕ) → last ≤ place →
@@ -332,15 +371,54 @@ pub coded_over : (edges : List Edge) (o : Outline) (pick : Option Input)
 coded_over edges o pick from first last low code left states links states' links' place end is h =
     spread_seen edges pick from (HasLeftBelow edges left place) (HasLeft edges left)
     states links states' links'
-    (λ s j p has. (
-      has,
-      (let lt : j < last = (is.span.outside j p.edge p.at (sym p.from_is)).1 in omega arith),
-    )) h
+    (all_below edges o pick from first last low code left place end is) h
 
 -- ---- which side a code is of
 
+-- where the first place has no entry with the code
+pub all_from : (edges : List Edge) (o : Outline) (pick : Option Input)
+    (from first last low code : ℕ) (left : Option Symbol) (entries : List Entry) →
+    last ≤ length o.entries.items → entries ≡ o.entries.items →
+    (low < last → (x : Entry) → slice_get entries low ≡ Some x → x.left ≡ code → ⊥)
+    → IsCoded edges o pick from first last low code left
+    → (s j : ℕ) → Picked edges pick from s j → HasLeft edges left j → HasLeftBelow edges left low j
+all_from edges o pick from first last low code left entries within same other is s j p has =
+    elim (cases_lt low last) [
+      | inl lt ↦
+          let (x, at) = some_at o.entries.items low (omega arith) in
+          all_before edges o pick from first last low code left low x within at
+          (other lt x (ap (λ (z : List Entry). slice_get z low) same ∙ at)) (omega arith) lt is s j
+          p has
+      | inr ge ↦ all_below edges o pick from first last low code left low ge is s j p has
+    ]
+
+-- A part of rising codes rises, and where it is cut the whole is.
+pub cut_within : (entries : List Entry) (first last low high code at : ℕ) → first ≤ low →
+    (low < high → high ≤ last) →
+    ((j : ℕ) (x : Entry) → slice_get entries j ≡ Some x → first ≤ j → j < low → x.left < code) →
+    ((j : ℕ) (x : Entry) → slice_get entries j ≡ Some x → high ≤ j → j < last → code ≤ x.left) →
+    Rises entries first last → (Rises entries low high → IsCut entries low high code at) →
+    IsCut entries first last code at
+cut_within entries first last low high code at from within before behind rises cut =
+    let part : Rises entries low high =
+    λ j k x y at_x at_y low_j le high_k. rises j k x y at_x at_y (omega arith) le
+    (let lt : low < high = omega arith in let end : high ≤ last = within lt in omega arith) in
+    let c : IsCut entries low high code at = cut part in
+    let least : low ≤ at = c.from in
+    record {
+      from = omega arith;
+      before = λ j x there low_j lt. elim (cases_lt j low) [
+        | inl less ↦ before j x there low_j less
+        | inr more ↦ c.before j x there more lt
+      ];
+      behind = λ j x there le lt. elim (cases_lt j high) [
+        | inl less ↦ c.behind j x there le less
+        | inr more ↦ behind j x there more lt
+      ];
+    }
+
 pub code_of_letter : (c : ℕ) (side : Option Symbol) → c + 1 < 4294967295 →
-    left_code side ≡ c + 1 → side ≡ Some (Letter c)
+    side_code side ≡ c + 1 → side ≡ Some (Letter c)
 code_of_letter c None small h = absurd (omega arith)
 code_of_letter c (Some (Letter d)) small h =
     let same : d ≡ c = omega arith in ap (λ (z : ℕ). Some (Letter z)) same
@@ -352,7 +430,7 @@ code_of_letter c (Some Alarm) small h = absurd (omega arith)
 code_of_letter c (Some Star) small h = absurd (omega arith)
 code_of_letter c (Some At) small h = absurd (omega arith)
 
-code_of_none : (side : Option Symbol) → left_code side ≡ 0 → side ≡ None
+pub code_of_none : (side : Option Symbol) → side_code side ≡ 0 → side ≡ None
 code_of_none None h = refl
 code_of_none (Some (Letter c)) h = absurd (omega arith)
 code_of_none (Some (Tag name)) h = absurd (omega arith)
@@ -401,10 +479,15 @@ silent_coded edges o from first last is ascend span = record {
 }
 
 -- All that is picked has an empty left side.
+pub silent_side : (edges : List Edge) (from s j : ℕ) → Picked edges None from s j → AnyPlace j →
+    HasLeft edges None j
+silent_side edges from s j p any =
+    place_has edges None from s j None p (side_none p.edge.label.left p.passes)
+
 pub silent_all : (edges : List Edge) (from : ℕ) (states : List ℕ) (links : List Arrival)
     (states' : List ℕ) (links' : List Arrival) →
     SpreadOne edges None from (HasLeft edges None) states links states' links'
     → SpreadOne edges None from AnyPlace states links states' links'
 silent_all edges from states links states' links' h =
     spread_seen edges None from (HasLeft edges None) AnyPlace states links states' links'
-    (λ s j p any. place_has edges None from s j None p (side_none p.edge.label.left p.passes)) h
+    (silent_side edges from) h

@@ -313,7 +313,7 @@ get_taken (y ∷ xs) zero k x h = absurd (none-some x h)
 get_taken (y ∷ xs) (suc n) zero x h = (h, omega arith)
 get_taken (y ∷ xs) (suc n) (suc k) x h = let (a, b) = get_taken xs n k x h in (a, omega arith)
 
-take_taken : {X : Type 0} (xs : List X) (n k : ℕ) → k ≤ n → take k (take n xs) ≡ take k xs
+pub take_taken : {X : Type 0} (xs : List X) (n k : ℕ) → k ≤ n → take k (take n xs) ≡ take k xs
 take_taken [] zero zero h = refl
 take_taken [] zero (suc k) h = refl
 take_taken [] (suc n) zero h = refl

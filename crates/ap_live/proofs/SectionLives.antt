@@ -13,7 +13,8 @@ use Rattle.ap_fst.specs.declared.label.Edge.{Edge}
 use Rattle.ap_live.specs.Fitting.{Input}
 use Rattle.ap_live.specs.Found.{outputs, has_words, has_output, is_viable}
 use Rattle.ap_live.specs.Outputs.{FitBeginning, IsOutput, WritesWords}
-use Rattle.ap_live.specs.Rows.{Lives, IsLive, Reach, begin, silent, taken}
+use Rattle.ap_live.specs.Lives.{Lives, IsLive}
+use Rattle.ap_live.specs.Rows.{Reach, begin, silent, taken}
 use Rattle.ap_live.specs.Lexicon.{inputs_of}
 use Rattle.ap_live.specs.SectionLives.{IsLiveBehind, IsLiveIfAny, IsSectionLive}
 use Rattle.ap_live.specs.declared.section_live.SectionLive.{SectionLive}

@@ -127,7 +127,7 @@ spread_none edges pick from seen states links none = record {
   distinct = λ n d. d;
 }
 
-one_edge : (edges : List Edge) (pick : Option Input) (from s k j : ℕ)
+pub one_edge : (edges : List Edge) (pick : Option Input) (from s k j : ℕ)
     (p : Picked edges pick from s k) (e : Edge) → k ≡ j → slice_get edges j ≡ Some e → p.edge ≡ e
 one_edge edges pick from s k j p e same at =
     same_Some p.edge e (sym p.at ∙ ap (slice_get edges) same ∙ at)

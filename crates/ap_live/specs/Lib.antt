@@ -3,6 +3,8 @@ pub mod Spreads
 pub mod Outlines
 pub mod Leads
 pub mod Rows
+pub mod Trails
+pub mod Lives
 pub mod Tails
 pub mod Chains
 pub mod Outputs

@@ -10,17 +10,17 @@ use Rattle.ap_live.specs.Fitting.{Input, picks}
 use Rattle.ap_live.specs.declared.outline.Entry.{Entry}
 use Rattle.ap_live.specs.declared.outline.Outline.{Outline}
 
--- the code of a left side
-abbrev pub left_code : Option Symbol → ℕ
-left_code None = 0
-left_code (Some (Letter c)) = c + 1
-left_code (Some (Tag name)) = 4294967295
-left_code (Some Blank) = 4294967295
-left_code (Some Join) = 4294967295
-left_code (Some Queue) = 4294967295
-left_code (Some Alarm) = 4294967295
-left_code (Some Star) = 4294967295
-left_code (Some At) = 4294967295
+-- the code of a side, left or right
+abbrev pub side_code : Option Symbol → ℕ
+side_code None = 0
+side_code (Some (Letter c)) = c + 1
+side_code (Some (Tag name)) = 4294967295
+side_code (Some Blank) = 4294967295
+side_code (Some Join) = 4294967295
+side_code (Some Queue) = 4294967295
+side_code (Some Alarm) = 4294967295
+side_code (Some Star) = 4294967295
+side_code (Some At) = 4294967295
 
 -- Edges before this place leave smaller states, and those from it on do not.
 pub record IsFirstPlace (edges : List Edge) (state place : ℕ) : Type 0 where
@@ -34,9 +34,10 @@ AreFirsts edges firsts = (state place : ℕ) → slice_get firsts state ≡ Some
     IsFirstPlace edges state place
 
 pub record IsEntry (e : Edge) (entry : Entry) : Type 0 where
-  pub left_is : entry.left ≡ left_code e.label.left
+  pub left_is : entry.left ≡ side_code e.label.left
   pub small : entry.left ≤ 4294967295
   pub to_is : entry.to ≡ e.to
+  pub right_is : entry.right ≡ side_code e.label.right
 
 -- entries of the first edges
 abbrev pub AreEntries : List Edge → List Entry → Type 0
@@ -68,6 +69,6 @@ pub record IsCoded (edges : List Edge) (o : Outline) (pick : Option Input)
   pub ascend : Ascends edge_cmp edges
   pub span : IsSpan edges from first last
   pub cut : IsCut o.entries.items first last code low
-  pub code_is : (side : Option Symbol) → left_code side ≡ code → side ≡ left
-  pub left_is : left_code left ≡ code
+  pub code_is : (side : Option Symbol) → side_code side ≡ code → side ≡ left
+  pub left_is : side_code left ≡ code
   pub picked : (e : Edge) → e.label.left ≡ left → picks pick e ≡ true

@@ -1,14 +1,12 @@
-use Rattle.std.specs.Prelude.{◌≡◌, ◌↔◌, ℕ, ◌+◌, ◌-◌, Bool, IsTrue, List, [], ◌∷◌, ◌++◌, Option, Some, None, slice_get, length, take}
+use Rattle.std.specs.Prelude.{◌≡◌, ◌↔◌, ℕ, ◌+◌, ◌-◌, IsTrue, List, [], ◌∷◌, ◌++◌, Option, Some, None, slice_get, length, take}
 use Rattle.std.specs.List.Sorted.{IsNonDecreasingBy}
 use Rattle.ap_fst.specs.Lists.{IsIn}
 use Rattle.ap_fst.specs.Machines.{Machine}
 use Rattle.ap_fst.specs.declared.label.Edge.{Edge}
 use Rattle.ap_live.specs.Fitting.{Input}
-use Rattle.ap_live.specs.Outlines.{IsOutline}
 use Rattle.ap_live.specs.Spreads.{Picked, Spread, Closed, arrival, arrival_to}
 use Rattle.ap_live.specs.declared.arrivals.Arrival.{Arrival}
 use Rattle.ap_live.specs.declared.known.Link.{Link}
-use Rattle.ap_live.specs.declared.outline.Outline.{Outline}
 use Rattle.ap_live.specs.declared.rows.Row.{Row}
 
 -- these inputs lead from the start to a state
@@ -141,19 +139,15 @@ pub record Follows (edges : List Edge) (rows known : List Row) (path : List ℕ)
   pub next : IsNext edges (Some input) last.states.items row
   pub alike : HasStates known set row.states.items
 
--- what is seen of a live set: its rows, the known rows with their links and the numbers of the
--- first rows among them, the transducer's outline, and whether it has no final state
-pub record Lives : Type 0 where
+-- what is seen of the rows of a live set: they, the known rows with their links, and the numbers of
+-- the first rows among them
+pub record RowLives : Type 0 where
   pub rows : List Row
   pub known : List Row
   pub links : List Link
   pub path : List ℕ
-  pub outline : Outline
-  pub is_void : Bool
 
--- the live set of a transducer after these inputs
-pub record IsLive (m : Machine) (seen : List Input) (l : Lives) : Type 0 where
-  pub rows_are : AreRows m.edges seen l.rows
-  pub known_is : IsKnown m.edges m.finals l.rows l.known l.links l.path
-  pub outline_is : IsOutline m.edges l.outline
-  pub void_is : IsTrue l.is_void ↔ (m.finals ≡ [])
+-- the rows of a transducer after these inputs
+pub record AreLiveRows (m : Machine) (seen : List Input) (r : RowLives) : Type 0 where
+  pub rows_are : AreRows m.edges seen r.rows
+  pub known_is : IsKnown m.edges m.finals r.rows r.known r.links r.path

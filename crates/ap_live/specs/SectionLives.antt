@@ -5,7 +5,8 @@ use Rattle.ap_fst.specs.Machines.{Machine}
 use Rattle.ap_fst.specs.Sections.{Parts}
 use Rattle.ap_live.specs.Fitting.{Input}
 use Rattle.ap_live.specs.Lexicon.{inputs_of}
-use Rattle.ap_live.specs.Rows.{Lives, IsLive, Reach}
+use Rattle.ap_live.specs.Lives.{Lives, IsLive}
+use Rattle.ap_live.specs.Rows.{Reach}
 use Rattle.ap_live.specs.declared.live_sections.LiveSections.{LiveSections}
 use Rattle.ap_live.specs.declared.section_live.SectionLive.{SectionLive}
 

@@ -2,12 +2,14 @@ ghost use Rattle.std.specs.Prelude.{◌≡◌, ◌↔◌, ◌++◌, ◌∷◌, �
 ghost use Rattle.std.specs.Option.{option_copied};
 ghost use Rattle.std.specs.List.Sorted.{IsStrictlySortedBy};
 ghost use Rattle.ap_symbol.specs.Rendering.{word_cmp};
+ghost use Rattle.ap_symbol.specs.Words.{AreProper};
 ghost use Rattle.ap_symbol.specs.declared.symbol.Symbol.{Symbol};
 ghost use Rattle.ap_fst.specs.Lists.{IsIn};
 ghost use Rattle.ap_fst.specs.Silence.{HasNoEmptyCycle};
 ghost use Rattle.ap_fst.specs.declared.label.Edge.{Edge};
 ghost use Rattle.ap_live.specs.Chains.{Head, IsChain, IsOnlyArrival, IsOnlyFinal, IsStepBack, written, written_by};
 ghost use Rattle.ap_live.specs.Fitting.{Input};
+ghost use Rattle.ap_live.specs.Outlines.{IsOutline};
 ghost use Rattle.ap_live.specs.Outputs.{IsOutput, WritesWords, is_word_side};
 ghost use Rattle.ap_live.specs.Rows.{AreRows};
 ghost use Rattle.ap_live.specs.Tails.{AreBacks};
@@ -15,9 +17,10 @@ ghost use Rattle.ap_live.specs.Tails.{AreBacks};
 use crate::arrivals::{Arrival, arrivals_at};
 use crate::backward::{backs_of, edge_at, only_link};
 use crate::held::HeldRow;
+use crate::outline::{Outline, letter_of, right_at};
 use crate::wording::{SYMBOL_BYTES, ordered_words};
 use ap_fst::{Edge, Fst};
-use ap_symbol::{Memory, Word};
+use ap_symbol::{Memory, Symbol, Word};
 use std::alloc::Global;
 
 /// So many edges with an empty left side, as of tags, are gone back over at most.
@@ -140,8 +143,8 @@ fn chain_of(alloc: Global, fst: &Fst, rows: &[HeldRow]) -> Result<Option<Vec<usi
     Ok(None)
 }
 
-/// Appends what the edge at a place writes.
-fn push_written(alloc: Global, edges: &[Edge], place: usize, word: &mut Word) -> Result<(), Memory>
+/// Appends what the edge at a place writes, as it tells itself.
+fn push_right(alloc: Global, edges: &[Edge], place: usize, word: &mut Word) -> Result<(), Memory>
     requires { (e : Edge) → IsIn e edges.now → IsTrue (is_word_side e.label.right) }
     ensures { OnOk result (word.new ≡ word.old ++ written_by (slice_get edges.now place)) }
 {
@@ -154,28 +157,67 @@ fn push_written(alloc: Global, edges: &[Edge], place: usize, word: &mut Word) ->
     }
 }
 
+/// Appends what the edge at a place writes. The outline tells a letter, and that there is nothing;
+/// else the edge itself is read, which takes longer, since edges take much room.
+fn push_written(
+    alloc: Global,
+    edges: &[Edge],
+    outline: &Outline,
+    place: usize,
+    word: &mut Word,
+) -> Result<(), Memory>
+    requires { (e : Edge) → IsIn e edges.now → IsTrue (is_word_side e.label.right) }
+    ensures { OnOk result (IsOutline edges.now outline.now → word.new ≡ word.old
+        ++ written_by (slice_get edges.now place)) }
+{
+    if place >= edges.len() {
+        return Ok(());
+    }
+    let code = right_at(outline, place);
+    if code == 0 {
+        return Ok(());
+    }
+    match letter_of(code) {
+        Some(letter) => word.push(Symbol::Letter(letter)),
+        None => push_right(alloc, edges, place, word),
+    }
+}
+
 /// The word that the edges at these places write, the last first.
-fn word_along(alloc: Global, fst: &Fst, places: Vec<usize>) -> Result<Word, Memory>
+pub(crate) fn word_along(
+    alloc: Global,
+    fst: &Fst,
+    outline: &Outline,
+    places: Vec<usize>,
+) -> Result<Word, Memory>
     requires { WritesWords fst.now }
-    ensures { IfOk result (λ word. word ≡ reverse (written fst.now.edges places.items)) }
+    ensures is { IfOk result (λ word. IsOutline fst.now.edges outline.now → word ≡ reverse
+        (written fst.now.edges places.items)) }
+    ensures proper { IfOk result (λ word. AreProper word) }
 {
     let edges = fst.edges();
     let len = places.len();
     let mut places = places;
     let mut word = Word::with_capacity(alloc, len, len.saturating_mul(SYMBOL_BYTES))?;
     while let Some(place) = places.pop() {
-        push_written(alloc, edges, place, &mut word)?;
+        push_written(alloc, edges, outline, place, &mut word)?;
     }
+    let _ = word.symbols();
     Ok(word)
 }
 
 /// The outputs of these rows in the order of words, each once. Where one path alone leads to a
 /// final state, it is gone back, and its word made forwards; else all are gone back at once.
-pub(crate) fn words_back(alloc: Global, fst: &Fst, rows: &[HeldRow]) -> Result<Vec<Word>, Memory>
+pub(crate) fn words_back(
+    alloc: Global,
+    fst: &Fst,
+    outline: &Outline,
+    rows: &[HeldRow],
+) -> Result<Vec<Word>, Memory>
     requires no_cycle { HasNoEmptyCycle fst.now }
     requires writes { WritesWords fst.now }
-    ensures members { IfOk result (λ words. (seen : List Input) →
-        AreRows fst.now.edges seen rows.now → (w : List Symbol) →
+    ensures members { IfOk result (λ words. IsOutline fst.now.edges outline.now →
+        (seen : List Input) → AreRows fst.now.edges seen rows.now → (w : List Symbol) →
         IsIn w words.items ↔ IsOutput fst.now seen w) }
     ensures order { IfOk result (λ words. IsStrictlySortedBy word_cmp words.items) }
 {
@@ -186,7 +228,7 @@ pub(crate) fn words_back(alloc: Global, fst: &Fst, rows: &[HeldRow]) -> Result<V
         }
         Some(chain) => {
             let mut words = Vec::with_capacity(alloc, 1)?;
-            words.push(word_along(alloc, fst, chain)?)?;
+            words.push(word_along(alloc, fst, outline, chain)?)?;
             Ok(words)
         }
     }

@@ -5,7 +5,7 @@ ghost use Rattle.ap_fst.specs.Order.{edge_cmp};
 ghost use Rattle.ap_fst.specs.declared.label.Edge.{Edge};
 ghost use Rattle.ap_live.specs.Fitting.{Input};
 ghost use Rattle.ap_live.specs.Leads.{IsLead, IsQuiet};
-ghost use Rattle.ap_live.specs.Outlines.{IsOutline, left_code};
+ghost use Rattle.ap_live.specs.Outlines.{IsOutline, side_code};
 ghost use Rattle.ap_live.specs.Spreads.{IsOther};
 
 use crate::arrivals::Arrival;
@@ -23,7 +23,7 @@ pub enum Lead {
 }
 
 /// Whether an entry with this code stands at the place, before the last.
-fn has_code(entries: &[Entry], place: usize, last: usize, code: u32) -> bool
+pub(crate) fn has_code(entries: &[Entry], place: usize, last: usize, code: u32) -> bool
     requires { last ≤ length entries.now }
     ensures there { result ≡ true → place < last × ((x : Entry) →
         slice_get entries.now place ≡ Some x → x.left ≡ code) }
@@ -61,7 +61,7 @@ fn lead_by(outline: &Outline, entry: Entry, edge: usize) -> Lead
 /// Where an input with this code leads from a state, if no other symbol fits it.
 fn lead_from(outline: &Outline, from: usize, code: u32) -> Lead
     ensures { (edges : List Edge) (input : Input) → IsOutline edges outline.now →
-        Ascends edge_cmp edges → IsOther input None → code ≡ left_code (Some input.symbol) →
+        Ascends edge_cmp edges → IsOther input None → code ≡ side_code (Some input.symbol) →
         IsLead edges (Some input) from result }
 {
     let Some((first, last)) = span_in(outline, from) else {

@@ -1,5 +1,5 @@
-//! Live sets: the states of a transducer that the inputs so far lead to, and the outputs of the
-//! paths that lead on to a final state; those of the four sections of a compiled dictionary, and
+//! Live sets: the ways along which the inputs so far lead in a transducer, and the outputs of those
+//! that end at a final state; those of the four sections of a compiled dictionary, and
 //! the lexicon that they are of.
 #![tactic(auto)]
 
@@ -13,7 +13,10 @@ mod laws;
 mod lead;
 mod lexicon_laws;
 mod live;
+mod live_rows;
 mod live_sections;
+mod node_rows;
+mod nodes;
 mod outline;
 mod picking;
 mod readable;
@@ -21,6 +24,9 @@ mod readings;
 mod rows;
 mod section_live;
 mod stack;
+mod taken;
+mod trail;
+mod ways;
 mod wording;
 
 pub use laws::{outputs_law, viable_law};

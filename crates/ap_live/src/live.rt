@@ -7,46 +7,35 @@ ghost use Rattle.ap_fst.specs.Machines.{Machine, IsMachine};
 ghost use Rattle.ap_fst.specs.Silence.{HasNoEmptyCycle};
 ghost use Rattle.ap_fst.specs.Trimming.{IsTrimmed};
 
-use crate::chain::words_back;
-use crate::held::{ends_finally, reaches_none};
-use crate::known::{Known, add_row, cut_rows, nothing_known};
 use crate::outline::{Outline, outline_of};
-use crate::stack::{Rows, first_rows};
+use crate::ways::Ways;
 use ap_fst::Fst;
 use ap_symbol::{Memory, Symbol, Words};
 use std::alloc::Global;
 use std::marker::Model;
 
-/// What the inputs so far reach in a transducer: for each number of inputs, from none on, the
-/// states reached and the edges by which each was reached. It keeps no output; `finals` makes the
-/// outputs, back from the final states alone, so that a path that leads to none costs nothing.
+/// What the inputs so far reach in a transducer: the ways that they lead along, for each number of
+/// inputs, from none on. It keeps no output; `finals` makes the outputs, back from the final states
+/// alone, so that a way that leads to none costs nothing.
 ///
 /// A transducer reads its left sides. Its symbols fit the inputs one by one, each under the flag
 /// for case of its own step.
 ///
-/// Rows that were computed are kept, and taken again where the same input comes at the same states.
-/// Where they have become too many, `cut` to no input lets them go.
-///
 /// `outline` is that of the transducer that it was started for.
 #[derive(Debug, Drop)]
 pub struct Live {
-    rows: Rows,
-    known: Known,
+    ways: Ways,
     outline: Outline,
     is_void: bool,
 }
 
 impl Model for Live {
-    ghost use Rattle.ap_live.specs.Rows.{Lives};
+    ghost use Rattle.ap_live.specs.Lives.{Lives};
 
     ghost Value = { Lives };
 
     ghost view = { λ l. record {
-      rows = l.rows;
-      known = l.known.rows.items;
-      links =
-          l.known.links.items;
-      path = l.known.path.items;
+      ways = l.ways;
       outline = l.outline;
       is_void = l.is_void;
     } };
@@ -60,7 +49,8 @@ fn has_no_final(fst: &Fst) -> bool
 
 impl Live {
     ghost use Rattle.ap_live.specs.Fitting.{Input};
-    ghost use Rattle.ap_live.specs.Rows.{IsLive, Reach};
+    ghost use Rattle.ap_live.specs.Lives.{IsLive};
+    ghost use Rattle.ap_live.specs.Rows.{Reach};
     ghost use Rattle.ap_live.specs.Outputs.{IsOutput, FitBeginning, WritesWords};
     ghost use Rattle.ap_live.specs.Found.{outputs, has_output, is_viable};
 
@@ -70,11 +60,10 @@ impl Live {
         ensures { IfOk result (λ live. IsLive fst.now [] live) }
     {
         let outline = outline_of(alloc, fst)?;
-        let rows = first_rows(alloc, fst, &outline)?;
+        let ways = Ways::start(alloc, fst, &outline)?;
         let is_void = has_no_final(fst);
         Ok(Live {
-            rows,
-            known: nothing_known(alloc),
+            ways,
             outline,
             is_void,
         })
@@ -89,15 +78,7 @@ impl Live {
             ∷ []) self.new) }
         ensures err { OnErr result (self.new ≡ self.old) }
     {
-        let outline = &self.outline;
-        add_row(
-            &mut self.rows,
-            &mut self.known,
-            fst,
-            outline,
-            input,
-            sensitive,
-        )
+        self.ways.step(fst, &self.outline, input, sensitive)
     }
 
     /// The outputs of the inputs so far, for the same transducer, which has no cycle of edges with
@@ -114,7 +95,7 @@ impl Live {
         ensures order { IfOk result (λ words. IsStrictlySortedBy word_cmp words) }
     {
         let _ = fst.states();
-        let words = words_back(alloc, fst, self.rows.as_slice())?;
+        let words = self.ways.words(alloc, fst, &self.outline)?;
         Ok(Words::from_vec(words))
     }
 
@@ -127,7 +108,7 @@ impl Live {
             → result ≡ has_output fst.now seen }
     {
         let _ = fst.states();
-        ends_finally(self.rows.as_slice())
+        self.ways.accepts(fst)
     }
 
     /// The number of inputs so far.
@@ -135,7 +116,7 @@ impl Live {
         ensures { (m : Machine) (seen : List Input) → IsLive m seen self.now →
             result ≡ length seen }
     {
-        self.rows.len().saturating_sub(1)
+        self.ways.len()
     }
 
     /// Goes back to the first so many inputs; where there are no more, nothing changes. 0 makes it
@@ -144,7 +125,7 @@ impl Live {
         ensures { (m : Machine) (seen : List Input) → IsLive m seen self.old →
             IsLive m (take len seen) self.new }
     {
-        cut_rows(&mut self.rows, &mut self.known, len);
+        self.ways.cut(len);
     }
 
     /// Whether the inputs reach no state. It takes no memory.
@@ -152,7 +133,7 @@ impl Live {
         ensures { (m : Machine) (seen : List Input) → IsLive m seen self.now →
             (IsTrue result ↔ ((s : ℕ) → Reach m.edges seen s → ⊥)) }
     {
-        reaches_none(self.rows.as_slice())
+        self.ways.reaches_none()
     }
 
     /// Whether the inputs fit no beginning of the left word of an accepted label list. This is
@@ -163,6 +144,6 @@ impl Live {
         ensures found { (m : Machine) (seen : List Input) → IsMachine m → HasNoEmptyCycle m →
             IsTrimmed m → IsLive m seen self.now → result ≡ not (is_viable m seen) }
     {
-        self.is_void || reaches_none(self.rows.as_slice())
+        self.is_void || self.ways.reaches_none()
     }
 }

@@ -88,6 +88,9 @@ impl LiveSections {
     {
         let _ = compiled.alphabet();
         let standard = self.standard.is_dead();
+        if !standard {
+            return false;
+        }
         let inconditional = self.inconditional.is_dead();
         let postblank = self.postblank.is_dead();
         let preblank = self.preblank.is_dead();

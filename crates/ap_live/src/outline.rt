@@ -1,22 +1,24 @@
 ghost use Rattle.std.specs.Prelude.{false, ◌≡◌, ◌<◌, ◌≤◌, ◌+◌, ℕ, IfOk, OnOk, IsTrue, List, Some, length, slice_get};
 ghost use Rattle.std.specs.List.Sorted.{IsNonDecreasingBy};
+ghost use Rattle.ap_symbol.specs.Words.{is_white};
 ghost use Rattle.ap_fst.specs.Machines.{edge_from, IsSpan};
 ghost use Rattle.ap_fst.specs.declared.label.Edge.{Edge};
-ghost use Rattle.ap_live.specs.Outlines.{AreEntries, AreFirsts, IsCut, IsFirstPlace, IsOutline, Rises, left_code};
+ghost use Rattle.ap_live.specs.Outlines.{AreEntries, AreFirsts, IsCut, IsFirstPlace, IsOutline, Rises, side_code};
 
 use ap_fst::{Edge, Fst};
-use ap_symbol::{Memory, Symbol};
+use ap_symbol::{Memory, Symbol, is_white};
 use std::alloc::Global;
 
-/// The code of a left side with a tag or a mark. That of an empty side is 0, and that of a letter
+/// The code of a side with a tag or a mark. That of an empty side is 0, and that of a letter
 /// is one more than the letter.
 const OTHER: u32 = u32::MAX;
 
-/// The code of an edge's left side, and the state that it enters.
+/// The codes of an edge's sides, and the state that it enters.
 #[derive(Clone, Copy, Debug)]
 pub struct Entry {
     pub left: u32,
     pub to: u32,
+    pub right: u32,
 }
 
 /// What of a transducer is read at each step, in little room: for each state the place of its first
@@ -36,9 +38,9 @@ pub(crate) fn letter_code(letter: char) -> u32
     letter as u32 + 1
 }
 
-/// The code of an input, as of a left side.
+/// The code of an input, as of a side.
 pub(crate) fn code_of_input(input: &Symbol) -> u32
-    ensures { result ≡ left_code (Some input.now) }
+    ensures { result ≡ side_code (Some input.now) }
 {
     match input {
         Symbol::Letter(letter) => letter_code(*letter),
@@ -53,9 +55,9 @@ pub(crate) fn is_other_code(code: u32) -> bool
     code == OTHER
 }
 
-/// The code of a left side.
+/// The code of a side.
 fn code_of(side: &Option<Symbol>) -> u32
-    ensures { result ≡ left_code side.now }
+    ensures { result ≡ side_code side.now }
 {
     match side {
         None => 0,
@@ -145,7 +147,8 @@ fn entries_of(alloc: Global, edges: &[Edge]) -> Result<Vec<Entry>, Memory>
             return Ok(entries);
         };
         let left = code_of(&edge.label.left);
-        entries.push(Entry { left, to })?;
+        let right = code_of(&edge.label.right);
+        entries.push(Entry { left, to, right })?;
     }
     Ok(entries)
 }
@@ -157,6 +160,39 @@ pub(crate) fn outline_of(alloc: Global, fst: &Fst) -> Result<Outline, Memory>
     let firsts = firsts_of(alloc, fst)?;
     let entries = entries_of(alloc, fst.edges())?;
     Ok(Outline { firsts, entries })
+}
+
+/// The code of the right side of the edge at a place, as far as there is an entry: else it is that
+/// of tags and marks, which tells nothing.
+pub(crate) fn right_at(outline: &Outline, place: usize) -> u32
+    ensures { result < 4_294_967_295 → (edges : List Edge) (e : Edge) → IsOutline edges outline.now
+        → slice_get edges place ≡ Some e → side_code e.label.right ≡ result }
+{
+    match entry_at(outline.entries.as_slice(), place) {
+        None => OTHER,
+        Some(entry) => entry.right,
+    }
+}
+
+fn entry_at(entries: &[Entry], place: usize) -> Option<Entry>
+    ensures { result ≡ slice_get entries.now place }
+{
+    match entries.get(place) {
+        None => None,
+        Some(entry) => Some(*entry),
+    }
+}
+
+/// The letter of a code, where it is that of a letter that a word may hold.
+pub(crate) fn letter_of(code: u32) -> Option<char>
+    ensures { (c : ℕ) → result ≡ Some c → (code ≡ c + 1) × (code < 4_294_967_295)
+        × (is_white c ≡ false) }
+{
+    let letter = char::from_u32(code.checked_sub(1)?)?;
+    if is_white(letter) {
+        return None;
+    }
+    Some(letter)
 }
 
 fn first_at(firsts: &[u32], state: usize) -> Option<usize>
@@ -188,14 +224,34 @@ pub(crate) fn span_in(outline: &Outline, from: usize) -> Option<(usize, usize)>
     Some((first, last))
 }
 
-/// The first of these places whose entry has no smaller code than this, by halving.
+/// Among so few entries the one that is looked for is come to one by one: where to go on from one
+/// is known at once, and halving has to wait for each.
+const FEW: usize = 6;
+
+/// The first of these places whose entry has no smaller code than this, one by one.
+fn next_from(entries: &[Entry], first: usize, last: usize, code: u32) -> usize
+    requires { first < last → last ≤ length entries.now }
+    ensures { Rises entries.now first last → IsCut entries.now first last code result }
+{
+    let mut low = first;
+    while low < last {
+        if entries[low].left >= code {
+            return low;
+        }
+        low += 1;
+    }
+    low
+}
+
+/// The first of these places whose entry has no smaller code than this: by halving, and among few
+/// one by one.
 pub(crate) fn low_of(entries: &[Entry], first: usize, last: usize, code: u32) -> usize
     requires { last ≤ length entries.now }
     ensures { Rises entries.now first last → IsCut entries.now first last code result }
 {
     let mut low = first;
     let mut high = last;
-    while low < high {
+    while high.saturating_sub(low) > FEW {
         let middle = low + (high - low) / 2;
         if entries[middle].left < code {
             low = middle + 1;
@@ -203,5 +259,5 @@ pub(crate) fn low_of(entries: &[Entry], first: usize, last: usize, code: u32) ->
             high = middle;
         }
     }
-    low
+    next_from(entries, low, high, code)
 }

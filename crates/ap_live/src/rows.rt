@@ -496,8 +496,8 @@ pub(crate) fn fill_row(
 
 /// The row before any input.
 pub(crate) fn first_row(alloc: Global, fst: &Fst, outline: &Outline) -> Result<Row, Memory>
-    requires { IsOutline fst.now.edges outline.now }
-    ensures first { IfOk result (λ row. IsFirst fst.now.edges row) }
+    ensures first { IfOk result (λ row. IsOutline fst.now.edges outline.now →
+        IsFirst fst.now.edges row) }
     ensures order { IfOk result (λ row. IsOrdered row) }
     ensures told { IfOk result (λ row. Tells fst.now.finals row) }
 {

@@ -6,7 +6,8 @@ ghost use Rattle.ap_fst.specs.Silence.{HasNoEmptyCycle};
 ghost use Rattle.ap_live.specs.Fitting.{Input};
 ghost use Rattle.ap_live.specs.Found.{outputs, has_output, is_viable};
 ghost use Rattle.ap_live.specs.Outputs.{WritesWords};
-ghost use Rattle.ap_live.specs.Rows.{Lives, Reach};
+ghost use Rattle.ap_live.specs.Lives.{Lives};
+ghost use Rattle.ap_live.specs.Rows.{Reach};
 
 use crate::live::Live;
 use ap_fst::Fst;
@@ -81,6 +82,24 @@ impl SectionLive {
         }
     }
 
+    /// Goes on by a symbol where no symbol is counted yet, and answers whether there was memory for
+    /// it. If not, nothing was changed.
+    fn go_on(&mut self, fst: &Fst, input: &Symbol, sensitive: bool) -> bool
+        requires { (live : Lives) → self.old.live ≡ Some live → self.old.behind ≡ 0 }
+        ensures stepped { result ≡ true → (seen : List Input) → IsSectionLive fst.now seen self.old
+            → IsSectionLive fst.now (seen ++ record { symbol = input.now; sensitive = sensitive }
+            ∷ []) self.new }
+        ensures stayed { result ≡ false → self.new ≡ self.old }
+    {
+        match &mut self.live {
+            None => true,
+            Some(live) => match live.step(fst, input, sensitive) {
+                Ok(()) => true,
+                Err(_) => false,
+            },
+        }
+    }
+
     /// The same as `step`, with a look before it: for a kind of sections that mostly has no entries.
     pub fn step_if_held(&mut self, fst: &Fst, input: &Symbol, sensitive: bool) -> bool
         ensures stepped { result ≡ true → (seen : List Input) → IsSectionLive fst.now seen self.old
@@ -91,7 +110,10 @@ impl SectionLive {
         if !self.is_held() {
             return true;
         }
-        self.step(fst, input, sensitive)
+        if self.is_over() {
+            return self.pass();
+        }
+        self.go_on(fst, input, sensitive)
     }
 
     /// Goes on by a symbol, and answers whether there was memory for it. If not, nothing was
@@ -105,13 +127,7 @@ impl SectionLive {
         if self.is_over() {
             return self.pass();
         }
-        match &mut self.live {
-            None => true,
-            Some(live) => match live.step(fst, input, sensitive) {
-                Ok(()) => true,
-                Err(_) => false,
-            },
-        }
+        self.go_on(fst, input, sensitive)
     }
 
     /// Takes the last symbol back, if it was stepped by. It takes no memory.

@@ -211,8 +211,8 @@ fn only_of(items: &[usize]) -> Option<usize>
 
 /// The rows before any input.
 pub(crate) fn first_rows(alloc: Global, fst: &Fst, outline: &Outline) -> Result<Rows, Memory>
-    requires { IsOutline fst.now.edges outline.now }
-    ensures rows { IfOk result (λ rows. AreRows fst.now.edges [] rows) }
+    ensures rows { IfOk result (λ rows. IsOutline fst.now.edges outline.now →
+        AreRows fst.now.edges [] rows) }
     ensures told { IfOk result (λ rows. (at : ℕ) (row : Row) → slice_get rows at ≡ Some row →
         Tells fst.now.finals row) }
 {

@@ -1,37 +1,26 @@
-use Rattle.std.proofs.Common.{◌≡◌, ◌++◌, ◌∙◌, ◌∷◌, [], List, Option, ap, append-nil, subst, sym}
-use Rattle.std.specs.Prelude.{OnOk}
-use Rattle.std.specs.Option.{option_copied, option_to_list}
-use Rattle.ap_symbol.specs.Words.{is_word_symbol}
-use Rattle.ap_symbol.specs.declared.symbol.Symbol.{Symbol}
-use Rattle.ap_live.specs.Chains.{written_by}
-use Rattle.ap_live.specs.Outputs.{is_word_side}
-use Rattle.ap_live.proofs.Spreading.{in_from_place}
+use Rattle.std.proofs.Common.{◌≡◌, ◌<◌, ◌≤◌, arith, length}
+use Rattle.ap_live.proofs.TailLaws.{if_ok_more}
+use Rattle.ap_live.proofs.Writing.{beyond_written, empty_written, letter_written}
 use Rattle.ap_live.proofs.chain.push_written.Goals as goal
 
-pub push-requires : goal.push-requires
-push-requires c =
-    let at = sym c.edge_at.ensures ∙ ap option_copied c.in-Some.is in
-    let side = c.requires c.in-Some.edge.now
-    (in_from_place c.args.edges.now c.args.place c.in-Some.edge.now at) in
-    ap is_word_symbol c.in_ok-copy-in-Some-right.ensures
-    ∙ ap is_word_side (sym c.in-Some-right.is) ∙ side
+pub returns-then-place-edges : goal.returns-then-place-edges
+returns-then-place-edges c = λ is.
+    let beyond : length c.args.edges.now ≤ c.args.place = omega (arith, c.if-place-edges.true) in
+    beyond_written c.args.edges.now c.args.place c.args.word.now beyond
 
-pub returns-in-None : goal.returns-in-None
-returns-in-None c =
-    sym (ap (λ x. c.args.word.now ++ written_by x)
-    (sym c.edge_at.ensures ∙ ap option_copied c.in-None.is) ∙ append-nil c.args.word.now)
+pub returns-then-code-eq0 : goal.returns-then-code-eq0
+returns-then-code-eq0 c = λ is.
+    let empty : c.right_at-code.result ≡ 0 = c.if-code-eq0.true in
+    empty_written c.args.edges.now c.args.place c.right_at-code.result c.args.word.now empty
+    (λ e at. c.right_at-code.ensures (omega arith) c.args.edges.now e is at)
 
-pub returns-in-None-right : goal.returns-in-None-right
-returns-in-None-right c =
-    sym (ap (λ x. c.args.word.now ++ written_by x)
-    (sym c.edge_at.ensures ∙ ap option_copied c.in-Some.is)
-    ∙ ap (λ (x : Option Symbol). c.args.word.now ++ option_to_list x) c.in-None-right.is
-    ∙ append-nil c.args.word.now)
-
-pub returns-in_ok-copy-in-Some-right : goal.returns-in_ok-copy-in-Some-right
-returns-in_ok-copy-in-Some-right c =
-    subst (λ (x : List Symbol). OnOk c.push.result (c.push.new.self ≡ c.args.word.now ++ x))
-    (ap (λ (x : Symbol). x ∷ []) c.in_ok-copy-in-Some-right.ensures
-    ∙ ap (λ (x : Option Symbol). option_to_list x) (sym c.in-Some-right.is)
-    ∙ ap written_by (sym (sym c.edge_at.ensures ∙ ap option_copied c.in-Some.is)))
+pub returns-in-Some : goal.returns-in-Some
+returns-in-Some c = if_ok_more c.push.result _ _
+    (λ x made is.
+    let within : c.args.place < length c.args.edges.now =
+    omega (arith, c.if-place-edges.false) in
+    let told = c.letter_of.ensures c.in-Some.letter c.in-Some.is in
+    letter_written c.args.edges.now c.args.place c.right_at-code.result c.in-Some.letter
+    c.args.word.now c.push.new.self within told.0 told.1
+    (λ e at. c.right_at-code.ensures told.1 c.args.edges.now e is at) made)
     c.push.ensures.ok

@@ -1,12 +1,13 @@
 use Rattle.std.proofs.Common.{◌≡◌, ◌++◌, length}
 use Rattle.std.specs.Prelude.{reverse}
 use Rattle.ap_live.specs.Chains.{written}
+use Rattle.ap_live.specs.Outlines.{IsOutline}
 use Rattle.ap_live.proofs.chain.word_along.Given as goal
 
 abbrev pub invariant-loop-place : goal.invariant-loop-place
 invariant-loop-place l = record {
   edges : l.edges ≡ l.fst.edges;
-  word : reverse (written l.fst.edges l.initial.places.items)
+  word : IsOutline l.fst.edges l.outline → reverse (written l.fst.edges l.initial.places.items)
       ≡ l.word ++ reverse (written l.fst.edges l.places.items);
 }
 

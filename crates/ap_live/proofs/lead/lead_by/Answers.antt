@@ -1,4 +1,4 @@
-use Rattle.std.proofs.Common.{◌≡◌, ap, subst, sym, refl}
+use Rattle.std.proofs.Common.{◌≡◌, ap, subst, sym}
 use Rattle.ap_live.specs.Leads.{IsQuiet}
 use Rattle.ap_live.specs.declared.arrivals.Arrival.{Arrival}
 use Rattle.ap_live.proofs.Leading.{lead_is}

@@ -6,7 +6,7 @@ use Rattle.ap_live.proofs.Leading.{cut_there, lead_told, letter_side, nowhere, o
 use Rattle.ap_live.proofs.lead.lead_from.Goals as goal
 
 abbrev no_entry : Entry
-no_entry = record { left = 0; to = 0 }
+no_entry = record { left = 0; to = 0; right = 0 }
 
 pub returns-then-not-has_code : goal.returns-then-not-has_code
 returns-then-not-has_code c = λ edges input is ascend other code.

@@ -9,7 +9,11 @@ use Rattle.ap_live.proofs.outline.entries_of.Goals as goal
 pub loop-edge-preserved : goal.loop-edge-preserved
 loop-edge-preserved c =
     let edge : Edge = c.edge-item.result in
-    let entry : Entry = record { left = c.code_of-left.result; to = c.in-Ok.to } in
+    let entry : Entry = record {
+      left = c.code_of-left.result;
+      to = c.in-Ok.to;
+      right = c.code_of-right.result;
+    } in
     let read : slice_get c.args.edges.now c.loop-edge.edge-index ≡ Some edge =
     slice_get_read c.args.edges.now (length c.args.edges.now) c.loop-edge.edge-index edge refl
     c.loop-edge-test.true c.edge-item.is in
@@ -19,6 +23,7 @@ loop-edge-preserved c =
       left_is = c.code_of-left.ensures;
       small = omega (arith, c.code_of-left.type_inv);
       to_is = omega (arith, c.in-Ok.ensures);
+      right_is = c.code_of-right.ensures;
     } in
     record {
       count = omega (

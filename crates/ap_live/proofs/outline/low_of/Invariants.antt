@@ -3,8 +3,8 @@ use Rattle.ap_live.specs.Outlines.{Rises}
 use Rattle.ap_live.specs.declared.outline.Entry.{Entry}
 use Rattle.ap_live.proofs.outline.low_of.Given as goal
 
-abbrev pub invariant-loop-low : goal.invariant-loop-low
-invariant-loop-low l = record {
+abbrev pub invariant-loop-middle : goal.invariant-loop-middle
+invariant-loop-middle l = record {
   from : l.first ≤ l.low;
   within : (l.low < l.high → l.high ≤ l.last);
   before : Rises l.entries l.first l.last → (j : ℕ) (x : Entry) →
@@ -13,5 +13,5 @@ invariant-loop-low l = record {
       slice_get l.entries j ≡ Some x → l.high ≤ j → j < l.last → l.code ≤ x.left;
 }
 
-abbrev pub decreases-loop-low : goal.decreases-loop-low
-decreases-loop-low l = l.high - l.low
+abbrev pub decreases-loop-middle : goal.decreases-loop-middle
+decreases-loop-middle l = l.high - l.low

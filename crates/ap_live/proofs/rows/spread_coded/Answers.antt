@@ -1,19 +1,7 @@
-use Rattle.std.proofs.Common.{◌≡◌, ◌<◌, ℕ, arith, ap, sym, ◌∙◌, List, Some, slice_get, get_or, length}
-use Rattle.std.proofs.lemmas.Option.{slice_get-get_or}
+use Rattle.std.proofs.Common.{arith, get_or}
 use Rattle.ap_live.specs.Fitting.{pick_of}
-use Rattle.ap_live.specs.declared.outline.Entry.{Entry}
-use Rattle.ap_live.proofs.Outlining.{coded_starts, coded_stops, coded_more, coded_over}
+use Rattle.ap_live.proofs.Outlining.{coded_starts, coded_stops, coded_more, coded_over, no_entry, read_at}
 use Rattle.ap_live.proofs.rows.spread_coded.Goals as goal
-
-abbrev no_entry : Entry
-no_entry = record { left = 0; to = 0 }
-
--- what is read at a place
-read_at : (entries all : List Entry) (place : ℕ) → entries ≡ all → place < length all →
-    slice_get all place ≡ Some (get_or entries place no_entry)
-read_at entries all place same lt =
-    slice_get-get_or all place no_entry lt
-    ∙ ap (λ (z : List Entry). Some (get_or z place no_entry)) (sym same)
 
 pub loop-place-init : goal.loop-place-init
 loop-place-init c = λ edges from first left is. coded_starts edges c.args.outline.now

@@ -4,4 +4,4 @@ use Rattle.ap_live.proofs.live.Live.cut.Goals as goal
 
 pub returns : goal.returns
 returns c = λ m seen live. live_on m seen (take c.args.len seen) c.args.self.now _ _ live
-    c.self.view_is (c.cut_rows.ensures m.edges m.finals seen) refl refl
+    c.self.view_is (c.cut.ensures m seen) refl refl

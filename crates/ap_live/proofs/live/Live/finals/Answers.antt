@@ -1,19 +1,20 @@
-use Rattle.std.proofs.Common.{ap, ◌∙◌, subst, sym, List}
+use Rattle.std.proofs.Common.{ap, subst, sym, List}
 use Rattle.std.specs.List.Sorted.{IsStrictlySortedBy}
 use Rattle.ap_symbol.specs.Rendering.{word_cmp}
 use Rattle.ap_symbol.specs.declared.symbol.Symbol.{Symbol}
-use Rattle.ap_live.specs.Rows.{Lives}
+use Rattle.ap_live.specs.Lives.{Lives}
 use Rattle.ap_live.proofs.Finding.{words_found}
-use Rattle.ap_live.proofs.LiveLaws.{live_rows, same_members}
+use Rattle.ap_live.proofs.LiveLaws.{held_as, outline_there, same_members}
 use Rattle.ap_live.proofs.live.Live.finals.Goals as goal
 
 pub returns-clause-outputs : goal.returns-clause-outputs
 returns-clause-outputs c =
     λ seen live. same_members c.args.fst.now seen c.in_ok-words.words.items c.from_vec.result
     c.from_vec.ensures
-    (c.in_ok-words.ensures.members seen
-    (live_rows c.args.fst.now seen c.args.self.now c.as_slice.result.now
-    (c.as_slice.ensures ∙ ap (λ (l : Lives). l.rows) c.self.view_is) live))
+    (c.in_ok-words.ensures.members (outline_there c.args.fst.now seen c.args.self.now c.self.inside.outline
+    (ap (λ (l : Lives). l.outline) c.self.view_is) live) seen
+    (held_as c.args.fst.now seen c.args.self.now c.self.inside.ways
+    (ap (λ (l : Lives). l.ways) c.self.view_is) live))
 
 pub returns-clause-found : goal.returns-clause-found
 returns-clause-found c =
@@ -23,6 +24,7 @@ returns-clause-found c =
     subst P (sym c.from_vec.ensures) c.in_ok-words.ensures.order)
     (same_members c.args.fst.now seen c.in_ok-words.words.items c.from_vec.result
     c.from_vec.ensures
-    (c.in_ok-words.ensures.members seen
-    (live_rows c.args.fst.now seen c.args.self.now c.as_slice.result.now
-    (c.as_slice.ensures ∙ ap (λ (l : Lives). l.rows) c.self.view_is) live)))
+    (c.in_ok-words.ensures.members (outline_there c.args.fst.now seen c.args.self.now c.self.inside.outline
+    (ap (λ (l : Lives). l.outline) c.self.view_is) live) seen
+    (held_as c.args.fst.now seen c.args.self.now c.self.inside.ways
+    (ap (λ (l : Lives). l.ways) c.self.view_is) live)))

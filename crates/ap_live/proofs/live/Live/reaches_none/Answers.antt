@@ -1,9 +1,8 @@
-use Rattle.std.proofs.Common.{ap, sym, ◌∙◌, subst, List}
-use Rattle.ap_live.specs.Rows.{AreRows, Lives}
-use Rattle.ap_live.specs.declared.rows.Row.{Row}
+use Rattle.std.proofs.Common.{ap}
+use Rattle.ap_live.specs.Lives.{Lives}
+use Rattle.ap_live.proofs.LiveLaws.{held_as}
 use Rattle.ap_live.proofs.live.Live.reaches_none.Goals as goal
 
 pub returns : goal.returns
-returns c = λ m seen live. c.reaches_none.ensures m.edges seen
-    (subst (λ (z : List Row). AreRows m.edges seen z)
-    (sym (c.as_slice.ensures ∙ ap (λ (l : Lives). l.rows) c.self.view_is)) live.rows_are)
+returns c = λ m seen live. c.reaches_none.ensures m seen (held_as m seen c.args.self.now
+    c.self.inside.ways (ap (λ (l : Lives). l.ways) c.self.view_is) live)

@@ -1,0 +1,153 @@
+ghost use Rattle.std.specs.Prelude.{◌≡◌, ◌↔◌, ◌++◌, ◌∷◌, ℕ, [], List, IfOk, OnOk, OnErr, IsTrue, length, map, take};
+ghost use Rattle.std.specs.List.Sorted.{IsStrictlySortedBy};
+ghost use Rattle.ap_symbol.specs.Rendering.{word_cmp};
+ghost use Rattle.ap_symbol.specs.declared.symbol.Symbol.{Symbol};
+ghost use Rattle.ap_fst.specs.Lists.{IsIn};
+ghost use Rattle.ap_fst.specs.Machines.{Machine};
+ghost use Rattle.ap_fst.specs.Silence.{HasNoEmptyCycle};
+ghost use Rattle.ap_live.specs.Fitting.{Input};
+ghost use Rattle.ap_live.specs.Outlines.{IsOutline};
+ghost use Rattle.ap_live.specs.Outputs.{IsOutput, WritesWords};
+ghost use Rattle.ap_live.specs.Rows.{AreLiveRows, Reach};
+ghost use Rattle.ap_live.specs.Trails.{input_of};
+
+use crate::chain::words_back;
+use crate::held::{ends_finally, reaches_none};
+use crate::known::{Known, add_row, cut_rows, nothing_known};
+use crate::outline::Outline;
+use crate::stack::{Rows, first_rows};
+use crate::taken::Taken;
+use ap_fst::Fst;
+use ap_symbol::{Memory, Symbol, Word};
+use std::alloc::Global;
+use std::marker::Model;
+
+/// For each number of inputs so far, from none on, the states that they reach and the edges by
+/// which each was reached. They are as many as states, however many ways lead to these. No output
+/// is kept: outputs are made back from the final states alone, so that a path that leads to none
+/// costs nothing.
+///
+/// Rows that were computed are kept, and taken again where the same input comes at the same states.
+/// Where they have become too many, `cut` to no input lets them go.
+#[derive(Debug, Drop)]
+pub struct LiveRows {
+    rows: Rows,
+    known: Known,
+}
+
+impl Model for LiveRows {
+    ghost use Rattle.ap_live.specs.Rows.{RowLives};
+
+    ghost Value = { RowLives };
+
+    ghost view = { λ l. record {
+      rows = l.rows;
+      known = l.known.rows.items;
+      links = l.known.links.items;
+      path = l.known.path.items;
+    } };
+}
+
+impl LiveRows {
+    /// What no input reaches: the start, and all that edges with an empty left side lead to from
+    /// it.
+    pub(crate) fn start(alloc: Global, fst: &Fst, outline: &Outline) -> Result<LiveRows, Memory>
+        ensures { IfOk result (λ rows. IsOutline fst.now.edges outline.now →
+            AreLiveRows fst.now [] rows) }
+    {
+        let rows = first_rows(alloc, fst, outline)?;
+        Ok(LiveRows {
+            rows,
+            known: nothing_known(alloc),
+        })
+    }
+
+    /// Goes on by one input. After a refusal, which means want of memory, it is unchanged.
+    pub(crate) fn step(
+        &mut self,
+        fst: &Fst,
+        outline: &Outline,
+        input: &Symbol,
+        sensitive: bool,
+    ) -> Result<(), Memory>
+        ensures ok { OnOk result ((seen : List Input) → IsOutline fst.now.edges outline.now →
+            AreLiveRows fst.now seen self.old → AreLiveRows fst.now
+            (seen ++ record { symbol = input.now; sensitive = sensitive } ∷ []) self.new) }
+        ensures err { OnErr result (self.new ≡ self.old) }
+    {
+        add_row(
+            &mut self.rows,
+            &mut self.known,
+            fst,
+            outline,
+            input,
+            sensitive,
+        )
+    }
+
+    /// What these inputs reach.
+    pub(crate) fn along(
+        alloc: Global,
+        fst: &Fst,
+        outline: &Outline,
+        inputs: &[Taken],
+    ) -> Result<LiveRows, Memory>
+        ensures { IfOk result (λ rows. IsOutline fst.now.edges outline.now →
+            AreLiveRows fst.now (map input_of inputs.now) rows) }
+    {
+        let mut rows = LiveRows::start(alloc, fst, outline)?;
+        for taken in inputs {
+            rows.step(fst, outline, &taken.symbol, taken.sensitive)?;
+        }
+        Ok(rows)
+    }
+
+    /// The outputs of the inputs so far, in the order of words, each once.
+    pub(crate) fn words(
+        &self,
+        alloc: Global,
+        fst: &Fst,
+        outline: &Outline,
+    ) -> Result<Vec<Word>, Memory>
+        requires no_cycle { HasNoEmptyCycle fst.now }
+        requires writes { WritesWords fst.now }
+        ensures members { IfOk result (λ words. IsOutline fst.now.edges outline.now →
+            (seen : List Input) → AreLiveRows fst.now seen self.now → (w : List Symbol) →
+            IsIn w words.items ↔ IsOutput fst.now seen w) }
+        ensures order { IfOk result (λ words. IsStrictlySortedBy word_cmp words.items) }
+    {
+        words_back(alloc, fst, outline, self.rows.as_slice())
+    }
+
+    /// Whether the inputs reach a final state.
+    pub(crate) fn accepts(&self) -> bool
+        ensures { (m : Machine) (seen : List Input) → AreLiveRows m seen self.now →
+            (IsTrue result ↔ ((s : ℕ) × (Reach m.edges seen s × IsIn s m.finals))) }
+    {
+        ends_finally(self.rows.as_slice())
+    }
+
+    /// Whether the inputs reach no state.
+    pub(crate) fn reaches_none(&self) -> bool
+        ensures { (m : Machine) (seen : List Input) → AreLiveRows m seen self.now →
+            (IsTrue result ↔ ((s : ℕ) → Reach m.edges seen s → ⊥)) }
+    {
+        reaches_none(self.rows.as_slice())
+    }
+
+    /// The number of inputs so far.
+    pub(crate) fn len(&self) -> usize
+        ensures { (m : Machine) (seen : List Input) → AreLiveRows m seen self.now →
+            result ≡ length seen }
+    {
+        self.rows.len().saturating_sub(1)
+    }
+
+    /// Goes back to the first so many inputs; where there are no more, nothing changes.
+    pub(crate) fn cut(&mut self, len: usize)
+        ensures { (m : Machine) (seen : List Input) → AreLiveRows m seen self.old →
+            AreLiveRows m (take len seen) self.new }
+    {
+        cut_rows(&mut self.rows, &mut self.known, len);
+    }
+}
