@@ -16,7 +16,7 @@ use Rattle.ap_live.specs.Spreads.{AnyPlace, Picked}
 use Rattle.ap_live.specs.Chains.{written}
 use Rattle.ap_live.specs.Outputs.{IsOutput}
 use Rattle.ap_live.specs.Rows.{Reach}
-use Rattle.ap_live.specs.Trails.{AddsNodes, AreWays, Grows, HasStep, HasWay, IsReached, IsStep, IsTrail, LeadsBack, Spreads, Trails, Way, begin, first, input_of, next, node}
+use Rattle.ap_live.specs.Trails.{AddsNodes, AreWays, Grows, HasStep, HasWay, IsReached, IsStep, IsFirstFinal, IsOnlyEnd, IsTrail, LeadsBack, NoneFinal, Spreads, Trails, Way, begin, first, input_of, next, node}
 use Rattle.ap_live.specs.Trails as trails
 use Rattle.ap_live.specs.declared.nodes.Node.{Node}
 use Rattle.ap_live.specs.declared.taken.Taken.{Taken}
@@ -650,11 +650,6 @@ no_ways edges nodes seen low len ways n =
       ]),
     )
 
--- none of the nodes up to a place is at a final state
-abbrev pub NoneFinal : List ℕ → List Node → ℕ → ℕ → Type 0
-NoneFinal finals nodes low at = (i : ℕ) (x : Node) → low ≤ i → i < at → slice_get nodes i ≡ Some x →
-    IsIn x.state finals → ⊥
-
 pub none_final_more : (finals : List ℕ) (nodes : List Node) (low at : ℕ) (x : Node) →
     slice_get nodes at ≡ Some x → (IsIn x.state finals → ⊥) → NoneFinal finals nodes low at →
     NoneFinal finals nodes low (at + 1)
@@ -855,3 +850,56 @@ proper_more words words' word e proper all w i = elim (in_either w words (word �
         | inr none ↦ elim none [ ]
       ]
     ]
+
+-- ---- the only end
+
+-- the same node leads back by the same places
+pub back_same : (nodes : List Node) (at : ℕ) (p q : List ℕ) → LeadsBack nodes at p →
+    LeadsBack nodes at q → p ≡ q
+back_same nodes at p q (first z e) (first y f) = e ∙ sym f
+back_same nodes at p q (first z e) (next x rest there earlier f back) = absurd (omega arith)
+back_same nodes at p q (next x rest there earlier f back) (first z e) = absurd (omega arith)
+back_same nodes at p q (next x rest there earlier e back) (next y rest' there' earlier' f back') =
+    let same : y ≡ x = same_Some y x (sym there' ∙ there) in
+    let back'' : LeadsBack nodes x.back rest' =
+    subst (λ (z : Node). LeadsBack nodes z.back rest') same back' in
+    let r : rest ≡ rest' = back_same nodes x.back rest rest' back back'' in
+    e ∙ ap (λ z. x.edge ∷ z) r ∙ ap (λ (z : Node). z.edge ∷ rest') (sym same) ∙ sym f
+
+-- a node of a row at a final state, where no other one is at such a state
+pub only_end : (m : Machine) (nodes : List Node) (seen : List Input) (low end : ℕ) →
+    AreWays m.edges nodes seen low (length nodes) → IsFirstFinal m.finals nodes low end →
+    NoneFinal m.finals nodes (end + 1) (length nodes) → IsOnlyEnd m nodes seen end
+only_end m nodes seen low end ways is none =
+    let within : end < length nodes = slice_get_within nodes end is.x is.there in
+    let r : IsReached m.edges nodes seen end = ways.sound end is.from within in
+    let x_is : is.x ≡ r.x = same_Some is.x r.x (sym is.there ∙ r.there) in
+    record {
+      places = r.places;
+      back = r.back;
+      only = λ w. (
+        (λ i. elim i [
+          | inl same ↦ subst (λ (z : List Symbol). IsOutput m seen z) (sym same)
+              (way_output m seen r.x.state r.places r.way
+              (subst (λ (z : Node). IsIn z.state m.finals) x_is is.final))
+          | inr none_left ↦ elim none_left [ ]
+        ]),
+        (λ o.
+            let y : HasOutputWay m seen w = output_way m seen w o in
+            let h : HasWay nodes low (length nodes) y.state y.places =
+            ways.complete y.state y.places y.way in
+            let final : IsIn h.x.state m.finals =
+            subst (λ (z : ℕ). IsIn z m.finals) (sym h.state_is) y.final in
+            elim (cases_lt h.at end) [
+              | inl lt ↦ absurd (is.before h.at h.x h.from lt h.there final)
+              | inr ge ↦ elim (cases_lt end h.at) [
+                | inl gt ↦ absurd (none h.at h.x (omega arith) h.below h.there final)
+                | inr le ↦
+                    let same : h.at ≡ end = omega arith in
+                    inl (y.is ∙ ap (λ z. reverse (written m.edges z))
+                    (back_same nodes end y.places r.places
+                    (subst (λ (z : ℕ). LeadsBack nodes z y.places) same h.back) r.back))
+              ]
+            ]),
+      );
+    }

@@ -1,7 +1,8 @@
--- What an edge writes, by the code of its right side.
+-- What an edge writes, by the code of its right side, and the bytes of that.
 use Rattle.std.proofs.Common.{◌≡◌, ◌+◌, ◌<◌, ◌≤◌, ◌++◌, ◌∷◌, ◌∙◌, [], List, None, Option, Some, ap, append-nil, arith, length, refl, slice_get, sym, ℕ}
 use Rattle.std.specs.Option.{option_to_list}
 use Rattle.std.proofs.lemmas.Option.{slice_get_within}
+use Rattle.ap_symbol.specs.Rendering.{letter_bytes, rendering}
 use Rattle.ap_symbol.specs.declared.symbol.Symbol.{Symbol}
 use Rattle.ap_symbol.specs.declared.symbol.Symbol.TheVariants.{Letter}
 use Rattle.ap_fst.specs.declared.label.Edge.{Edge}
@@ -39,3 +40,22 @@ letter_written edges place code c word new within same small is made =
     code_of_letter c e.label.right (omega arith) (is e at ∙ same) in
     made ∙ sym (ap (λ (o : Option Edge). word ++ written_by o) at
     ∙ ap (λ (x : Option Symbol). word ++ option_to_list x) right)
+
+-- ---- the bytes of what it writes
+
+pub empty_bytes : (edges : List Edge) (place code : ℕ) (bytes : List ℕ) → code ≡ 0 →
+    ((e : Edge) → slice_get edges place ≡ Some e → side_code e.label.right ≡ code) →
+    bytes ≡ bytes ++ rendering (written_by (slice_get edges place))
+empty_bytes edges place code bytes empty is =
+    let none : [] ≡ written_by (slice_get edges place) = empty_written edges place code [] empty is in
+    sym (append-nil bytes) ∙ ap (λ z. bytes ++ rendering z) none
+
+pub letter_spelt : (edges : List Edge) (place code c : ℕ) (bytes new : List ℕ) →
+    place < length edges → code ≡ c + 1 → code < 4294967295 →
+    ((e : Edge) → slice_get edges place ≡ Some e → side_code e.label.right ≡ code) →
+    new ≡ bytes ++ letter_bytes c → new ≡ bytes ++ rendering (written_by (slice_get edges place))
+letter_spelt edges place code c bytes new within same small is made =
+    let one : Letter c ∷ [] ≡ written_by (slice_get edges place) =
+    letter_written edges place code c [] (Letter c ∷ []) within same small is refl in
+    made ∙ ap (λ z. bytes ++ z) (sym (append-nil (letter_bytes c)))
+    ∙ ap (λ z. bytes ++ rendering z) one

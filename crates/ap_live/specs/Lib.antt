@@ -3,11 +3,11 @@ pub mod Spreads
 pub mod Outlines
 pub mod Leads
 pub mod Rows
-pub mod Trails
-pub mod Lives
 pub mod Tails
 pub mod Chains
 pub mod Outputs
+pub mod Trails
+pub mod Lives
 pub mod Found
 pub mod Greatest
 pub mod Lexicon

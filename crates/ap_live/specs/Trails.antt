@@ -1,8 +1,13 @@
 -- The ways that inputs lead along, as nodes that each tell the one before it.
-use Rattle.std.specs.Prelude.{◌≡◌, ℕ, ◌+◌, ◌<◌, ◌≤◌, List, [], ◌∷◌, ◌++◌, Option, Some, None, map, slice_get, length, take}
+use Rattle.std.specs.Prelude.{◌≡◌, ◌↔◌, ℕ, ◌+◌, ◌<◌, ◌≤◌, List, [], ◌∷◌, ◌++◌, Option, Some, None, map, reverse, slice_get, length, take}
+use Rattle.ap_symbol.specs.Rendering.{rendering}
+use Rattle.ap_symbol.specs.declared.symbol.Symbol.{Symbol}
 use Rattle.ap_fst.specs.Lists.{IsIn}
+use Rattle.ap_fst.specs.Machines.{Machine}
 use Rattle.ap_fst.specs.declared.label.Edge.{Edge}
+use Rattle.ap_live.specs.Chains.{written}
 use Rattle.ap_live.specs.Fitting.{Input}
+use Rattle.ap_live.specs.Outputs.{IsOutput}
 use Rattle.ap_live.specs.Spreads.{Picked}
 use Rattle.ap_live.specs.declared.nodes.Node.{Node}
 use Rattle.ap_live.specs.declared.taken.Taken.{Taken}
@@ -111,3 +116,29 @@ pub record IsTrail (edges : List Edge) (seen : List Input) (t : Trails) : Type 0
   pub each : (k low high : ℕ) → slice_get t.firsts k ≡ Some low →
       slice_get (t.firsts ++ length t.nodes ∷ []) (k + 1) ≡ Some high →
       AreWays edges t.nodes (take k seen) low high
+
+-- none of the nodes between these places is at a final state
+abbrev pub NoneFinal : List ℕ → List Node → ℕ → ℕ → Type 0
+NoneFinal finals nodes low high = (at : ℕ) (x : Node) → low ≤ at → at < high →
+    slice_get nodes at ≡ Some x → IsIn x.state finals → ⊥
+
+-- the first node from a place on that is at a final state
+pub record IsFirstFinal (finals : List ℕ) (nodes : List Node) (low at : ℕ) : Type 0 where
+  pub from : low ≤ at
+  pub x : Node
+  pub there : slice_get nodes at ≡ Some x
+  pub final : IsIn x.state finals
+  pub before : NoneFinal finals nodes low at
+
+-- The node stands for the only way of these inputs to a final state.
+pub record IsOnlyEnd (m : Machine) (nodes : List Node) (seen : List Input)
+    (end : ℕ) : Type 0 where
+  pub places : List ℕ
+  pub back : LeadsBack nodes end places
+  pub only : (w : List Symbol) → IsIn w (reverse (written m.edges places) ∷ []) ↔ IsOutput m seen w
+
+-- The bytes of the only output are appended.
+pub record IsOnlyBytes (m : Machine) (seen : List Input) (old new : List ℕ) : Type 0 where
+  pub word : List Symbol
+  pub only : (w : List Symbol) → IsIn w (word ∷ []) ↔ IsOutput m seen w
+  pub is : new ≡ old ++ rendering word

@@ -17,6 +17,7 @@ mod live_rows;
 mod live_sections;
 mod node_rows;
 mod nodes;
+mod only;
 mod outline;
 mod picking;
 mod readable;

@@ -1,6 +1,6 @@
-ghost use Rattle.std.specs.Prelude.{◌≡◌, ℕ, ◌++◌, ◌∷◌, ◌↔◌, [], List, IfOk, OnOk, OnErr, IsTrue, length, take, not};
+ghost use Rattle.std.specs.Prelude.{◌≡◌, ℕ, ◌++◌, ◌∷◌, ◌↔◌, [], List, IfOk, Ok, OnOk, OnErr, IsTrue, true, length, take, not};
 ghost use Rattle.std.specs.List.Sorted.{IsStrictlySortedBy};
-ghost use Rattle.ap_symbol.specs.Rendering.{word_cmp};
+ghost use Rattle.ap_symbol.specs.Rendering.{rendering, word_cmp};
 ghost use Rattle.ap_symbol.specs.declared.symbol.Symbol.{Symbol};
 ghost use Rattle.ap_fst.specs.Lists.{IsIn};
 ghost use Rattle.ap_fst.specs.Machines.{Machine, IsMachine};
@@ -10,7 +10,7 @@ ghost use Rattle.ap_fst.specs.Trimming.{IsTrimmed};
 use crate::outline::{Outline, outline_of};
 use crate::ways::Ways;
 use ap_fst::Fst;
-use ap_symbol::{Memory, Symbol, Words};
+use ap_symbol::{Bytes, Memory, Symbol, Words};
 use std::alloc::Global;
 use std::marker::Model;
 
@@ -97,6 +97,19 @@ impl Live {
         let _ = fst.states();
         let words = self.ways.words(alloc, fst, &self.outline)?;
         Ok(Words::from_vec(words))
+    }
+
+    /// Appends the bytes of the word that `finals` would give, where it is one, and answers whether
+    /// it did. Where it didn't, and after a refusal, anything may have been appended.
+    pub fn render_only(&self, fst: &Fst, into: &mut Bytes) -> Result<bool, Memory>
+        requires no_cycle { HasNoEmptyCycle fst.now }
+        requires writes { WritesWords fst.now }
+        ensures { result ≡ Ok true → (seen : List Input) → IsLive fst.now seen self.now →
+            (word : List Symbol) × (outputs fst.now seen ≡ word ∷ [])
+            × (into.new ≡ into.old ++ rendering word) }
+    {
+        let _ = fst.states();
+        self.ways.render_only(fst, &self.outline, into)
     }
 
     /// Whether `finals` would give a word: whether an accepted label list has a left word that fits

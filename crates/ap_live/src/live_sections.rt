@@ -1,10 +1,11 @@
-ghost use Rattle.std.specs.Prelude.{◌≡◌, Bool, not, ◌&&◌, ◌++◌, ◌∷◌, [], List, take, OnOk, OnErr, IfOk};
+ghost use Rattle.std.specs.Prelude.{◌≡◌, Bool, not, ◌&&◌, ◌++◌, ◌∷◌, [], List, Ok, take, true, OnOk, OnErr, IfOk};
+ghost use Rattle.ap_symbol.specs.Rendering.{rendering};
 ghost use Rattle.ap_symbol.specs.declared.symbol.Symbol.{Symbol};
 ghost use Rattle.ap_fst.specs.Sections.{Parts};
 
 use crate::section_live::SectionLive;
 use ap_fst::{Compiled, Kind2};
-use ap_symbol::{Memory, Symbol, Words};
+use ap_symbol::{Bytes, Memory, Symbol, Words};
 use std::alloc::Global;
 
 /// What the symbols so far reach in each of the four sections of a compiled dictionary, which is
@@ -63,7 +64,7 @@ impl LiveSections {
             .step(compiled.section(Kind2::Standard), input, sensitive);
         let inconditional = self
             .inconditional
-            .step(compiled.section(Kind2::Inconditional), input, sensitive);
+            .step_if_held(compiled.section(Kind2::Inconditional), input, sensitive);
         let postblank = self
             .postblank
             .step_if_held(compiled.section(Kind2::Postblank), input, sensitive);
@@ -140,6 +141,24 @@ impl LiveSections {
             words ≡ (lexicon_of compiled.now sensitive).readings kind symbols) }
     {
         self.section(kind).readings(alloc, compiled.section(kind))
+    }
+
+    /// Appends the bytes of what the entries of that kind read in the symbols so far, where that is
+    /// one word, and answers whether it did. Where it didn't, anything may have been appended: there
+    /// may be several words or none, or one that isn't made so. The error means want of memory;
+    /// then anything may have been appended too.
+    pub fn render_only(
+        &self,
+        compiled: &Compiled,
+        kind: Kind2,
+        into: &mut Bytes,
+    ) -> Result<bool, Memory>
+        ensures { result ≡ Ok true → (sensitive : Bool) (symbols : List Symbol) →
+            AreLive compiled.now sensitive symbols self.now → (word : List Symbol)
+            × ((lexicon_of compiled.now sensitive).readings kind symbols ≡ word ∷ [])
+            × (into.new ≡ into.old ++ rendering word) }
+    {
+        self.section(kind).render_only(compiled.section(kind), into)
     }
 
     /// Goes back to the first so many symbols; where there are no more, nothing changes. It takes

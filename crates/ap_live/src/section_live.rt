@@ -1,4 +1,5 @@
-ghost use Rattle.std.specs.Prelude.{◌≡◌, ℕ, true, false, None, Some, not, ◌++◌, ◌∷◌, [], List, take, IfOk};
+ghost use Rattle.std.specs.Prelude.{◌≡◌, ℕ, true, false, None, Ok, Some, not, ◌++◌, ◌∷◌, [], List, take, IfOk};
+ghost use Rattle.ap_symbol.specs.Rendering.{rendering};
 ghost use Rattle.ap_symbol.specs.declared.symbol.Symbol.{Symbol};
 ghost use Rattle.ap_fst.specs.Machines.{Machine};
 ghost use Rattle.ap_fst.specs.Sections.{IsSection};
@@ -11,7 +12,7 @@ ghost use Rattle.ap_live.specs.Rows.{Reach};
 
 use crate::live::Live;
 use ap_fst::Fst;
-use ap_symbol::{Memory, Symbol, Words};
+use ap_symbol::{Bytes, Memory, Symbol, Words};
 use std::alloc::Global;
 
 /// What the symbols so far reach in one section of a compiled dictionary. A section without a final
@@ -65,6 +66,19 @@ impl SectionLive {
         }
     }
 
+    /// Whether symbols are counted, so that nothing is reached.
+    fn is_behind(&self) -> bool
+        ensures over { result ≡ true → (m : Machine) (seen : List Input) →
+            IsSectionLive m seen self.now → (s : ℕ) → Reach m.edges seen s → ⊥ }
+        ensures not { result ≡ false → (live : Lives) → self.now.live ≡ Some live →
+            self.now.behind ≡ 0 }
+    {
+        match &self.live {
+            None => false,
+            Some(_) => self.behind > 0,
+        }
+    }
+
     /// Counts a symbol more, where nothing is reached, and answers whether that was possible. If
     /// not, nothing was changed.
     fn pass(&mut self) -> bool
@@ -100,7 +114,8 @@ impl SectionLive {
         }
     }
 
-    /// The same as `step`, with a look before it: for a kind of sections that mostly has no entries.
+    /// The same as `step`, with a look before it: for a kind of sections that mostly has no entries,
+    /// or few, of which nothing is reached at most symbols.
     pub fn step_if_held(&mut self, fst: &Fst, input: &Symbol, sensitive: bool) -> bool
         ensures stepped { result ≡ true → (seen : List Input) → IsSectionLive fst.now seen self.old
             → IsSectionLive fst.now (seen ++ record { symbol = input.now; sensitive = sensitive }
@@ -124,7 +139,7 @@ impl SectionLive {
             ∷ []) self.new }
         ensures stayed { result ≡ false → self.new ≡ self.old }
     {
-        if self.is_over() {
+        if self.is_behind() {
             return self.pass();
         }
         self.go_on(fst, input, sensitive)
@@ -213,6 +228,27 @@ impl SectionLive {
                     return Ok(Words::new(alloc));
                 }
                 live.finals(alloc, fst)
+            }
+        }
+    }
+
+    /// Appends the bytes of what the entries of the section read in the symbols so far, where that
+    /// is one word, and answers whether it did. Where it didn't, and after a refusal, anything may
+    /// have been appended.
+    pub fn render_only(&self, fst: &Fst, into: &mut Bytes) -> Result<bool, Memory>
+        requires no_cycle { HasNoEmptyCycle fst.now }
+        requires writes { WritesWords fst.now }
+        ensures { result ≡ Ok true → (seen : List Input) → IsSectionLive fst.now seen self.now →
+            (word : List Symbol) × (outputs fst.now seen ≡ word ∷ [])
+            × (into.new ≡ into.old ++ rendering word) }
+    {
+        match &self.live {
+            None => Ok(false),
+            Some(live) => {
+                if self.behind > 0 {
+                    return Ok(false);
+                }
+                live.render_only(fst, into)
             }
         }
     }

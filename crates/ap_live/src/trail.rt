@@ -1,4 +1,4 @@
-ghost use Rattle.std.specs.Prelude.{◌≡◌, ◌↔◌, ◌≤◌, ◌<◌, ◌++◌, ◌∷◌, ℕ, [], List, Err, IfOk, IfSome, IsTrue, Ok, Some, false, length, reverse, slice_get, take, true};
+ghost use Rattle.std.specs.Prelude.{◌≡◌, ◌↔◌, ◌≤◌, ◌<◌, ◌++◌, ◌∷◌, ℕ, [], List, Err, IfOk, IfSome, IsTrue, None, Ok, Some, false, length, reverse, slice_get, take, true};
 ghost use Rattle.std.specs.Option.{option_copied};
 ghost use Rattle.std.specs.List.Sorted.{IsStrictlySortedBy};
 ghost use Rattle.ap_symbol.specs.Rendering.{word_cmp};
@@ -12,22 +12,26 @@ ghost use Rattle.ap_live.specs.Fitting.{Input};
 ghost use Rattle.ap_live.specs.Outlines.{IsOutline};
 ghost use Rattle.ap_live.specs.Outputs.{IsOutput, WritesWords};
 ghost use Rattle.ap_live.specs.Rows.{Reach};
-ghost use Rattle.ap_live.specs.Trails.{AreWays, IsTrail, LeadsBack};
+ghost use Rattle.ap_live.specs.Trails.{AreWays, IsFirstFinal, IsOnlyBytes, IsOnlyEnd, IsTrail, LeadsBack, NoneFinal};
 
 use crate::chain::word_along;
 use crate::node_rows::{add_nodes, first_nodes};
 use crate::nodes::Node;
+use crate::only::bytes_along;
 use crate::outline::Outline;
 use crate::taken::Taken;
 use crate::wording::sort_words;
 use ap_fst::Fst;
-use ap_symbol::{Memory, Symbol, Word};
+use ap_symbol::{Bytes, Memory, Symbol, Word};
 use std::alloc::Global;
 use std::marker::Model;
 
 /// So many nodes a trail may have for all inputs so far, of 24 bytes each. With more of them what is
 /// reached is held as rows of states.
 const MOST_NODES: usize = 65_536;
+
+/// Room for so many edges of a way is made at first, which most have.
+const PLACES: usize = 64;
 
 /// The ways that the inputs so far lead along, as long as they are few: for each number of inputs,
 /// from none on, a node for each way, behind those for fewer inputs. A node tells the one before it,
@@ -98,7 +102,7 @@ fn places_back(alloc: Global, nodes: &[Node], at: usize) -> Result<Vec<usize>, M
     ensures { IfOk result (λ found. (places : List ℕ) → LeadsBack nodes.now at places →
         found.items ≡ places) }
 {
-    let mut found = Vec::with_capacity(alloc, 16)?;
+    let mut found = Vec::with_capacity(alloc, PLACES)?;
     let mut at = at;
     while at > 0 {
         let Some(node) = node_at(nodes, at) else {
@@ -111,6 +115,20 @@ fn places_back(alloc: Global, nodes: &[Node], at: usize) -> Result<Vec<usize>, M
         at = node.back;
     }
     Ok(found)
+}
+
+/// The first node from a place on that is at a final state.
+fn next_final(fst: &Fst, nodes: &[Node], low: usize) -> Option<usize>
+    ensures none { result ≡ None → NoneFinal fst.now.finals nodes.now low (length nodes.now) }
+    ensures some { (at : ℕ) → result ≡ Some at → IsFirstFinal fst.now.finals nodes.now low at }
+    ensures within { (at : ℕ) → result ≡ Some at → at < length nodes.now }
+{
+    for at in low..nodes.len() {
+        if fst.is_final(nodes[at].state) {
+            return Some(at);
+        }
+    }
+    None
 }
 
 impl Trail {
@@ -263,5 +281,39 @@ impl Trail {
         }
         sort_words(&mut words);
         Ok(words)
+    }
+    /// The only node of the last row that is at a final state.
+    fn only_end(&self, fst: &Fst) -> Option<usize>
+        ensures { (end : ℕ) (seen : List Input) → result ≡ Some end →
+            IsTrail fst.now.edges seen self.now → IsOnlyEnd fst.now self.now.nodes seen end }
+    {
+        let nodes = self.nodes.as_slice();
+        let end = next_final(fst, nodes, self.low())?;
+        if next_final(fst, nodes, end + 1).is_some() {
+            return None;
+        }
+        Some(end)
+    }
+
+    /// Appends the bytes of what the only way to a final state writes, if there is one alone, and
+    /// answers whether there is.
+    pub(crate) fn render_only(
+        &self,
+        fst: &Fst,
+        outline: &Outline,
+        into: &mut Bytes,
+    ) -> Result<bool, Memory>
+        requires { WritesWords fst.now }
+        ensures { result ≡ Ok true → IsOutline fst.now.edges outline.now → (seen : List Input) →
+            IsTrail fst.now.edges seen self.now → IsOnlyBytes fst.now seen into.old into.new }
+    {
+        let Some(end) = self.only_end(fst) else {
+            return Ok(false);
+        };
+        let alloc = self.allocator();
+        let places = places_back(alloc, self.nodes.as_slice(), end)?;
+        let bytes = bytes_along(alloc, fst, outline, places)?;
+        into.extend(bytes.as_slice())?;
+        Ok(true)
     }
 }

@@ -1,4 +1,4 @@
-ghost use Rattle.std.specs.Prelude.{◌≡◌, ◌↔◌, ◌++◌, ◌∷◌, ℕ, [], List, IfOk, OnOk, OnErr, IsTrue, length, map, take};
+ghost use Rattle.std.specs.Prelude.{◌≡◌, ◌↔◌, ◌++◌, ◌∷◌, ℕ, [], List, IfOk, Ok, OnOk, OnErr, IsTrue, length, map, take, true};
 ghost use Rattle.std.specs.List.Sorted.{IsStrictlySortedBy};
 ghost use Rattle.ap_symbol.specs.Rendering.{word_cmp};
 ghost use Rattle.ap_symbol.specs.declared.symbol.Symbol.{Symbol};
@@ -9,14 +9,14 @@ ghost use Rattle.ap_live.specs.Fitting.{Input};
 ghost use Rattle.ap_live.specs.Outlines.{IsOutline};
 ghost use Rattle.ap_live.specs.Outputs.{IsOutput, WritesWords};
 ghost use Rattle.ap_live.specs.Rows.{AreLiveRows, Reach};
-ghost use Rattle.ap_live.specs.Trails.{input_of};
+ghost use Rattle.ap_live.specs.Trails.{IsOnlyBytes, input_of};
 
 use crate::live_rows::LiveRows;
 use crate::outline::Outline;
 use crate::taken::Taken;
 use crate::trail::Trail;
 use ap_fst::Fst;
-use ap_symbol::{Memory, Symbol, Word};
+use ap_symbol::{Bytes, Memory, Symbol, Word};
 use std::alloc::Global;
 
 /// What the inputs so far reach: a node for each way, as long as the ways are few, and from then on
@@ -125,6 +125,24 @@ impl Ways {
         match self {
             Ways::Nodes(trail) => trail.words(alloc, fst, outline),
             Ways::Rows(rows) => rows.words(alloc, fst, outline),
+        }
+    }
+
+    /// Appends the bytes of the only output, where the ways are held and one alone leads to a final
+    /// state, and answers whether it did.
+    pub(crate) fn render_only(
+        &self,
+        fst: &Fst,
+        outline: &Outline,
+        into: &mut Bytes,
+    ) -> Result<bool, Memory>
+        requires { WritesWords fst.now }
+        ensures { result ≡ Ok true → IsOutline fst.now.edges outline.now → (seen : List Input) →
+            IsHeld fst.now seen self.now → IsOnlyBytes fst.now seen into.old into.new }
+    {
+        match self {
+            Ways::Nodes(trail) => trail.render_only(fst, outline, into),
+            Ways::Rows(_) => Ok(false),
         }
     }
 

@@ -10,7 +10,7 @@ returns-then-are_all-clause-ok c =
           live.standard_is;
       inconditional_is = live_stepped c.args.compiled.now.inconditional _ c.args.sensitive symbols
           c.args.input.now _ _ c.section-2.ensures.value
-          (c.step-inconditional.ensures.stepped all.1) live.inconditional_is;
+          (c.step_if_held-inconditional.ensures.stepped all.1) live.inconditional_is;
       postblank_is = live_stepped c.args.compiled.now.postblank _ c.args.sensitive symbols
           c.args.input.now _ _ c.section-3.ensures.value (c.step_if_held-postblank.ensures.stepped all.2)
           live.postblank_is;
@@ -25,8 +25,8 @@ returns-clause-err c = λ symbols live. record {
       _ _ _ c.section.ensures.value c.step-standard.ensures.stepped c.step-standard.ensures.stayed
       c.take_back.ensures.back c.take_back.ensures.stayed live.standard_is;
   inconditional_is = live_back c.args.compiled.now.inconditional _ c.args.sensitive _ symbols
-      c.args.input.now _ _ _ c.section-2.ensures.value c.step-inconditional.ensures.stepped
-      c.step-inconditional.ensures.stayed c.take_back-2.ensures.back c.take_back-2.ensures.stayed
+      c.args.input.now _ _ _ c.section-2.ensures.value c.step_if_held-inconditional.ensures.stepped
+      c.step_if_held-inconditional.ensures.stayed c.take_back-2.ensures.back c.take_back-2.ensures.stayed
       live.inconditional_is;
   postblank_is = live_back c.args.compiled.now.postblank _ c.args.sensitive _ symbols
       c.args.input.now _ _ _ c.section-3.ensures.value c.step_if_held-postblank.ensures.stepped

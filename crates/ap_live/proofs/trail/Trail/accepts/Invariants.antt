@@ -1,4 +1,4 @@
-use Rattle.ap_live.proofs.TrailLaws.{NoneFinal}
+use Rattle.ap_live.specs.Trails.{NoneFinal}
 use Rattle.ap_live.proofs.trail.Trail.accepts.Given as goal
 
 abbrev pub invariant-loop-at : goal.invariant-loop-at
