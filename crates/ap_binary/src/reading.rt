@@ -8,7 +8,7 @@ ghost use Rattle.ap_binary.specs.Spelling.{AreWithin, IsFine, IsFaultOf, IsFirst
 use crate::file::{File, read_file};
 use crate::refusal::{BinaryFault, BinaryKind, BinaryRefusal};
 use crate::sections::{Sections, Written};
-use ap_fst::{Compiled, Fst, empty_cycle, empty_side, trim};
+use ap_fst::{Compiled, Fst, empty_cycle, empty_side, trimmed};
 use ap_symbol::Memory;
 use std::alloc::Global;
 
@@ -61,7 +61,7 @@ fn trimmed_section(alloc: Global, section: Written) -> Result<Fst, BinaryRefusal
 {
     match section_fault(alloc, &section)? {
         Some(fault) => Err(BinaryRefusal::Fault(fault)),
-        None => Ok(trim(alloc, &section.fst)?),
+        None => Ok(trimmed(alloc, section.fst)?),
     }
 }
 

@@ -151,8 +151,3 @@ no_draft P made h none =
       exact = λ w. ((λ a. absurd (h w a)), (λ q. absurd (none (derived_labels w) q)));
       plain = λ w a. absurd (h w a);
     }
-
-pub if_ok_more : {T F : Type 0} (r : Result T F) (P Q : T → Type 0) → ((x : T) → P x → Q x) →
-    IfOk r P → IfOk r Q
-if_ok_more (Ok x) P Q f h = f x h
-if_ok_more (Err e) P Q f h = h

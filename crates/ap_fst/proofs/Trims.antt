@@ -6,6 +6,7 @@ use Rattle.std.specs.Option.{option_to_list}
 use Rattle.std.specs.Ordering.{nat_cmp, ordering_then}
 use Rattle.std.specs.declared.cmp.Ordering.{Ordering}
 use Rattle.std.specs.declared.cmp.Ordering.TheVariants.{Less}
+use Rattle.std.proofs.lemmas.Bool.{cases_eq, cases_lt}
 use Rattle.std.proofs.lemmas.Option.{same_Some, slice_get_within}
 use Rattle.ap_fst.specs.Lists.{IsIn, Ascends}
 use Rattle.ap_fst.specs.Order.{edge_cmp, label_cmp}
@@ -13,7 +14,7 @@ use Rattle.ap_fst.specs.Sides.{has_side}
 use Rattle.ap_fst.specs.Graphs.{place_of}
 use Rattle.ap_fst.specs.Machines.{Machine, IsMachine}
 use Rattle.ap_fst.specs.Walks.{Walk, ends, goes, AcceptsLabels}
-use Rattle.ap_fst.specs.Trimming.{IsReached, IsFinishing, IsUseful, IsTrimmed, edge_between, kept_edge, kept_state, trimmed_to}
+use Rattle.ap_fst.specs.Trimming.{IsReached, IsFinishing, IsUseful, IsTrimmed, IsTrimOf, edge_between, kept_edge, kept_state, trimmed_to}
 use Rattle.ap_fst.specs.declared.label.Label.{Label}
 use Rattle.ap_fst.specs.declared.label.Edge.{Edge}
 use Rattle.ap_fst.proofs.Listing.{in_front, in_back, in_either, in_from_place, placed_in, IsPlaced}
@@ -460,6 +461,39 @@ trimmed_back (x ∷ states) m up exactly ok t =
     let z : IsUseful m 0 = start_useful m x ((exactly x).0 (inl refl)) in
     all_useful (x ∷ states) m up exactly ok (λ s lt. useful_at m s z t lt)
 
+above_other : (x s : ℕ) → x ≤ s → (x ≡ s → ⊥) → x < s
+above_other x s le d = elim (cases_lt x s) [
+  | inl l ↦ l
+  | inr k ↦
+      let e : x ≡ s = omega arith in absurd (d e)
+]
+
+-- numbers from a on and below n, as many as there are: each of them
+each_in : (states : List ℕ) (a n : ℕ) → Ascends nat_cmp states →
+    ((s : ℕ) → IsIn s states → (a ≤ s) × (s < n)) → n - a ≤ length states →
+    (s : ℕ) → a ≤ s → s < n → IsIn s states
+each_in [] a n up low many s le lt = absurd (omega arith)
+each_in (x ∷ states) a n up low many s le lt =
+    let b : (a ≤ x) × (x < n) = low x (inl refl) in
+    let above : (t : ℕ) → IsIn t states → (suc x ≤ t) × (t < n) =
+    λ t i. let l : x < t = less_from_cmp x t (up.0 t i) in (omega arith, (low t (inr i)).1) in
+    let f : length states ≤ n - suc x = few states (suc x) n up.1 above in
+    let le' : x ≤ s = omega arith in
+    elim (cases_eq x s) [
+      | inl e ↦ inl (sym e)
+      | inr d ↦
+          let apart : x < s = above_other x s le' d in
+          inr (each_in states (suc x) n up.1 above (omega arith) s (omega arith) lt)
+    ]
+
+-- as many states as there are: all are useful, and the transducer is what is left of it
+pub all_kept : (states : List ℕ) (m : Machine) → Ascends nat_cmp states →
+    ((s : ℕ) → IsIn s states ↔ IsUseful m s) → IsMachine m → length states ≡ m.states →
+    m ≡ trimmed_to states m
+all_kept states m up exactly ok many = sym (all_useful states m up exactly ok (λ s lt.
+    (exactly s).0 (each_in states 0 m.states up
+    (λ t i. (omega arith, useful_within m t ok ((exactly t).0 i))) (omega arith) s (omega arith) lt)))
+
 pub trim_made : (m made : Machine) (states first second : List ℕ) (es : List Edge) (fs : List ℕ)
     (k : ℕ) → first ≡ states → second ≡ states → es ≡ m.edges → fs ≡ m.finals → length first ≡ k
     → made.states ≡ max k 1 → made.edges ≡ flat_map (kept_edge first) es →
@@ -478,3 +512,21 @@ pub trim_same : (m made : Machine) (states : List ℕ) → made ≡ trimmed_to s
 trim_same m made states e up exactly w = let P : Machine → Type 0 =
     λ z. AcceptsLabels z w ↔ AcceptsLabels m w in
     subst P (sym e) (same_labels states m up exactly w)
+
+-- what holds of a transducer of which the useful states stay
+pub record IsWellTrimmed (m made : Machine) : Type 0 where
+  pub same : (w : List Label) → AcceptsLabels made w ↔ AcceptsLabels m w
+  pub trimmed : IsTrimmed made
+  pub exact : IsTrimOf m made
+  pub unchanged : IsTrimmed m → made ≡ m
+
+pub well_trimmed : (states : List ℕ) (m made : Machine) → Ascends nat_cmp states →
+    ((s : ℕ) → IsIn s states ↔ IsUseful m s) → IsMachine m → made ≡ trimmed_to states m →
+    IsWellTrimmed m made
+well_trimmed states m made up exactly ok e =
+    record {
+      same = trim_same m made states e up exactly;
+      trimmed = subst IsTrimmed (sym e) (trimmed_is_trimmed states m up exactly);
+      exact = record { states = states; ascend = up; exactly = exactly; is = e };
+      unchanged = λ t. e ∙ trimmed_back states m up exactly ok t;
+    }

@@ -17,10 +17,21 @@ pub(crate) struct Arc {
     pub(crate) to: usize,
 }
 
+/// Whether no arc leaves a smaller state than the one before it.
+fn are_sorted(arcs: &[Arc]) -> bool
+    ensures { IsTrue result → IsNonDecreasingBy arc_from arcs.now }
+{
+    arcs.is_sorted_by(|a, b| a.from <= b.from)
+}
+
+/// Sorts the arcs, unless they are sorted as they come, which those of most sections are.
 pub(crate) fn sort_arcs(arcs: &mut Vec<Arc>)
     ensures permutation { IsPermutation arcs.old.items arcs.new.items }
     ensures sorted { IsNonDecreasingBy arc_from arcs.new.items }
 {
+    if are_sorted(arcs.as_slice()) {
+        return;
+    }
     arcs.sort_unstable_by_key(|a| a.from);
 }
 

@@ -26,4 +26,4 @@ pub use label::{Edge, Edges, Finals, Label};
 pub use order::{compare_edges, compare_labels};
 pub use removal::without_empty;
 pub use silence::empty_side;
-pub use trimming::trim;
+pub use trimming::{trim, trimmed};

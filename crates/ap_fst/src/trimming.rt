@@ -4,8 +4,9 @@ ghost use Rattle.std.specs.Ordering.{nat_cmp};
 ghost use Rattle.ap_fst.specs.Lists.{IsIn, Ascends};
 ghost use Rattle.ap_fst.specs.Graphs.{place_of, AddsCommon, IsSharedAt, AreBelow};
 ghost use Rattle.ap_fst.specs.Removal.{AddsWhere};
+ghost use Rattle.ap_fst.specs.Machines.{IsMachine};
 ghost use Rattle.ap_fst.specs.Walks.{AcceptsLabels};
-ghost use Rattle.ap_fst.specs.Trimming.{IsUseful, IsTrimmed, IsTrimOf, kept_edge, kept_state};
+ghost use Rattle.ap_fst.specs.Trimming.{IsUseful, IsTrimmed, IsTrimOf, trimmed_to, kept_edge, kept_state};
 ghost use Rattle.ap_fst.specs.declared.label.Label.{Label};
 
 use crate::arcs::{backward_arcs, forward_arcs};
@@ -95,6 +96,7 @@ fn common_states(alloc: Global, a: &StateSet, b: &StateSet) -> Result<Vec<usize>
 fn useful_states(alloc: Global, fst: &Fst) -> Result<Vec<usize>, Memory>
     ensures ascend { IfOk result (λ states. Ascends nat_cmp states.items) }
     ensures exactly { IfOk result (λ states. (s : ℕ) → IsIn s states.items ↔ IsUseful fst.now s) }
+    ensures sound { IfOk result (λ states. IsMachine fst.now) }
 {
     let edges = fst.edges();
     let arcs = forward_arcs(alloc, edges)?;
@@ -171,6 +173,16 @@ fn kept_finals(alloc: Global, states: &[usize], finals: &[usize]) -> Result<Fina
     Ok(kept)
 }
 
+/// What is left of the transducer where these states stay.
+fn left_of(alloc: Global, fst: &Fst, states: &[usize]) -> Result<Fst, Memory>
+    requires ascend { Ascends nat_cmp states.now }
+    ensures { IfOk result (λ made. made ≡ trimmed_to states.now fst.now) }
+{
+    let edges = kept_edges(alloc, states, fst.edges())?;
+    let finals = kept_finals(alloc, states, fst.finals())?;
+    Ok(Fst::build(states.len().max(1), edges, finals))
+}
+
 /// The transducer without the states that are not reached from the start or reach no final one, and
 /// without their edges. The states that stay are numbered in their old order, so a trimmed
 /// transducer is given back as it is. The label strings stay the same. Memory is taken by the edges
@@ -183,7 +195,21 @@ pub fn trim(alloc: Global, fst: &Fst) -> Result<Fst, Memory>
     ensures unchanged { IfOk result (λ made. IsTrimmed fst.now → made ≡ fst.now) }
 {
     let states = useful_states(alloc, fst)?;
-    let edges = kept_edges(alloc, states.as_slice(), fst.edges())?;
-    let finals = kept_finals(alloc, states.as_slice(), fst.finals())?;
-    Ok(Fst::build(states.len().max(1), edges, finals))
+    left_of(alloc, fst, states.as_slice())
+}
+
+/// The same of a transducer that is handed over. Where each of its states is useful it is given back
+/// as it is, and none of its edges is copied.
+pub fn trimmed(alloc: Global, fst: Fst) -> Result<Fst, Memory>
+    ensures same { IfOk result (λ made. (labels : List Label) → AcceptsLabels made labels
+        ↔ AcceptsLabels fst labels) }
+    ensures trimmed { IfOk result (λ made. IsTrimmed made) }
+    ensures exact { IfOk result (λ made. IsTrimOf fst made) }
+    ensures unchanged { IfOk result (λ made. IsTrimmed fst → made ≡ fst) }
+{
+    let states = useful_states(alloc, &fst)?;
+    if states.len() == fst.states() {
+        return Ok(fst);
+    }
+    left_of(alloc, &fst, states.as_slice())
 }

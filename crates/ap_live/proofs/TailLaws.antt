@@ -395,11 +395,6 @@ backs_by m seen items backs at z is h =
       complete = λ back tail. (h back).1 (is'.complete (item 0 back) (begin refl refl) tail);
     }
 
-pub if_ok_more : {T F : Type 0} (r : Result T F) (P Q : T → Type 0) → ((x : T) → P x → Q x) →
-    IfOk r P → IfOk r Q
-if_ok_more (Ok x) P Q f h = f x h
-if_ok_more (Err e) P Q f h = h
-
 pub start_all : (backs : List (List Symbol)) (items yielded rest : List Item) →
     items ≡ yielded ++ rest → rest ≡ [] →
     ((back : List Symbol) → IsIn back backs ↔ IsIn (item 0 back) yielded) → (back : List Symbol) →

@@ -119,46 +119,44 @@ fn fill(edges: &[Edge], len: usize, place: usize, firsts: &mut Vec<u32>) -> Resu
     Ok(())
 }
 
-/// For each state, and for the one behind the last, the place of the first edge that leaves no
-/// smaller state. A transducer may claim more states than memory has room for, so states beyond
-/// about twice the number of edges have none.
-fn firsts_of(alloc: Global, fst: &Fst) -> Result<Vec<u32>, Memory>
-    ensures { IfOk result (λ firsts. AreFirsts fst.now.edges firsts.items) }
+/// Adds the entry of the edge at this place, if each edge before it has one and the state that it
+/// enters has a number that isn't too great.
+fn add_entry(edges: &[Edge], place: usize, entries: &mut Vec<Entry>) -> Result<(), Memory>
+    requires { place < length edges.now }
+    ensures { OnOk result (AreEntries edges.now entries.old.items
+        → AreEntries edges.now entries.new.items) }
+{
+    if entries.len() != place {
+        return Ok(());
+    }
+    let edge = &edges[place];
+    let Ok(to) = u32::try_from(edge.to) else {
+        return Ok(());
+    };
+    let left = code_of(&edge.label.left);
+    let right = code_of(&edge.label.right);
+    entries.push(Entry { left, to, right })?;
+    Ok(())
+}
+
+/// The outline of a transducer: for each state, and for the one behind the last, the place of the
+/// first edge that leaves no smaller state, and the entries of the edges, up to the first that
+/// enters a state whose number is too great. A transducer may claim more states than memory has
+/// room for, so states beyond about twice the number of edges have no place.
+pub(crate) fn outline_of(alloc: Global, fst: &Fst) -> Result<Outline, Memory>
+    ensures { IfOk result (λ outline. IsOutline fst.now.edges outline) }
 {
     let edges = fst.edges();
     let most = edges.len().saturating_mul(2).saturating_add(16);
     let all = fst.states().saturating_add(1).min(most);
     let mut firsts = Vec::with_capacity(alloc, all)?;
+    let mut entries = Vec::with_capacity(alloc, edges.len())?;
     for place in 0..edges.len() {
         let len = edges[place].from.saturating_add(1).min(all);
         fill(edges, len, place, &mut firsts)?;
+        add_entry(edges, place, &mut entries)?;
     }
     fill(edges, all, edges.len(), &mut firsts)?;
-    Ok(firsts)
-}
-
-/// The entries of edges, up to the first that enters a state whose number is too great.
-fn entries_of(alloc: Global, edges: &[Edge]) -> Result<Vec<Entry>, Memory>
-    ensures { IfOk result (λ entries. AreEntries edges.now entries.items) }
-{
-    let mut entries = Vec::with_capacity(alloc, edges.len())?;
-    for edge in edges {
-        let Ok(to) = u32::try_from(edge.to) else {
-            return Ok(entries);
-        };
-        let left = code_of(&edge.label.left);
-        let right = code_of(&edge.label.right);
-        entries.push(Entry { left, to, right })?;
-    }
-    Ok(entries)
-}
-
-/// The outline of a transducer.
-pub(crate) fn outline_of(alloc: Global, fst: &Fst) -> Result<Outline, Memory>
-    ensures { IfOk result (λ outline. IsOutline fst.now.edges outline) }
-{
-    let firsts = firsts_of(alloc, fst)?;
-    let entries = entries_of(alloc, fst.edges())?;
     Ok(Outline { firsts, entries })
 }
 

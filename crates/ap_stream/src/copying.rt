@@ -76,10 +76,13 @@ fn is_white(letter: char) -> bool
 }
 
 /// Whether no dialect refuses the character, no item but itself begins with it and no tool gives
-/// it a meaning.
+/// it a meaning. Most characters of a text are small letters, so these are tested for first.
 pub(crate) fn is_common(letter: char) -> bool
     ensures { result ≡ common_test letter }
 {
+    if letter >= 'a' && letter <= 'z' {
+        return true;
+    }
     !(stops_word(letter) || letter == '~' || is_white(letter))
 }
 

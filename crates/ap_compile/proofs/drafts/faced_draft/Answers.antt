@@ -1,10 +1,10 @@
 use Rattle.std.proofs.Common.{◌≡◌, sym, ◌∙◌, ap, subst, List}
+use Rattle.std.proofs.lemmas.Result.{IfOk-weaker}
 use Rattle.ap_symbol.specs.declared.symbol.Symbol.{Symbol}
 use Rattle.ap_dix.specs.Derivation.{Label as EntryLabel, paired, facing}
 use Rattle.ap_dix.specs.declared.dictionary.Direction.{Direction}
 use Rattle.ap_compile.specs.Drafts.{IsDraftOf}
 use Rattle.ap_compile.proofs.Words.{paired_swapped}
-use Rattle.ap_compile.proofs.Drafting.{if_ok_more}
 use Rattle.ap_compile.proofs.drafts.faced_draft.Goals as goal
 
 pub returns-in-Rl : goal.returns-in-Rl
@@ -16,6 +16,6 @@ returns-in-Rl c =
     ∙ sym (paired_swapped c.args.left.now c.args.right.now)
     ∙ ap (λ (d : Direction). facing d (paired c.args.left.now c.args.right.now))
     (sym c.in-Rl.is) in
-    if_ok_more c.words_draft-in-Rl.result _ _
+    IfOk-weaker c.words_draft-in-Rl.result _ _
     (λ made h. subst (λ (xs : List EntryLabel). IsDraftOf (λ w. w ≡ xs) made) e h)
     c.words_draft-in-Rl.ensures

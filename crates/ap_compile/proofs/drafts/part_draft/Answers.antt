@@ -2,24 +2,24 @@ use Rattle.std.proofs.Common.{◌≡◌, ◌<◌, sym, subst, length, refl, Some
 use Rattle.std.specs.Prelude.{IsTrue, nat_lt}
 use Rattle.std.proofs.lemmas.Option.{slice_get_read}
 use Rattle.std.proofs.lemmas.Bool.Decides.{nat_tests}
+use Rattle.std.proofs.lemmas.Result.{IfOk-weaker}
 use Rattle.ap_dix.specs.Derivation.{Derives}
 use Rattle.ap_dix.specs.Soundness.{is_sound_part, is_sound_form}
 use Rattle.ap_dix.specs.declared.dictionary.EntryPart.{EntryPart}
 use Rattle.ap_compile.specs.Drafts.{IsDraftOf}
-use Rattle.ap_compile.proofs.Drafting.{if_ok_more}
 use Rattle.ap_compile.proofs.Deriving.{identity_draft, pair_draft, paradigm_draft}
 use Rattle.ap_dix.specs.Plain.{plain}
 use Rattle.ap_compile.proofs.Forming.{part_drafted, form_drafted, form_sound}
 use Rattle.ap_compile.proofs.drafts.part_draft.Goals as goal
 
 pub returns-in-Identity : goal.returns-in-Identity
-returns-in-Identity c = if_ok_more c.faced_draft.result _ _ (λ made h d are.
+returns-in-Identity c = IfOk-weaker c.faced_draft.result _ _ (λ made h d are.
     subst (λ (p : EntryPart). IsDraftOf (Derives d c.args.direction (p ∷ [])) made)
     (sym c.in-Identity.is) (identity_draft d c.args.direction c.in-Identity.word made h))
     c.faced_draft.ensures
 
 pub returns-in-Pair : goal.returns-in-Pair
-returns-in-Pair c = if_ok_more c.faced_draft-in-Pair.result _ _ (λ made h d are.
+returns-in-Pair c = IfOk-weaker c.faced_draft-in-Pair.result _ _ (λ made h d are.
     subst (λ (p : EntryPart). IsDraftOf (Derives d c.args.direction (p ∷ [])) made)
     (sym c.in-Pair.is) (pair_draft d c.args.direction c.in-Pair.left c.in-Pair.right made h))
     c.faced_draft-in-Pair.ensures
@@ -33,7 +33,7 @@ returns-in-Paradigm c =
     let at : slice_get c.args.drafts.now c.in-Paradigm.n ≡ Some c.index-drafts-n.result =
     slice_get_read c.args.drafts.now (length c.args.drafts.now) c.in-Paradigm.n
     c.index-drafts-n.result refl within c.index-drafts-n.is in
-    if_ok_more c.copy.result _ _ (λ made h d are.
+    IfOk-weaker c.copy.result _ _ (λ made h d are.
     subst (λ (p : EntryPart). IsDraftOf (Derives d c.args.direction (p ∷ [])) made)
     (sym c.in-Paradigm.is)
     (paradigm_draft d c.args.direction c.args.drafts.now c.in-Paradigm.n c.index-drafts-n.result
@@ -44,7 +44,7 @@ returns-in-Expression c =
     let sound : IsTrue (is_sound_form c.in-Expression.expression) =
     subst (λ (p : EntryPart). IsTrue (is_sound_part (length c.args.drafts.now) p))
     c.in-Expression.is c.requires in
-    if_ok_more c.expression_draft.result _ _ (λ made h d are.
+    IfOk-weaker c.expression_draft.result _ _ (λ made h d are.
     subst (λ (p : EntryPart). IsDraftOf (Derives d c.args.direction (p ∷ [])) made)
     (sym c.in-Expression.is)
     (part_drafted d c.args.direction c.in-Expression.expression c.in-Expression.field-1 made

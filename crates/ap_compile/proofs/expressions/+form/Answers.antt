@@ -1,10 +1,11 @@
 use Rattle.std.proofs.Common.{◌≡◌, [], sym, ◌∙◌, ap}
+use Rattle.std.proofs.lemmas.Result.{IfOk-weaker}
 use Rattle.ap_dix.specs.Forms.{star, plus, opt, forms_of}
 use Rattle.ap_dix.specs.Language.{Lang, LangAll, LangSome}
 use Rattle.ap_dix.specs.Plain.{plain}
 use Rattle.ap_compile.specs.Drafts.{IsDraftOf}
 use Rattle.ap_compile.specs.Forming.{OfStrings}
-use Rattle.ap_compile.proofs.Drafting.{if_ok_more, no_draft}
+use Rattle.ap_compile.proofs.Drafting.{no_draft}
 use Rattle.ap_compile.proofs.Forming.{empty_drafted, sequence_more, choice_more, all_forms, sound_one, sequence_form, either_form, form_drafted, form_sound, star_drafted, plus_drafted, opt_drafted}
 use Rattle.ap_compile.proofs.expressions.+form.Goals as goal
 
@@ -46,14 +47,14 @@ choice_draft-returns t c =
 
 pub expression_draft-returns-in-Sequence : goal.expression_draft-returns-in-Sequence
 expression_draft-returns-in-Sequence t c =
-    if_ok_more c.sequence_draft.result _ _ (λ made h sound. let is =
+    IfOk-weaker c.sequence_draft.result _ _ (λ made h sound. let is =
     sequence_form c.args.e.now c.in-Sequence.es c.as_slice-in-Sequence.result.now c.in-Sequence.is
     c.as_slice-in-Sequence.ensures.value in form_drafted _ _ made is (h (form_sound _ _ is sound)))
     c.sequence_draft.ensures
 
 pub expression_draft-returns-in-Either : goal.expression_draft-returns-in-Either
 expression_draft-returns-in-Either t c =
-    if_ok_more c.choice_draft.result _ _ (λ made h sound. let is =
+    IfOk-weaker c.choice_draft.result _ _ (λ made h sound. let is =
     either_form c.args.e.now c.in-Either.es c.as_slice-in-Either.result.now c.in-Either.is
     c.as_slice-in-Either.ensures.value in form_drafted _ _ made is (h (form_sound _ _ is sound)))
     c.choice_draft.ensures
@@ -63,7 +64,7 @@ pub expression_draft-returns-in_ok-expression_draft-in-Star :
 expression_draft-returns-in_ok-expression_draft-in-Star t c =
     let is : plain c.args.e.now ≡ star (plain c.deref.result.now) =
     ap plain c.in-Star.is ∙ ap (λ z. star (plain z)) (sym c.deref.ensures) in
-    if_ok_more c.star.result _ _
+    IfOk-weaker c.star.result _ _
     (λ made h sound. form_drafted _ _ made is
     (star_drafted (Lang (plain c.deref.result.now)) c.in_ok-expression_draft-in-Star.field-0
     made (c.in_ok-expression_draft-in-Star.ensures (form_sound _ _ is sound)) h)) c.star.ensures
@@ -73,7 +74,7 @@ pub expression_draft-returns-in_ok-expression_draft-in-Plus :
 expression_draft-returns-in_ok-expression_draft-in-Plus t c =
     let is : plain c.args.e.now ≡ plus (plain c.deref-in-Plus.result.now) =
     ap plain c.in-Plus.is ∙ ap (λ z. plus (plain z)) (sym c.deref-in-Plus.ensures) in
-    if_ok_more c.plus.result _ _
+    IfOk-weaker c.plus.result _ _
     (λ made h sound. form_drafted _ _ made is
     (plus_drafted (Lang (plain c.deref-in-Plus.result.now))
     c.in_ok-expression_draft-in-Plus.field-0 made
@@ -84,7 +85,7 @@ pub expression_draft-returns-in_ok-expression_draft-in-Opt :
 expression_draft-returns-in_ok-expression_draft-in-Opt t c =
     let is : plain c.args.e.now ≡ opt (plain c.deref-in-Opt.result.now) =
     ap plain c.in-Opt.is ∙ ap (λ z. opt (plain z)) (sym c.deref-in-Opt.ensures) in
-    if_ok_more c.opt.result _ _
+    IfOk-weaker c.opt.result _ _
     (λ made h sound. form_drafted _ _ made is
     (opt_drafted (Lang (plain c.deref-in-Opt.result.now))
     c.in_ok-expression_draft-in-Opt.field-0 made

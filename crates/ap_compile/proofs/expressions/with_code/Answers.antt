@@ -2,11 +2,12 @@ use Rattle.std.proofs.Common.{◌≡◌, ◌∷◌, [], ℕ, true, sym, ◌∙�
 use Rattle.std.specs.Prelude.{IsTrue}
 use Rattle.std.specs.Char.{IsScalar}
 use Rattle.std.proofs.lemmas.Bool.{false≢true}
+use Rattle.std.proofs.lemmas.Result.{IfOk-weaker}
 use Rattle.ap_symbol.specs.Words.{is_white}
 use Rattle.ap_symbol.specs.declared.symbol.Symbol.TheVariants.{Letter}
 use Rattle.ap_compile.specs.Drafts.{IsMoreBy}
 use Rattle.ap_compile.specs.Forming.{OfStrings, IsCode}
-use Rattle.ap_compile.proofs.Drafting.{if_ok_more, more_draft}
+use Rattle.ap_compile.proofs.Drafting.{more_draft}
 use Rattle.ap_compile.proofs.Forming.{strings_draft}
 use Rattle.ap_compile.proofs.Spanning.{no_code, code_strings}
 use Rattle.ap_compile.proofs.expressions.with_code.Goals as goal
@@ -26,7 +27,7 @@ returns c =
     subst IsScalar (sym c.in-Some.ensures.value.1) c.in-Some.ensures.value.0 in
     let dark : IsTrue (not (is_white c.in-Some.c)) =
     ap not (sym c.is_white.ensures ∙ c.if-is_white.false) in
-    if_ok_more c.either.result _ _
+    IfOk-weaker c.either.result _ _
     (λ made h. subst (λ (z : ℕ). IsMoreBy (OfStrings (IsCode z)) c.args.made made)
     c.in-Some.ensures.value.1
     (more_draft (OfStrings (IsCode c.in-Some.c)) c.args.made c.in_ok-more.more made

@@ -1,6 +1,6 @@
 use Rattle.std.proofs.Common.{sym, length}
+use Rattle.std.proofs.lemmas.Result.{IfOk-weaker}
 use Rattle.ap_dix.specs.Soundness.{is_sound_entry}
-use Rattle.ap_compile.proofs.Drafting.{if_ok_more}
 use Rattle.ap_compile.proofs.Gathered.{place_passed, place_gathered, all_got}
 use Rattle.ap_compile.proofs.gathering.with_place.Goals as goal
 
@@ -11,7 +11,7 @@ returns-in-None-clause-strings c =
 
 pub returns-in-Some-clause-strings : goal.returns-in-Some-clause-strings
 returns-in-Some-clause-strings c =
-    if_ok_more c.with_entry.result _ _
+    IfOk-weaker c.with_entry.result _ _
     (λ all h d are plain. place_gathered d c.args.direction c.args.entries.now c.args.place.now
     c.in-Some.entry.now c.args.gathering all (sym c.in-Some.ensures) (h d are plain))
     c.with_entry.ensures.strings

@@ -1,10 +1,10 @@
 use Rattle.std.proofs.Common.{false, ◌∷◌, []}
+use Rattle.std.proofs.lemmas.Result.{IfOk-weaker}
 use Rattle.ap_live.proofs.Backing.{adds_here, adds_none_here, adds_last}
-use Rattle.ap_live.proofs.TailLaws.{if_ok_more}
 use Rattle.ap_live.proofs.backward.move_before.Goals as goal
 
 pub returns : goal.returns
-returns c = if_ok_more c.move_link.result _ _
+returns c = IfOk-weaker c.move_link.result _ _
     (λ x h. adds_here c.args.fst.now.edges false c.args.links.now c.arrivals_at-here.result.now
     c.args.item c.args.found.now c.move_link.new.found c.arrivals_at-here.ensures
     (adds_last c.args.fst.now.edges false c.arrivals_at-here.result.now c.in-Some.others.now

@@ -1,11 +1,12 @@
 use Rattle.std.proofs.Common.{ap, ◌∙◌, sym, subst, List, ℕ, take, drop, length, ◌+◌, ◌-◌, ◌<◌, false, ◌≡◌, arith, slice_get}
 use Rattle.std.specs.Prelude.{◌↔◌}
+use Rattle.std.proofs.lemmas.Result.{IfOk-weaker}
 use Rattle.ap_symbol.specs.declared.symbol.Symbol.{Symbol}
 use Rattle.ap_fst.specs.Lists.{IsIn}
 use Rattle.ap_live.specs.declared.items.Item.{Item}
 use Rattle.ap_live.specs.Tails.{AreFinals, IsBack, IsBackMany, AreItems}
 use Rattle.ap_live.specs.declared.arrivals.Arrival.{Arrival}
-use Rattle.ap_live.proofs.TailLaws.{items_last, items_before, finals_below, back_below, backs_by, if_ok_more, row_read}
+use Rattle.ap_live.proofs.TailLaws.{items_last, items_before, finals_below, back_below, backs_by, row_read}
 use Rattle.ap_live.proofs.Spreading.{from_in}
 use Rattle.ap_live.proofs.Backing.{clean_back, clean_many, clean_finals}
 use Rattle.ap_live.proofs.backward.outputs_back.Goals as goal
@@ -73,13 +74,13 @@ loop-at-preserved c =
 
 pub returns-clause-words : goal.returns-clause-words
 returns-clause-words c =
-    if_ok_more c.at_start.result _ _
+    IfOk-weaker c.at_start.result _ _
     (λ backs h back i. c.loop-at.invariant.clean _
     (subst (λ (z : List Item). IsIn (let item : Item = record { state = 0; back = back } in item) z)
     c.into_vec.ensures ((h back).0 i))) c.at_start.ensures
 
 pub returns-clause-outputs : goal.returns-clause-outputs
-returns-clause-outputs c = if_ok_more c.at_start.result _ _
+returns-clause-outputs c = IfOk-weaker c.at_start.result _ _
     (λ backs h seen live. backs_by c.args.fst.now seen c.loop-at.items backs.items c.loop-at.at
     (omega arith) (c.loop-at.invariant.items seen live)
     (subst (λ (z : List Item). (back : List Symbol) →

@@ -1,5 +1,5 @@
 use Rattle.std.proofs.Common.{◌≡◌, ◌<◌, ◌≤◌, arith, length}
-use Rattle.ap_live.proofs.TailLaws.{if_ok_more}
+use Rattle.std.proofs.lemmas.Result.{IfOk-weaker}
 use Rattle.ap_live.proofs.Writing.{beyond_written, empty_written, letter_written}
 use Rattle.ap_live.proofs.chain.push_written.Goals as goal
 
@@ -15,7 +15,7 @@ returns-then-code-eq0 c = λ is.
     (λ e at. c.right_at-code.ensures (omega arith) c.args.edges.now e is at)
 
 pub returns-in-Some : goal.returns-in-Some
-returns-in-Some c = if_ok_more c.push.result _ _
+returns-in-Some c = IfOk-weaker c.push.result _ _
     (λ x made is.
     let within : c.args.place < length c.args.edges.now =
     omega (arith, c.if-place-edges.false) in

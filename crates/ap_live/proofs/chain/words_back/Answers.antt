@@ -1,19 +1,19 @@
 use Rattle.std.proofs.Common.{◌≡◌, arith, ◌++◌, ◌∙◌, ◌∷◌, [], List, ap, map, subst, sym}
 use Rattle.std.specs.Prelude.{◌↔◌, reverse}
 use Rattle.std.specs.List.Sorted.{IsStrictlySortedBy}
+use Rattle.std.proofs.lemmas.Result.{IfOk-weaker}
 use Rattle.ap_symbol.specs.Rendering.{word_cmp}
 use Rattle.ap_symbol.specs.declared.symbol.Symbol.{Symbol}
 use Rattle.ap_fst.specs.Lists.{IsIn}
 use Rattle.ap_live.specs.Chains.{written}
 use Rattle.ap_live.specs.Outlines.{IsOutline}
 use Rattle.ap_live.proofs.LiveLaws.{outputs_law}
-use Rattle.ap_live.proofs.TailLaws.{if_ok_more}
 use Rattle.ap_live.proofs.WordLaws.{few_sorted}
 use Rattle.ap_live.proofs.Chains.{some_holds}
 use Rattle.ap_live.proofs.chain.words_back.Goals as goal
 
 pub returns-in_ok-backs-in-None-clause-members : goal.returns-in_ok-backs-in-None-clause-members
-returns-in_ok-backs-in-None-clause-members c = if_ok_more c.ordered_words.result _ _
+returns-in_ok-backs-in-None-clause-members c = IfOk-weaker c.ordered_words.result _ _
     (λ words h is seen are. outputs_law c.args.fst.now seen c.in_ok-backs-in-None.backs.items words.items
     (c.in_ok-backs-in-None.ensures.outputs seen are) h) c.ordered_words.ensures.members
 

@@ -1,9 +1,9 @@
+use Rattle.std.proofs.lemmas.Result.{IfOk-weaker}
 use Rattle.ap_live.specs.Fitting.{Input}
-use Rattle.ap_live.proofs.TailLaws.{if_ok_more}
 use Rattle.ap_live.proofs.known.add_next.Goals as goal
 
 pub returns-in-Some-clause-ok : goal.returns-in-Some-clause-ok
-returns-in-Some-clause-ok c = if_ok_more c.add_known.result _ _
+returns-in-Some-clause-ok c = IfOk-weaker c.add_known.result _ _
     (λ x h seen outlined live is. let input : Input =
     record { symbol = c.args.input.now; sensitive = c.args.sensitive } in
     h c.args.fst.now.edges c.args.fst.now.finals seen input live is

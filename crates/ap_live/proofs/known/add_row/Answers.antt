@@ -1,15 +1,15 @@
 use Rattle.std.proofs.Common.{Some}
+use Rattle.std.proofs.lemmas.Result.{IfOk-weaker}
 use Rattle.ap_live.specs.Fitting.{Input}
 use Rattle.ap_live.specs.Leads.{IsLeadOfOne}
 use Rattle.ap_live.specs.declared.lead.Lead.TheVariants.{Nowhere, To}
 use Rattle.ap_live.proofs.KnownLaws.{row_added, void_added}
 use Rattle.ap_live.proofs.Leading.{told_nowhere, told_to, next_none, next_one, one_tells}
 use Rattle.ap_live.proofs.RowLaws.{void_tells}
-use Rattle.ap_live.proofs.TailLaws.{if_ok_more}
 use Rattle.ap_live.proofs.known.add_row.Goals as goal
 
 pub returns-then-is_void-clause-ok : goal.returns-then-is_void-clause-ok
-returns-then-is_void-clause-ok c = if_ok_more c.push_void.result _ _
+returns-then-is_void-clause-ok c = IfOk-weaker c.push_void.result _ _
     (λ x (row, (grown, void, ends)) seen outlined live is. let input : Input =
     record { symbol = c.args.input.now; sensitive = c.args.sensitive } in
     void_added c.args.fst.now.edges c.args.fst.now.finals seen input c.args.rows.now
@@ -18,7 +18,7 @@ returns-then-is_void-clause-ok c = if_ok_more c.push_void.result _ _
     c.push_void.ensures.ok
 
 pub returns-in-Nowhere-clause-ok : goal.returns-in-Nowhere-clause-ok
-returns-in-Nowhere-clause-ok c = if_ok_more c.push_void-in-Nowhere.result _ _
+returns-in-Nowhere-clause-ok c = IfOk-weaker c.push_void-in-Nowhere.result _ _
     (λ x (row, (grown, void, ends)) seen outlined live is. let input : Input =
     record { symbol = c.args.input.now; sensitive = c.args.sensitive } in
     row_added c.args.fst.now.edges c.args.fst.now.finals seen input c.args.rows.now
@@ -33,7 +33,7 @@ returns-in-Nowhere-clause-ok c = if_ok_more c.push_void-in-Nowhere.result _ _
     c.push_void-in-Nowhere.ensures.ok
 
 pub returns-in-To-clause-ok : goal.returns-in-To-clause-ok
-returns-in-To-clause-ok c = if_ok_more c.push_one.result _ _
+returns-in-To-clause-ok c = IfOk-weaker c.push_one.result _ _
     (λ x (row, (grown, one, ends)) seen outlined live is. let input : Input =
     record { symbol = c.args.input.now; sensitive = c.args.sensitive } in
     row_added c.args.fst.now.edges c.args.fst.now.finals seen input c.args.rows.now

@@ -1,5 +1,6 @@
 use Rattle.std.proofs.Common.{◌≡◌, ap, refl, subst, Some, ℕ, true}
 use Rattle.std.specs.Option.{option_copied}
+use Rattle.std.proofs.lemmas.Result.{IfOk-weaker}
 use Rattle.ap_symbol.proofs.FittingSymbols.{fits_itself}
 use Rattle.ap_symbol.specs.Fitting.{fits_lem}
 use Rattle.ap_symbol.specs.declared.symbol.Symbol.{Symbol}
@@ -8,7 +9,6 @@ use Rattle.ap_live.specs.Fitting.{Input}
 use Rattle.ap_live.specs.Spreads.{AnyPlace, HasLeft}
 use Rattle.ap_live.proofs.NodeLaws.{adds_seen, adds_two}
 use Rattle.ap_live.proofs.Others.{one_side, picked_by, two_sides}
-use Rattle.ap_live.proofs.TailLaws.{if_ok_more}
 use Rattle.ap_live.proofs.nodes.push_fitting.Goals as goal
 
 -- The input itself fits.
@@ -21,7 +21,7 @@ pub returns-in-Letter-None-clause-added : goal.returns-in-Letter-None-clause-add
 returns-in-Letter-None-clause-added c =
     let input : Input = record { symbol = c.args.input.now; sensitive = c.args.sensitive } in
     let letter : Symbol = Letter c.in-Letter-None.letter in
-    if_ok_more c.push_letter.result _ _
+    IfOk-weaker c.push_letter.result _ _
     (λ x h is span. adds_seen c.args.fst.now.edges (Some input) c.args.from c.args.back
     (HasLeft c.args.fst.now.edges (Some letter)) AnyPlace c.args.nodes.now.items
     c.push_letter.new.nodes.items
@@ -39,7 +39,7 @@ returns-in_ok-push_letter-in-Letter-Some-Letter-clause-added c =
     let letter : Symbol = Letter c.in-Letter-Some-Letter.letter in
     let small : Symbol = Letter c.in-Letter-Some-Letter.small in
     let there : option_copied c.args.other ≡ Some small = cc in
-    if_ok_more c.push_letter-in-Letter-Some-Letter-2.result _ _
+    IfOk-weaker c.push_letter-in-Letter-Some-Letter-2.result _ _
     (λ x h is span. adds_two c.args.fst.now.edges (Some input) c.args.from c.args.back
     (HasLeft c.args.fst.now.edges (Some letter)) (HasLeft c.args.fst.now.edges (Some small))
     AnyPlace c.args.nodes.now.items c.push_letter-in-Letter-Some-Letter.new.nodes.items

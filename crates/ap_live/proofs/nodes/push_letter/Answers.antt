@@ -1,8 +1,8 @@
 use Rattle.std.proofs.Common.{Some}
+use Rattle.std.proofs.lemmas.Result.{IfOk-weaker}
 use Rattle.ap_symbol.specs.declared.symbol.Symbol.TheVariants.{Letter}
 use Rattle.ap_live.proofs.NodeLaws.{adds_unless, grows_none}
 use Rattle.ap_live.proofs.Outlining.{letter_coded}
-use Rattle.ap_live.proofs.TailLaws.{if_ok_more}
 use Rattle.ap_live.proofs.nodes.push_letter.Goals as goal
 
 pub returns-then-not-has_code-clause-grown : goal.returns-then-not-has_code-clause-grown
@@ -20,7 +20,7 @@ returns-then-not-has_code-clause-added c = λ edges pick from is ascend span pic
     is ascend span c.low_of-low.ensures picked)
 
 pub returns-clause-added : goal.returns-clause-added
-returns-clause-added c = if_ok_more c.push_coded.result _ _
+returns-clause-added c = IfOk-weaker c.push_coded.result _ _
     (λ x h edges pick from is ascend span picked.
     h edges pick from c.args.first (Some (Letter c.args.letter))
     (letter_coded edges c.args.outline.now pick from c.args.first c.args.last

@@ -1,4 +1,5 @@
 use Rattle.std.proofs.Common.{◌≡◌, List, None, Some, refl, subst, sym, slice_get}
+use Rattle.std.proofs.lemmas.Result.{IfOk-weaker}
 use Rattle.ap_symbol.proofs.FittingSymbols.{fits_itself}
 use Rattle.ap_live.specs.Fitting.{Input}
 use Rattle.ap_live.specs.Outlines.{IsCut}
@@ -7,7 +8,6 @@ use Rattle.ap_live.specs.declared.outline.Entry.{Entry}
 use Rattle.ap_live.proofs.Leading.{cut_there, nowhere}
 use Rattle.ap_live.proofs.NodeLaws.{adds_none, adds_seen}
 use Rattle.ap_live.proofs.Others.{one_side, picked_by}
-use Rattle.ap_live.proofs.TailLaws.{if_ok_more}
 use Rattle.ap_live.proofs.nodes.push_mark.Goals as goal
 
 pub returns-then-not-has_code-clause-added : goal.returns-then-not-has_code-clause-added
@@ -32,7 +32,7 @@ pub returns-then-last-saturating_add-clause-added :
     goal.returns-then-last-saturating_add-clause-added
 returns-then-last-saturating_add-clause-added c =
     let input : Input = record { symbol = c.args.input.now; sensitive = c.args.sensitive } in
-    if_ok_more c.push_found.result _ _
+    IfOk-weaker c.push_found.result _ _
     (λ x h is span. adds_seen c.args.fst.now.edges (Some input) c.args.from c.args.back
     (HasLeft c.args.fst.now.edges (Some c.args.input.now)) AnyPlace c.args.nodes.now.items
     c.push_found.new.nodes.items

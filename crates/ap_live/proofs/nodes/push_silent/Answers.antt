@@ -1,8 +1,8 @@
 use Rattle.std.proofs.Common.{None}
+use Rattle.std.proofs.lemmas.Result.{IfOk-weaker}
 use Rattle.ap_live.specs.Spreads.{AnyPlace, HasLeft}
 use Rattle.ap_live.proofs.NodeLaws.{adds_seen, adds_unless, grows_none}
 use Rattle.ap_live.proofs.Outlining.{silent_coded, silent_side}
-use Rattle.ap_live.proofs.TailLaws.{if_ok_more}
 use Rattle.ap_live.proofs.nodes.push_silent.Goals as goal
 
 pub returns-then-not-has_code-clause-grown : goal.returns-then-not-has_code-clause-grown
@@ -18,7 +18,7 @@ returns-then-not-has_code-clause-added c = λ edges from is ascend span.
     (silent_coded edges c.args.outline.now from c.args.first c.args.last is ascend span))
 
 pub returns-clause-added : goal.returns-clause-added
-returns-clause-added c = if_ok_more c.push_coded.result _ _
+returns-clause-added c = IfOk-weaker c.push_coded.result _ _
     (λ x h edges from is ascend span. adds_seen edges None from c.args.back (HasLeft edges None)
     AnyPlace c.args.nodes.now.items c.push_coded.new.nodes.items (silent_side edges from)
     (h edges None from c.args.first None

@@ -1,5 +1,5 @@
 use Rattle.std.proofs.Common.{◌≡◌, ◌<◌, ◌++◌, ◌∙◌, ap, arith, length, sym}
-use Rattle.ap_live.proofs.TailLaws.{if_ok_more}
+use Rattle.std.proofs.lemmas.Result.{IfOk-weaker}
 use Rattle.ap_live.proofs.Writing.{empty_bytes, letter_spelt}
 use Rattle.ap_live.proofs.only.spell_written.Goals as goal
 
@@ -20,7 +20,7 @@ returns-in-Some c = λ is.
     (c.in_ok-push.ensures.items ∙ ap (λ z. c.args.bytes.now.items ++ z) (sym told.2))
 
 pub returns-then-is_bare : goal.returns-then-is_bare
-returns-then-is_bare c = if_ok_more c.spell_bare.result _ _
+returns-then-is_bare c = IfOk-weaker c.spell_bare.result _ _
     (λ x made is.
     let within : c.args.place < length c.args.edges.now =
     omega (arith, c.if-place-edges.false) in

@@ -1,12 +1,12 @@
 use Rattle.std.proofs.Common.{sym, subst, Some}
+use Rattle.std.proofs.lemmas.Result.{IfOk-weaker}
 use Rattle.ap_symbol.specs.declared.symbol.Symbol.{Symbol}
 use Rattle.ap_live.specs.Fitting.{pick_of}
 use Rattle.ap_live.specs.Spreads.{SpreadOne, HasLeft}
-use Rattle.ap_live.proofs.TailLaws.{if_ok_more}
 use Rattle.ap_live.proofs.rows.spread_symbol.Goals as goal
 
 pub returns-in-Some : goal.returns-in-Some
-returns-in-Some c = if_ok_more c.spread_letter.result _ _
+returns-in-Some c = IfOk-weaker c.spread_letter.result _ _
     (λ x h is. subst (λ (z : Symbol). SpreadOne c.args.fst.now.edges (pick_of c.args.pick)
     c.args.from (HasLeft c.args.fst.now.edges (Some z)) c.args.states.now.items
     c.args.links.now.items c.spread_letter.new.states.items c.spread_letter.new.links.items)
