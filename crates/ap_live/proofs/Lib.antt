@@ -5,13 +5,11 @@ pub mod Leading
 pub mod NodeLaws
 pub mod Arriving
 pub mod RowLaws
-pub mod StackLaws
-pub mod KnownLaws
 pub mod Backing
 pub mod TailLaws
 pub mod OutputLaws
 pub mod WordLaws
-pub mod Chains
+pub mod Heads
 pub mod Writing
 pub mod WayLaws
 pub mod TrailLaws

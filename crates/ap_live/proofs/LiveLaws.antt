@@ -1,9 +1,10 @@
 -- What a live set says, in the words of accepted label lists.
-use Rattle.std.proofs.Common.{◌≡◌, inl, inr, ℕ, ◌<◌, Bool, true, false, List, [], ◌∷◌, ◌++◌, map, length, take, refl, sym, ◌∙◌, ap, subst, append_assoc, append-nil, arith, Option, Some, None, slice_get}
+use Rattle.std.proofs.Common.{◌≡◌, ◌⊎◌, inl, inr, ℕ, ◌<◌, ◌≤◌, zero, suc, Bool, true, false, List, [], ◌∷◌, ◌++◌, map, length, take, refl, sym, ◌∙◌, ap, subst, append_assoc, append-nil, arith, Option, Some, None, slice_get}
 use Rattle.std.specs.Prelude.{◌↔◌, reverse, IsTrue}
 use Rattle.std.specs.Option.{option_to_list}
 use Rattle.std.proofs.lemmas.Bool.{and_parts, cases_lt}
 use Rattle.std.proofs.lemmas.List.{reverse-reverse}
+use Rattle.std.proofs.lemmas.Option.{none-some}
 use Rattle.ap_symbol.specs.Fitting.{fits_lem}
 use Rattle.ap_symbol.specs.declared.symbol.Symbol.{Symbol}
 use Rattle.ap_fst.specs.Lists.{IsIn}
@@ -19,17 +20,16 @@ use Rattle.ap_fst.proofs.SilenceLaws.{left_word_then}
 use Rattle.ap_live.specs.Fitting.{Input, fits_inputs, fits_side, is_empty_side}
 use Rattle.ap_live.specs.Outlines.{IsOutline}
 use Rattle.ap_live.specs.Spreads.{Picked}
-use Rattle.ap_live.specs.Lives.{IsHeld, IsLive, Lives}
-use Rattle.ap_live.specs.Rows.{Reach, begin, silent, taken, AreRows, AreLiveRows, IsKnown, RowLives, Tells}
+use Rattle.ap_live.specs.Lives.{IsBefore, IsHeld, IsHeldBy, IsLive, Lives}
+use Rattle.ap_live.specs.Rows.{Reach, begin, silent, taken, AreLiveRows}
 use Rattle.ap_live.specs.Tails.{AreBacks}
 use Rattle.ap_live.specs.Outputs.{IsOutput, FitBeginning}
 use Rattle.ap_live.specs.declared.outline.Outline.{Outline}
 use Rattle.ap_live.specs.declared.rows.Row.{Row}
 use Rattle.ap_live.specs.declared.ways.Ways.{Ways}
-use Rattle.ap_live.specs.declared.ways.Ways.TheVariants.{Nodes, Rows}
 use Rattle.ap_live.specs.Trails.{IsTrail, Trails}
 use Rattle.ap_live.proofs.Spreading.{both_true, to_in}
-use Rattle.ap_live.proofs.KnownLaws.{nothing_known}
+use Rattle.ap_live.proofs.RowLaws.{take_taken}
 use Rattle.ap_live.proofs.OutputLaws.{output_from_tail, tail_from_output}
 
 -- ---- from a state that is reached on to a final one
@@ -329,45 +329,66 @@ live_on m seen seen' l old new live o h t v =
           subst (λ (z : Bool). IsTrue z ↔ (m.finals ≡ [])) (sym v) live'.void_is;
     }
 
--- ---- by rows of states
-
-pub rows_start : (m : Machine) (r : RowLives) → AreRows m.edges [] r.rows →
-    ((at : ℕ) (row : Row) → slice_get r.rows at ≡ Some row → Tells m.finals row) → r.known ≡ [] →
-    r.links ≡ [] → r.path ≡ [] → AreLiveRows m [] r
-rows_start m r are told known links path = record {
-  rows_are = are;
-  known_is = nothing_known m.edges m.finals r.rows r.known r.links r.path told known links path;
-}
-
-pub rows_on : (m : Machine) (seen seen' : List Input) (r old new : RowLives) →
-    AreLiveRows m seen r → old ≡ r
-    → (AreRows m.edges seen old.rows →
-    IsKnown m.edges m.finals old.rows old.known old.links old.path →
-    AreRows m.edges seen' new.rows
-    × IsKnown m.edges m.finals new.rows new.known new.links new.path) → AreLiveRows m seen' new
-rows_on m seen seen' r old new are o h =
-    let are' : AreLiveRows m seen old = subst (λ (z : RowLives). AreLiveRows m seen z) (sym o) are
-    in
-    let both : AreRows m.edges seen' new.rows
-    × IsKnown m.edges m.finals new.rows new.known new.links new.path =
-    h are'.rows_are are'.known_is in record { rows_are = both.0; known_is = both.1 }
-
-pub rows_as : (m : Machine) (seen : List Input) (r : RowLives) (rows : List Row) →
-    rows ≡ r.rows → AreLiveRows m seen r → AreRows m.edges seen rows
-rows_as m seen r rows e are = subst (λ (z : List Row). AreRows m.edges seen z) (sym e) are.rows_are
-
-pub told_rows : (m : Machine) (seen : List Input) (r : RowLives) (rows : List Row) →
-    AreLiveRows m seen r → rows ≡ r.rows → (at : ℕ) (row : Row) → slice_get rows at ≡ Some row →
-    Tells m.finals row
-told_rows m seen r rows are e at row h =
-    are.known_is.told at row (ap (λ (z : List Row). slice_get z at) (sym e) ∙ h)
-
 -- ---- by either
 
-pub by_nodes : (m : Machine) (seen : List Input) (w : Ways) (t : Trails) → w ≡ Nodes t →
-    IsHeld m seen w → IsTrail m.edges seen t
-by_nodes m seen w t e held = subst (λ (z : Ways). IsHeld m seen z) e held
+by_rows_of : (m : Machine) (seen : List Input) (trail : Option Trails) (rows : List Row) →
+    IsHeldBy m seen trail (Some rows) → AreLiveRows m seen rows × IsBefore m seen trail
+by_rows_of m seen None rows held = held
+by_rows_of m seen (Some trail) rows held = held
 
-pub by_rows : (m : Machine) (seen : List Input) (w : Ways) (r : RowLives) → w ≡ Rows r →
-    IsHeld m seen w → AreLiveRows m seen r
-by_rows m seen w r e held = subst (λ (z : Ways). IsHeld m seen z) e held
+pub by_rows : (m : Machine) (seen : List Input) (w : Ways) (rows : List Row) → w.rows ≡ Some rows →
+    IsHeld m seen w → AreLiveRows m seen rows × IsBefore m seen w.trail
+by_rows m seen w rows e held = by_rows_of m seen w.trail rows
+    (subst (λ (z : Option (List Row)). IsHeldBy m seen w.trail z) e held)
+
+pub by_trail : (m : Machine) (seen : List Input) (w : Ways) (trail : Trails) → w.rows ≡ None →
+    w.trail ≡ Some trail → IsHeld m seen w → IsTrail m.edges seen trail
+by_trail m seen w trail none e held =
+    subst (λ (z : Option Trails). IsHeldBy m seen z None) e
+    (subst (λ (z : Option (List Row)). IsHeldBy m seen w.trail z) none held)
+
+pub by_none : (m : Machine) (seen : List Input) (w : Ways) → w.rows ≡ None → w.trail ≡ None →
+    IsHeld m seen w → ⊥
+by_none m seen w none e held =
+    subst (λ (z : Option Trails). IsHeldBy m seen z None) e
+    (subst (λ (z : Option (List Row)). IsHeldBy m seen w.trail z) none held)
+
+-- ---- back to fewer inputs
+
+-- Back to the inputs of the trail, or of the nodes.
+pub cut_back : (m : Machine) (seen : List Input) (len : ℕ) (trail : Option Trails)
+    (rows : Option (List Row)) (new : Ways) →
+    ((t : Trails) → trail ≡ Some t → (s : List Input) → IsTrail m.edges s t →
+    IsHeld m (take len s) new) →
+    (rows ≡ None) ⊎ (((t : Trails) → trail ≡ Some t → len ≤ length t.inputs)
+    × (trail ≡ None → ⊥)) → IsHeldBy m seen trail rows → IsHeld m (take len seen) new
+cut_back m seen len None None new f short held = elim held [ ]
+cut_back m seen len (Some t) None new f short held = f t refl seen held
+cut_back m seen len None (Some r) new f (inl e) held = absurd (none-some r (sym e))
+cut_back m seen len None (Some r) new f (inr (few, some)) held = absurd (some refl)
+cut_back m seen len (Some t) (Some r) new f (inl e) held = absurd (none-some r (sym e))
+cut_back m seen len (Some t) (Some r) new f (inr (few, some)) held =
+    subst (λ (z : List Input). IsHeld m z new)
+    (take_taken seen (length t.inputs) len (few t refl))
+    (f t refl (take (length t.inputs) seen) held.1.1)
+
+long_enough : {X : Type 0} (xs : List X) (n len : ℕ) → n ≤ length xs → n ≤ len →
+    n ≤ length (take len xs)
+long_enough [] n len h k = omega arith
+long_enough (x ∷ xs) n zero h k = omega arith
+long_enough (x ∷ xs) zero (suc len) h k = omega arith
+long_enough (x ∷ xs) (suc n) (suc len) h k =
+    let l : n ≤ length (take len xs) = long_enough xs n len (omega arith) (omega arith) in
+    omega arith
+
+-- A trail of fewer inputs stays that of the first of them.
+pub before_cut : (m : Machine) (seen : List Input) (len : ℕ) (trail : Option Trails) →
+    ((t : Trails) → trail ≡ Some t → length t.inputs < len) → IsBefore m seen trail →
+    IsBefore m (take len seen) trail
+before_cut m seen len None few h = h
+before_cut m seen len (Some t) few h =
+    let less : length t.inputs < len = few t refl in (
+      long_enough seen (length t.inputs) len h.0 (omega arith),
+      subst (λ (z : List Input). IsTrail m.edges z t)
+          (sym (take_taken seen len (length t.inputs) (omega arith))) h.1,
+    )

@@ -12,7 +12,7 @@ use Rattle.std.proofs.lemmas.Option.{none-some}
 use Rattle.ap_fst.specs.declared.label.Edge.{Edge}
 use Rattle.ap_live.specs.Fitting.{Input}
 use Rattle.ap_live.specs.Spreads.{arrival, Picked, Spread, PickedFrom, From, given, onward, Closed}
-use Rattle.ap_live.specs.Rows.{Reach, begin, silent, taken, EntersSilently, EntersTaking, IsRow, IsFirst, IsNext, IsVoid, AreRows, Tells}
+use Rattle.ap_live.specs.Rows.{Reach, begin, silent, taken, EntersSilently, EntersTaking, IsRow, IsFirst, IsNext, IsVoid, AreRows, AreLiveRows, Tells}
 use Rattle.ap_live.specs.declared.arrivals.Arrival.{Arrival}
 use Rattle.ap_live.specs.declared.rows.Row.{Row}
 use Rattle.ap_live.proofs.Spreading.{in_front, spread_nothing}
@@ -341,31 +341,48 @@ rows_cut edges seen rows rows' n lt e live =
           (live.each k row g.0);
     }
 
--- ---- a row without a state
+-- ---- the rows of a transducer
+
+pub live_begun : (m : Machine) (rows before : List Row) (row : Row) → IsFirst m.edges row →
+    Tells m.finals row → before ≡ [] → rows ≡ before ++ row ∷ [] → AreLiveRows m [] rows
+live_begun m rows before row first tells none e = record {
+  rows_are = live_first m.edges rows before row first none e;
+  told = λ at x h. elim (snoc_get before row x at
+      (ap (λ (z : List Row). slice_get z at) (sym e) ∙ h)) [
+        | inl (a, b) ↦ absurd (none-some x (ap (λ (z : List Row). slice_get z at) (sym none) ∙ b))
+        | inr (a, b) ↦ subst (λ (z : Row). Tells m.finals z) b tells
+      ];
+}
+
+pub live_stepped : (m : Machine) (seen : List Input) (input : Input) (rows rows' : List Row)
+    (last row : Row) → Some last ≡ slice_get rows (length rows - 1) →
+    IsNext m.edges (Some input) last.states.items row → Tells m.finals row →
+    rows' ≡ rows ++ row ∷ [] → AreLiveRows m seen rows → AreLiveRows m (seen ++ input ∷ []) rows'
+live_stepped m seen input rows rows' last row there next tells e are = record {
+  rows_are = step_law m.edges seen input rows rows rows rows' last row last.states.items
+      are.rows_are refl refl there refl next e;
+  told = λ at x h. elim (snoc_get rows row x at
+      (ap (λ (z : List Row). slice_get z at) (sym e) ∙ h)) [
+        | inl (a, b) ↦ are.told at x b
+        | inr (a, b) ↦ subst (λ (z : Row). Tells m.finals z) b tells
+      ];
+}
+
+pub live_cut : (m : Machine) (seen : List Input) (rows rows' : List Row) (n : ℕ) →
+    n < length rows → rows' ≡ take (n + 1) rows → AreLiveRows m seen rows →
+    AreLiveRows m (take n seen) rows'
+live_cut m seen rows rows' n lt e are = record {
+  rows_are = rows_cut m.edges seen rows rows' n lt e are.rows_are;
+  told = λ at x h. are.told at x (get_taken rows (n + 1) at x
+      (ap (λ (z : List Row). slice_get z at) (sym e) ∙ h)).0;
+}
+
+pub live_as : (m : Machine) (seen : List Input) (rows seen_as : List Row) → seen_as ≡ rows →
+    AreLiveRows m seen rows → AreLiveRows m seen seen_as
+live_as m seen rows seen_as e are = subst (λ (z : List Row). AreLiveRows m seen z) (sym e) are
+
+-- ---- a list without an item
 
 pub no_members : {X : Type 0} (xs : List X) → nat_eq (length xs) 0 ≡ true → xs ≡ []
 no_members [] h = refl
 no_members (x ∷ xs) h = absurd (grind (arith, nat_tests))
-
-pub void_closed : (edges : List Edge) (row : Row) → IsVoid row →
-    Closed edges [] [] row.states.items row.silent.items
-void_closed edges row void =
-    let none : Closed edges [] [] [] [] =
-    record { spread = spread_nothing edges None [] []; sound = λ s i. elim i [ ] } in
-    subst (λ (z : List Arrival). Closed edges [] [] row.states.items z) (sym void.silent)
-    (subst (λ (z : List ℕ). Closed edges [] [] z []) (sym void.states) none)
-
-pub void_next : (edges : List Edge) (pick : Option Input) (row : Row) → IsVoid row →
-    IsNext edges pick [] row
-void_next edges pick row void = record {
-  base = [];
-  taken = subst (λ (z : List Arrival). Spread edges pick [] [] [] [] z) (sym void.taken)
-      (spread_nothing edges pick [] []);
-  closed = void_closed edges row void;
-}
-
-pub void_tells : (finals : List ℕ) (row : Row) → IsVoid row → row.ends ≡ false → Tells finals row
-void_tells finals row void ends = (
-  λ t. absurd (true≢false (sym t ∙ ends)),
-  λ (s, (i, k)). elim (subst (λ (z : List ℕ). IsIn s z) void.states i) [ ],
-)

@@ -13,7 +13,7 @@ use Rattle.ap_fst.specs.declared.label.Edge.{Edge}
 use Rattle.ap_fst.proofs.Listing.{IsPlaced, in_from_place, placed_in}
 use Rattle.ap_live.specs.Fitting.{Input}
 use Rattle.ap_live.specs.Spreads.{AnyPlace, Picked}
-use Rattle.ap_live.specs.Chains.{written}
+use Rattle.ap_live.specs.Heads.{written}
 use Rattle.ap_live.specs.Outputs.{IsOutput}
 use Rattle.ap_live.specs.Rows.{Reach}
 use Rattle.ap_live.specs.Trails.{AddsNodes, AreWays, Grows, HasStep, HasWay, IsReached, IsStep, IsFirstFinal, IsOnlyEnd, IsTrail, LeadsBack, NoneFinal, Spreads, Trails, Way, begin, first, input_of, next, node}

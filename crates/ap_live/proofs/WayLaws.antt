@@ -6,8 +6,8 @@ use Rattle.ap_symbol.specs.declared.symbol.Symbol.{Symbol}
 use Rattle.ap_fst.specs.Lists.{IsIn}
 use Rattle.ap_fst.specs.Machines.{Machine}
 use Rattle.ap_fst.specs.declared.label.Edge.{Edge}
-use Rattle.ap_live.specs.Chains.{HasEnd, Head, written, written_by}
-use Rattle.ap_live.specs.Chains as chains
+use Rattle.ap_live.specs.Heads.{HasEnd, Head, written, written_by}
+use Rattle.ap_live.specs.Heads as heads
 use Rattle.ap_live.specs.Fitting.{Input}
 use Rattle.ap_live.specs.Outputs.{IsOutput}
 use Rattle.ap_live.specs.Rows.{Reach}
@@ -16,7 +16,7 @@ use Rattle.ap_live.specs.Tails.{Tail, stop}
 use Rattle.ap_live.specs.Tails as tails
 use Rattle.ap_live.specs.Trails.{Way, begin}
 use Rattle.ap_live.specs.Trails as trails
-use Rattle.ap_live.proofs.Chains.{whole_path}
+use Rattle.ap_live.proofs.Heads.{whole_path}
 use Rattle.ap_live.proofs.OutputLaws.{output_from_tail, tail_from_output}
 use Rattle.std.proofs.lemmas.List.{reverse-reverse}
 
@@ -85,9 +85,9 @@ record IsWayOf (edges : List Edge) (seen : List Input) (s : ℕ) (back : List Sy
 
 head_way : (edges : List Edge) (seen : List Input) (s : ℕ) (back : List Symbol) →
     Head edges seen s back → IsWayOf edges seen s back
-head_way edges seen s back (chains.begin e z b) =
+head_way edges seen s back (heads.begin e z b) =
     record { places = []; way = begin e z refl; is = b }
-head_way edges seen s back (chains.silent f j rest p w head) =
+head_way edges seen s back (heads.silent f j rest p w head) =
     let h : IsWayOf edges seen f rest = head_way edges seen f rest head in
     record {
       places = j ∷ h.places;
@@ -95,7 +95,7 @@ head_way edges seen s back (chains.silent f j rest p w head) =
       is = w ∙ ap (λ x. option_to_list p.edge.label.right ++ x) h.is
           ∙ sym (written_next edges (j ∷ h.places) h.places j p.edge p.at refl);
     }
-head_way edges seen s back (chains.taken before input f j rest p e w head) =
+head_way edges seen s back (heads.taken before input f j rest p e w head) =
     let h : IsWayOf edges before f rest = head_way edges before f rest head in
     record {
       places = j ∷ h.places;

@@ -6,7 +6,7 @@ use Rattle.ap_symbol.specs.Rendering.{letter_bytes, rendering}
 use Rattle.ap_symbol.specs.declared.symbol.Symbol.{Symbol}
 use Rattle.ap_symbol.specs.declared.symbol.Symbol.TheVariants.{Letter}
 use Rattle.ap_fst.specs.declared.label.Edge.{Edge}
-use Rattle.ap_live.specs.Chains.{written_by}
+use Rattle.ap_live.specs.Heads.{written_by}
 use Rattle.ap_live.specs.Outlines.{side_code}
 use Rattle.ap_live.proofs.Outlining.{code_of_letter, code_of_none, some_at}
 

@@ -1,10 +1,9 @@
 pub mod Fitting
 pub mod Spreads
 pub mod Outlines
-pub mod Leads
 pub mod Rows
 pub mod Tails
-pub mod Chains
+pub mod Heads
 pub mod Outputs
 pub mod Trails
 pub mod Lives

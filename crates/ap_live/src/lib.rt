@@ -3,14 +3,12 @@
 //! the lexicon that they are of.
 #![tactic(auto)]
 
+mod along;
 mod arrivals;
 mod backward;
-mod chain;
 mod held;
 mod items;
-mod known;
 mod laws;
-mod lead;
 mod lexicon_laws;
 mod live;
 mod live_rows;
@@ -24,7 +22,6 @@ mod readable;
 mod readings;
 mod rows;
 mod section_live;
-mod stack;
 mod taken;
 mod trail;
 mod ways;

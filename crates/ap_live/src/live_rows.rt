@@ -11,12 +11,13 @@ ghost use Rattle.ap_live.specs.Outputs.{IsOutput, WritesWords};
 ghost use Rattle.ap_live.specs.Rows.{AreLiveRows, Reach};
 ghost use Rattle.ap_live.specs.Trails.{input_of};
 
-use crate::chain::words_back;
-use crate::held::{ends_finally, reaches_none};
-use crate::known::{Known, add_row, cut_rows, nothing_known};
+use crate::backward::backs_of;
+use crate::held::{HeldRow, ends_finally, reaches_none};
 use crate::outline::Outline;
-use crate::stack::{Rows, first_rows};
+use crate::picking::Pick;
+use crate::rows::{fill_row, first_row, no_row};
 use crate::taken::Taken;
+use crate::wording::ordered_words;
 use ap_fst::Fst;
 use ap_symbol::{Memory, Symbol, Word};
 use std::alloc::Global;
@@ -26,26 +27,18 @@ use std::marker::Model;
 /// which each was reached. They are as many as states, however many ways lead to these. No output
 /// is kept: outputs are made back from the final states alone, so that a path that leads to none
 /// costs nothing.
-///
-/// Rows that were computed are kept, and taken again where the same input comes at the same states.
-/// Where they have become too many, `cut` to no input lets them go.
 #[derive(Debug, Drop)]
 pub struct LiveRows {
-    rows: Rows,
-    known: Known,
+    rows: Vec<HeldRow>,
 }
 
 impl Model for LiveRows {
-    ghost use Rattle.ap_live.specs.Rows.{RowLives};
+    ghost use Rattle.std.specs.Prelude.{List};
+    ghost use Rattle.ap_live.specs.declared.rows.Row.{Row};
 
-    ghost Value = { RowLives };
+    ghost Value = { List Row };
 
-    ghost view = { λ l. record {
-      rows = l.rows;
-      known = l.known.rows.items;
-      links = l.known.links.items;
-      path = l.known.path.items;
-    } };
+    ghost view = { λ l. l.rows.items };
 }
 
 impl LiveRows {
@@ -55,11 +48,10 @@ impl LiveRows {
         ensures { IfOk result (λ rows. IsOutline fst.now.edges outline.now →
             AreLiveRows fst.now [] rows) }
     {
-        let rows = first_rows(alloc, fst, outline)?;
-        Ok(LiveRows {
-            rows,
-            known: nothing_known(alloc),
-        })
+        let row = first_row(alloc, fst, outline)?;
+        let mut rows = Vec::new(alloc);
+        rows.push(HeldRow::new(row))?;
+        Ok(LiveRows { rows })
     }
 
     /// Goes on by one input. After a refusal, which means want of memory, it is unchanged.
@@ -75,14 +67,13 @@ impl LiveRows {
             (seen ++ record { symbol = input.now; sensitive = sensitive } ∷ []) self.new) }
         ensures err { OnErr result (self.new ≡ self.old) }
     {
-        add_row(
-            &mut self.rows,
-            &mut self.known,
-            fst,
-            outline,
-            input,
-            sensitive,
-        )
+        let Some(last) = self.rows.last() else {
+            return Ok(());
+        };
+        let mut row = no_row(*self.rows.allocator());
+        fill_row(fst, outline, last.states(), Pick::Fitting(input, sensitive), &mut row)?;
+        self.rows.push(HeldRow::new(row))?;
+        Ok(())
     }
 
     /// What these inputs reach.
@@ -103,20 +94,16 @@ impl LiveRows {
     }
 
     /// The outputs of the inputs so far, in the order of words, each once.
-    pub(crate) fn words(
-        &self,
-        alloc: Global,
-        fst: &Fst,
-        outline: &Outline,
-    ) -> Result<Vec<Word>, Memory>
+    pub(crate) fn words(&self, alloc: Global, fst: &Fst) -> Result<Vec<Word>, Memory>
         requires no_cycle { HasNoEmptyCycle fst.now }
         requires writes { WritesWords fst.now }
-        ensures members { IfOk result (λ words. IsOutline fst.now.edges outline.now →
-            (seen : List Input) → AreLiveRows fst.now seen self.now → (w : List Symbol) →
+        ensures members { IfOk result (λ words. (seen : List Input) →
+            AreLiveRows fst.now seen self.now → (w : List Symbol) →
             IsIn w words.items ↔ IsOutput fst.now seen w) }
         ensures order { IfOk result (λ words. IsStrictlySortedBy word_cmp words.items) }
     {
-        words_back(alloc, fst, outline, self.rows.as_slice())
+        let backs = backs_of(alloc, fst, self.rows.as_slice())?;
+        ordered_words(alloc, backs)
     }
 
     /// Whether the inputs reach a final state.
@@ -148,6 +135,9 @@ impl LiveRows {
         ensures { (m : Machine) (seen : List Input) → AreLiveRows m seen self.old →
             AreLiveRows m (take len seen) self.new }
     {
-        cut_rows(&mut self.rows, &mut self.known, len);
+        if self.rows.len() <= len {
+            return;
+        }
+        self.rows.truncate(len + 1);
     }
 }

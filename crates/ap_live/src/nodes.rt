@@ -11,8 +11,7 @@ ghost use Rattle.ap_live.specs.Outlines.{IsCoded, IsOutline};
 ghost use Rattle.ap_live.specs.Spreads.{AnyPlace, HasLeft, IsOther};
 ghost use Rattle.ap_live.specs.Trails.{AddsNodes, Grows};
 
-use crate::lead::has_code;
-use crate::outline::{Outline, code_of_input, letter_code, low_of, span_in};
+use crate::outline::{Outline, code_of_input, has_code, letter_code, low_of, span_in};
 use crate::picking::{Pick, is_picked};
 use ap_fst::{Edge, Fst};
 use ap_symbol::{Memory, Symbol};

@@ -3,7 +3,7 @@ ghost use Rattle.ap_symbol.specs.Rendering.{letter_bytes, rendering, symbol_byte
 ghost use Rattle.ap_symbol.specs.Words.{is_word_symbol};
 ghost use Rattle.ap_fst.specs.Lists.{IsIn};
 ghost use Rattle.ap_fst.specs.declared.label.Edge.{Edge};
-ghost use Rattle.ap_live.specs.Chains.{written, written_by};
+ghost use Rattle.ap_live.specs.Heads.{written, written_by};
 ghost use Rattle.ap_live.specs.Outlines.{IsOutline};
 ghost use Rattle.ap_live.specs.Outputs.{WritesWords, is_word_side};
 

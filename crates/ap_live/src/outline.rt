@@ -1,4 +1,4 @@
-ghost use Rattle.std.specs.Prelude.{false, ◌≡◌, ◌<◌, ◌≤◌, ◌+◌, ℕ, IfOk, OnOk, IsTrue, List, Some, length, slice_get};
+ghost use Rattle.std.specs.Prelude.{false, true, ◌≡◌, ◌<◌, ◌≤◌, ◌+◌, ℕ, IfOk, OnOk, IsTrue, List, Some, length, slice_get};
 ghost use Rattle.std.specs.List.Sorted.{IsNonDecreasingBy};
 ghost use Rattle.ap_symbol.specs.Words.{is_white};
 ghost use Rattle.ap_fst.specs.Machines.{edge_from, IsSpan};
@@ -220,6 +220,17 @@ pub(crate) fn span_in(outline: &Outline, from: usize) -> Option<(usize, usize)>
         return None;
     }
     Some((first, last))
+}
+
+/// Whether an entry with this code stands at the place, before the last.
+pub(crate) fn has_code(entries: &[Entry], place: usize, last: usize, code: u32) -> bool
+    requires { last ≤ length entries.now }
+    ensures there { result ≡ true → place < last × ((x : Entry) →
+        slice_get entries.now place ≡ Some x → x.left ≡ code) }
+    ensures not { result ≡ false → place < last → (x : Entry) →
+        slice_get entries.now place ≡ Some x → x.left ≡ code → ⊥ }
+{
+    place < last && entries[place].left == code
 }
 
 /// Among so few entries the one that is looked for is come to one by one: where to go on from one

@@ -6,7 +6,7 @@ ghost use Rattle.ap_fst.specs.declared.label.Edge.{Edge};
 ghost use Rattle.ap_fst.specs.Lists.{Ascends, IsIn};
 ghost use Rattle.ap_fst.specs.Machines.{IsSpan};
 ghost use Rattle.ap_fst.specs.Order.{edge_cmp};
-ghost use Rattle.ap_live.specs.Rows.{IsFirst, IsNext, IsOne, IsOrdered, IsVoid, Tells};
+ghost use Rattle.ap_live.specs.Rows.{IsFirst, IsNext, IsOrdered, IsVoid, Tells};
 ghost use Rattle.ap_live.specs.declared.rows.Row.{Row};
 ghost use Rattle.ap_live.specs.Fitting.{Input, pick_of, picks};
 ghost use Rattle.ap_symbol.specs.declared.symbol.Symbol.{Symbol};
@@ -408,32 +408,6 @@ pub(crate) fn no_row(alloc: Global) -> Row
         silent: Vec::new(alloc),
         ends: false,
     }
-}
-
-/// Makes a row with no state and no edge. What it holds is room alone.
-pub(crate) fn clear_row(row: &mut Row)
-    ensures void { IsVoid row.new }
-    ensures order { IsOrdered row.new }
-    ensures ends { row.new.ends ≡ false }
-{
-    row.states.clear();
-    row.taken.clear();
-    row.silent.clear();
-    row.ends = false;
-}
-
-/// Makes a row with one state, which one edge with a left symbol leads to. What it holds is room
-/// alone.
-pub(crate) fn become_one(row: &mut Row, arrival: Arrival, ends: bool) -> Result<(), Memory>
-    ensures one { OnOk result (IsOne arrival row.new) }
-    ensures order { IsOrdered row.new }
-    ensures ends { OnOk result (row.new.ends ≡ ends) }
-{
-    clear_row(row);
-    row.states.push(arrival.to)?;
-    row.taken.push(arrival)?;
-    row.ends = ends;
-    Ok(())
 }
 
 /// Goes on from the states of a row, and the edges that took an input, to all that edges with an

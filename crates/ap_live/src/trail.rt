@@ -7,14 +7,14 @@ ghost use Rattle.ap_symbol.specs.declared.symbol.Symbol.{Symbol};
 ghost use Rattle.ap_fst.specs.Lists.{IsIn};
 ghost use Rattle.ap_fst.specs.Machines.{Machine};
 ghost use Rattle.ap_fst.specs.declared.label.Edge.{Edge};
-ghost use Rattle.ap_live.specs.Chains.{written};
+ghost use Rattle.ap_live.specs.Heads.{written};
 ghost use Rattle.ap_live.specs.Fitting.{Input};
 ghost use Rattle.ap_live.specs.Outlines.{IsOutline};
 ghost use Rattle.ap_live.specs.Outputs.{IsOutput, WritesWords};
 ghost use Rattle.ap_live.specs.Rows.{Reach};
 ghost use Rattle.ap_live.specs.Trails.{AreWays, IsFirstFinal, IsOnlyBytes, IsOnlyEnd, IsTrail, LeadsBack, NoneFinal};
 
-use crate::chain::word_along;
+use crate::along::word_along;
 use crate::node_rows::{add_nodes, first_nodes};
 use crate::nodes::Node;
 use crate::only::bytes_along;

@@ -1,4 +1,4 @@
-ghost use Rattle.std.specs.Prelude.{◌≡◌, ◌↔◌, ◌++◌, ◌∷◌, ℕ, [], List, IfOk, Ok, OnOk, OnErr, IsTrue, length, map, take, true};
+ghost use Rattle.std.specs.Prelude.{◌≡◌, ◌↔◌, ◌++◌, ◌∷◌, ◌≤◌, ◌<◌, ℕ, [], List, IfOk, None, Ok, OnOk, OnErr, IsTrue, Some, false, length, map, take, true};
 ghost use Rattle.std.specs.List.Sorted.{IsStrictlySortedBy};
 ghost use Rattle.ap_symbol.specs.Rendering.{word_cmp};
 ghost use Rattle.ap_symbol.specs.declared.symbol.Symbol.{Symbol};
@@ -9,7 +9,7 @@ ghost use Rattle.ap_live.specs.Fitting.{Input};
 ghost use Rattle.ap_live.specs.Outlines.{IsOutline};
 ghost use Rattle.ap_live.specs.Outputs.{IsOutput, WritesWords};
 ghost use Rattle.ap_live.specs.Rows.{AreLiveRows, Reach};
-ghost use Rattle.ap_live.specs.Trails.{IsOnlyBytes, input_of};
+ghost use Rattle.ap_live.specs.Trails.{IsOnlyBytes, IsTrail, Trails, input_of};
 
 use crate::live_rows::LiveRows;
 use crate::outline::Outline;
@@ -20,11 +20,12 @@ use ap_symbol::{Bytes, Memory, Symbol, Word};
 use std::alloc::Global;
 
 /// What the inputs so far reach: a node for each way, as long as the ways are few, and from then on
-/// rows of states.
+/// rows of states. The trail stays as it was when the ways became too many, and is gone on with once
+/// the inputs are cut to those that it has. There is none where the ways of no input are too many.
 #[derive(Debug, Drop)]
-pub enum Ways {
-    Nodes(Trail),
-    Rows(LiveRows),
+pub struct Ways {
+    pub trail: Option<Trail>,
+    pub rows: Option<LiveRows>,
 }
 
 /// The rows after these inputs and one more.
@@ -45,6 +46,18 @@ fn rows_behind(
     Ok(rows)
 }
 
+/// Whether a trail has so many inputs.
+fn has_inputs(trail: &Option<Trail>, len: usize) -> bool
+    ensures yes { result ≡ true → (t : Trails) → trail.now ≡ Some t → len ≤ length t.inputs }
+    ensures some { result ≡ true → trail.now ≡ None → ⊥ }
+    ensures no { result ≡ false → (t : Trails) → trail.now ≡ Some t → length t.inputs < len }
+{
+    match trail {
+        None => false,
+        Some(trail) => len <= trail.inputs().len(),
+    }
+}
+
 impl Ways {
     ghost use Rattle.ap_live.specs.Lives.{IsHeld};
 
@@ -53,35 +66,15 @@ impl Ways {
         ensures { IfOk result (λ ways. IsOutline fst.now.edges outline.now →
             IsHeld fst.now [] ways) }
     {
-        match Trail::start(alloc, fst, outline)? {
-            Some(trail) => Ok(Ways::Nodes(trail)),
-            None => Ok(Ways::Rows(LiveRows::start(alloc, fst, outline)?)),
+        let trail = Trail::start(alloc, fst, outline)?;
+        if trail.is_some() {
+            return Ok(Ways { trail, rows: None });
         }
-    }
-
-    /// Goes on by one input, by rows from now on. After a refusal it is unchanged.
-    fn leave(
-        &mut self,
-        fst: &Fst,
-        outline: &Outline,
-        input: &Symbol,
-        sensitive: bool,
-    ) -> Result<(), Memory>
-        ensures ok { OnOk result ((seen : List Input) → IsOutline fst.now.edges outline.now →
-            IsHeld fst.now seen self.old → IsHeld fst.now
-            (seen ++ record { symbol = input.now; sensitive = sensitive } ∷ []) self.new) }
-        ensures err { OnErr result (self.new ≡ self.old) }
-    {
-        match self {
-            Ways::Rows(rows) => rows.step(fst, outline, input, sensitive),
-            Ways::Nodes(trail) => {
-                let alloc = trail.allocator();
-                let inputs = trail.inputs();
-                let rows = rows_behind(alloc, fst, outline, inputs, input, sensitive)?;
-                *self = Ways::Rows(rows);
-                Ok(())
-            }
-        }
+        let rows = LiveRows::start(alloc, fst, outline)?;
+        Ok(Ways {
+            trail,
+            rows: Some(rows),
+        })
     }
 
     /// Goes on by one input. After a refusal, which means want of memory, it is unchanged.
@@ -97,15 +90,19 @@ impl Ways {
             (seen ++ record { symbol = input.now; sensitive = sensitive } ∷ []) self.new) }
         ensures err { OnErr result (self.new ≡ self.old) }
     {
-        match self {
-            Ways::Rows(rows) => rows.step(fst, outline, input, sensitive),
-            Ways::Nodes(trail) => {
-                if trail.step(fst, outline, input, sensitive)? {
-                    return Ok(());
-                }
-                self.leave(fst, outline, input, sensitive)
-            }
+        if let Some(rows) = &mut self.rows {
+            return rows.step(fst, outline, input, sensitive);
         }
+        let Some(trail) = &mut self.trail else {
+            return Ok(());
+        };
+        if trail.step(fst, outline, input, sensitive)? {
+            return Ok(());
+        }
+        let alloc = trail.allocator();
+        let rows = rows_behind(alloc, fst, outline, trail.inputs(), input, sensitive)?;
+        self.rows = Some(rows);
+        Ok(())
     }
 
     /// The outputs of the inputs so far, in the order of words, each once.
@@ -122,9 +119,12 @@ impl Ways {
             IsIn w words.items ↔ IsOutput fst.now seen w) }
         ensures order { IfOk result (λ words. IsStrictlySortedBy word_cmp words.items) }
     {
-        match self {
-            Ways::Nodes(trail) => trail.words(alloc, fst, outline),
-            Ways::Rows(rows) => rows.words(alloc, fst, outline),
+        if let Some(rows) = &self.rows {
+            return rows.words(alloc, fst);
+        }
+        match &self.trail {
+            None => Ok(Vec::new(alloc)),
+            Some(trail) => trail.words(alloc, fst, outline),
         }
     }
 
@@ -140,9 +140,12 @@ impl Ways {
         ensures { result ≡ Ok true → IsOutline fst.now.edges outline.now → (seen : List Input) →
             IsHeld fst.now seen self.now → IsOnlyBytes fst.now seen into.old into.new }
     {
-        match self {
-            Ways::Nodes(trail) => trail.render_only(fst, outline, into),
-            Ways::Rows(_) => Ok(false),
+        if self.rows.is_some() {
+            return Ok(false);
+        }
+        match &self.trail {
+            None => Ok(false),
+            Some(trail) => trail.render_only(fst, outline, into),
         }
     }
 
@@ -151,9 +154,12 @@ impl Ways {
         ensures { (seen : List Input) → IsHeld fst.now seen self.now →
             (IsTrue result ↔ ((s : ℕ) × (Reach fst.now.edges seen s × IsIn s fst.now.finals))) }
     {
-        match self {
-            Ways::Nodes(trail) => trail.accepts(fst),
-            Ways::Rows(rows) => rows.accepts(),
+        if let Some(rows) = &self.rows {
+            return rows.accepts();
+        }
+        match &self.trail {
+            None => false,
+            Some(trail) => trail.accepts(fst),
         }
     }
 
@@ -162,9 +168,12 @@ impl Ways {
         ensures { (m : Machine) (seen : List Input) → IsHeld m seen self.now →
             (IsTrue result ↔ ((s : ℕ) → Reach m.edges seen s → ⊥)) }
     {
-        match self {
-            Ways::Nodes(trail) => trail.reaches_none(),
-            Ways::Rows(rows) => rows.reaches_none(),
+        if let Some(rows) = &self.rows {
+            return rows.reaches_none();
+        }
+        match &self.trail {
+            None => true,
+            Some(trail) => trail.reaches_none(),
         }
     }
 
@@ -173,20 +182,38 @@ impl Ways {
         ensures { (m : Machine) (seen : List Input) → IsHeld m seen self.now →
             result ≡ length seen }
     {
-        match self {
-            Ways::Nodes(trail) => trail.len(),
-            Ways::Rows(rows) => rows.len(),
+        if let Some(rows) = &self.rows {
+            return rows.len();
+        }
+        match &self.trail {
+            None => 0,
+            Some(trail) => trail.len(),
         }
     }
 
-    /// Goes back to the first so many inputs; where there are no more, nothing changes.
+    /// Goes back to the first so many inputs of the trail, and lets the rows go.
+    fn cut_trail(&mut self, len: usize)
+        ensures { (m : Machine) (seen : List Input) (t : Trails) → self.old.trail ≡ Some t →
+            IsTrail m.edges seen t → IsHeld m (take len seen) self.new }
+    {
+        self.rows = None;
+        if let Some(trail) = &mut self.trail {
+            trail.cut(len);
+        }
+    }
+
+    /// Goes back to the first so many inputs; where there are no more, nothing changes. Rows are let
+    /// go where the trail has these inputs.
     pub(crate) fn cut(&mut self, len: usize)
         ensures { (m : Machine) (seen : List Input) → IsHeld m seen self.old →
             IsHeld m (take len seen) self.new }
     {
-        match self {
-            Ways::Nodes(trail) => trail.cut(len),
-            Ways::Rows(rows) => rows.cut(len),
+        if self.rows.is_none() || has_inputs(&self.trail, len) {
+            self.cut_trail(len);
+            return;
+        }
+        if let Some(rows) = &mut self.rows {
+            rows.cut(len);
         }
     }
 }

@@ -1,7 +1,7 @@
 use Rattle.std.proofs.Common.{◌≡◌, ◌++◌, length}
 use Rattle.std.specs.Prelude.{reverse}
 use Rattle.ap_symbol.specs.Rendering.{rendering}
-use Rattle.ap_live.specs.Chains.{written}
+use Rattle.ap_live.specs.Heads.{written}
 use Rattle.ap_live.specs.Outlines.{IsOutline}
 use Rattle.ap_live.proofs.only.bytes_along.Given as goal
 

@@ -2,7 +2,7 @@ use Rattle.std.proofs.Common.{◌≡◌, ◌+◌, ◌∙◌, List, ap, length, r
 use Rattle.std.proofs.lemmas.Option.{same_Some}
 use Rattle.ap_live.specs.Trails.{IsFirstFinal, IsOnlyEnd, NoneFinal, Trails}
 use Rattle.ap_live.specs.declared.nodes.Node.{Node}
-use Rattle.ap_live.proofs.Chains.{none_of}
+use Rattle.ap_live.proofs.Heads.{none_of}
 use Rattle.ap_live.proofs.TrailLaws.{only_end}
 use Rattle.ap_live.proofs.trail.Trail.only_end.Goals as goal
 

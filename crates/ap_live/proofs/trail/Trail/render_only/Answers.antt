@@ -1,7 +1,7 @@
 use Rattle.std.proofs.Common.{◌≡◌, ◌++◌, ◌∙◌, List, ap, subst, sym, ℕ}
 use Rattle.std.specs.Prelude.{reverse}
 use Rattle.ap_symbol.specs.Rendering.{rendering}
-use Rattle.ap_live.specs.Chains.{written}
+use Rattle.ap_live.specs.Heads.{written}
 use Rattle.ap_live.specs.Trails.{IsOnlyEnd, LeadsBack, Trails}
 use Rattle.ap_live.specs.declared.nodes.Node.{Node}
 use Rattle.ap_live.proofs.trail.Trail.render_only.Goals as goal

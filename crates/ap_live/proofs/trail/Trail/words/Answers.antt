@@ -3,7 +3,7 @@ use Rattle.std.specs.Prelude.{reverse}
 use Rattle.std.proofs.lemmas.Option.{slice_get-get_or}
 use Rattle.ap_symbol.specs.declared.symbol.Symbol.{Symbol}
 use Rattle.ap_fst.specs.Lists.{IsIn}
-use Rattle.ap_live.specs.Chains.{written}
+use Rattle.ap_live.specs.Heads.{written}
 use Rattle.ap_live.specs.Trails.{Trails}
 use Rattle.ap_live.specs.declared.nodes.Node.{Node}
 use Rattle.ap_live.proofs.TrailLaws.{AreWritten, proper_more, written_outputs, written_push, written_skip}

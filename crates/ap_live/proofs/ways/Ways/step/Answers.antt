@@ -1,0 +1,1 @@
+use Rattle.ap_live.proofs.ways.Ways.step.Goals as goal
