@@ -6,7 +6,7 @@ use Rattle.ap_fst.specs.Lists.{IsIn}
 use Rattle.ap_fst.specs.declared.label.Edge.{Edge}
 use Rattle.ap_live.specs.Fitting.{is_empty_side}
 use Rattle.ap_live.specs.Spreads.{arrival_to}
-use Rattle.ap_live.specs.Tails.{Back, BackFrom, IsBack, IsOnly, Merges, AddsBack, IsBackMany, BackMany, AreFinals, given, onward}
+use Rattle.ap_live.specs.Tails.{Back, BackFrom, IsBack, Merges, AddsBack, IsBackMany, BackMany, AreFinals, given, onward}
 use Rattle.ap_fst.specs.Silence.{SilentWalk, still, step, HasNoEmptyCycle}
 use Rattle.ap_fst.specs.Machines.{Machine, IsMachine}
 use Rattle.std.specs.Prelude.{IsTrue}
@@ -395,46 +395,6 @@ one_back edges b j y z e at h =
     let same : h.edge ≡ e = cc in
     h.is ∙ ap (λ (x : Edge). (let item : Item =
     record { state = x.from; back = y.back ++ option_to_list x.label.right } in item)) same
-
--- the only item by the only link
-pub back_only : (edges : List Edge) (edge : Edge) (links : List Arrival) (items found : List Item) →
-    IsOnly edges edge links items
-    → ((item : Item) → items ≡ item ∷ [] → found ≡ (let x : Item = record {
-      state = edge.from;
-      back = item.back ++ option_to_list edge.label.right;
-    } in x) ∷ []) → IsBack edges false links items found
-back_only edges edge links items found only h =
-    let before : Item = record {
-      state = edge.from;
-      back = only.item.back ++ option_to_list edge.label.right;
-    } in
-    let is : found ≡ before ∷ [] = h only.item only.item_is in
-    let leads : Back edges false before only.item only.link = record {
-      edge = edge;
-      at = only.at;
-      to_is = only.to_is;
-      arrives = only.arrives;
-      sort = only.sort;
-      is = refl;
-    } in
-    let one : IsBack edges false (only.link ∷ []) (only.item ∷ []) (before ∷ []) = record {
-      sound = λ x i. elim i [
-        | inl e ↦ record {
-          item = only.item;
-          link = only.link;
-          listed = inl refl;
-          linked = inl refl;
-          back = subst (λ (w : Item). Back edges false w only.item only.link) (sym e) leads;
-        }
-        | inr n ↦ elim n [ ]
-      ];
-      complete = λ x f. inl (one_back edges false only.link only.item x edge only.at
-          (only_back edges false only.link only.item x f));
-    } in
-    subst (λ (z : List Item). IsBack edges false links items z) (sym is)
-    (subst (λ (z : List Item). IsBack edges false links z (before ∷ [])) (sym only.item_is)
-    (subst (λ (z : List Arrival). IsBack edges false z (only.item ∷ []) (before ∷ []))
-    (sym only.link_is) one))
 
 split_in : (items : List Item) (n : ℕ) (x : Item) → IsIn x items →
     IsIn x (take n items) ⊎ IsIn x (drop n items)

@@ -1,5 +1,5 @@
 -- The paths from the start to a state, gone back from there, and what edges write.
-use Rattle.std.proofs.Common.{◌≡◌, ℕ, ◌+◌, false, List, [], ◌∷◌, ◌++◌, refl, sym, ◌∙◌, ap, subst, append_assoc, append-nil, Option, Some, None, slice_get}
+use Rattle.std.proofs.Common.{◌≡◌, ℕ, false, List, [], ◌∷◌, ◌++◌, refl, sym, ◌∙◌, ap, subst, append_assoc, append-nil, Option, Some, None, slice_get}
 use Rattle.std.specs.Prelude.{reverse, is_some, IfSome}
 use Rattle.std.specs.Option.{option_to_list}
 use Rattle.std.proofs.lemmas.List.{reverse-append}
@@ -10,7 +10,6 @@ use Rattle.ap_fst.specs.declared.label.Edge.{Edge}
 use Rattle.ap_live.specs.Heads.{Head, begin, HasEnd, written, written_by}
 use Rattle.ap_live.specs.Heads as heads
 use Rattle.ap_live.specs.Fitting.{Input}
-use Rattle.ap_live.specs.Rows as rows
 use Rattle.ap_live.specs.Tails.{Tail, stop}
 use Rattle.ap_live.specs.Tails as tails
 

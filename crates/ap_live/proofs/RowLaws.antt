@@ -1,6 +1,5 @@
-use Rattle.std.proofs.Common.{◌≡◌, ◌⊎◌, inl, inr, ℕ, ◌+◌, ◌<◌, Bool, true, false, nat_eq, List, [], ◌∷◌, ◌++◌, refl, sym, ◌∙◌, ap, subst, arith, Option, Some, None, slice_get, length, take, suc, zero, length-append, ◌-◌, ◌≤◌}
+use Rattle.std.proofs.Common.{◌≡◌, ◌⊎◌, inl, inr, ℕ, ◌+◌, ◌<◌, Bool, true, nat_eq, List, [], ◌∷◌, ◌++◌, refl, sym, ◌∙◌, ap, subst, arith, Some, None, slice_get, length, take, suc, zero, length-append, ◌-◌, ◌≤◌}
 use Rattle.std.proofs.lemmas.List.{take-append-le}
-use Rattle.std.proofs.lemmas.Bool.{true≢false}
 use Rattle.std.proofs.lemmas.Bool.Decides.{nat_tests}
 use Rattle.std.specs.Prelude.{◌↔◌}
 use Rattle.std.proofs.Math.Seq.{take-length}
@@ -12,10 +11,10 @@ use Rattle.std.proofs.lemmas.Option.{none-some}
 use Rattle.ap_fst.specs.declared.label.Edge.{Edge}
 use Rattle.ap_live.specs.Fitting.{Input}
 use Rattle.ap_live.specs.Spreads.{arrival, Picked, Spread, PickedFrom, From, given, onward, Closed}
-use Rattle.ap_live.specs.Rows.{Reach, begin, silent, taken, EntersSilently, EntersTaking, IsRow, IsFirst, IsNext, IsVoid, AreRows, AreLiveRows, Tells}
+use Rattle.ap_live.specs.Rows.{Reach, begin, silent, taken, EntersSilently, EntersTaking, IsRow, IsFirst, IsNext, AreRows, AreLiveRows, Tells}
 use Rattle.ap_live.specs.declared.arrivals.Arrival.{Arrival}
 use Rattle.ap_live.specs.declared.rows.Row.{Row}
-use Rattle.ap_live.proofs.Spreading.{in_front, spread_nothing}
+use Rattle.ap_live.proofs.Spreading.{in_front}
 
 pub no_snoc : {X : Type 0} (xs : List X) (x : X) → xs ++ x ∷ [] ≡ [] → ⊥
 no_snoc [] x e = cc
@@ -380,9 +379,3 @@ live_cut m seen rows rows' n lt e are = record {
 pub live_as : (m : Machine) (seen : List Input) (rows seen_as : List Row) → seen_as ≡ rows →
     AreLiveRows m seen rows → AreLiveRows m seen seen_as
 live_as m seen rows seen_as e are = subst (λ (z : List Row). AreLiveRows m seen z) (sym e) are
-
--- ---- a list without an item
-
-pub no_members : {X : Type 0} (xs : List X) → nat_eq (length xs) 0 ≡ true → xs ≡ []
-no_members [] h = refl
-no_members (x ∷ xs) h = absurd (grind (arith, nat_tests))

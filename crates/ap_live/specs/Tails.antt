@@ -1,4 +1,4 @@
-use Rattle.std.specs.Prelude.{◌≡◌, ℕ, Bool, true, false, List, [], ◌∷◌, ◌++◌, Some, None, slice_get}
+use Rattle.std.specs.Prelude.{◌≡◌, ℕ, Bool, true, List, [], ◌∷◌, ◌++◌, Some, None, slice_get}
 use Rattle.std.specs.Option.{option_to_list}
 use Rattle.ap_symbol.specs.declared.symbol.Symbol.{Symbol}
 use Rattle.ap_fst.specs.Lists.{IsIn}
@@ -46,18 +46,6 @@ pub record IsBack (edges : List Edge) (is_silent : Bool) (links : List Arrival)
     (items found : List Item) : Type 0 where
   pub sound : (x : Item) → IsIn x found → BackFrom edges is_silent links items x
   pub complete : (x : Item) → BackFrom edges is_silent links items x → IsIn x found
-
--- The only item was reached by the only link, by this edge, which has a left symbol.
-pub record IsOnly (edges : List Edge) (edge : Edge) (links : List Arrival)
-    (items : List Item) : Type 0 where
-  pub item : Item
-  pub link : Arrival
-  pub item_is : items ≡ item ∷ []
-  pub link_is : links ≡ link ∷ []
-  pub at : slice_get edges link.edge ≡ Some edge
-  pub to_is : item.state ≡ edge.to
-  pub arrives : link.to ≡ edge.to
-  pub sort : is_empty_side edge.label.left ≡ false
 
 -- back from these items by any number of empty links
 pub data BackMany (edges : List Edge) (links : List Arrival) (base : List Item) : Item

@@ -2,7 +2,7 @@ ghost use Rattle.std.specs.Prelude.{◌⊎◌, length, drop, ◌∷◌, ◌≡�
 ghost use Rattle.std.specs.Option.{option_to_list, option_copied};
 ghost use Rattle.ap_fst.specs.Lists.{IsIn};
 ghost use Rattle.ap_live.specs.Fitting.{Input, is_empty_side};
-ghost use Rattle.ap_live.specs.Tails.{IsBack, IsBackMany, AddsBack, AreFinals, AreBacks, IsOnly};
+ghost use Rattle.ap_live.specs.Tails.{IsBack, IsBackMany, AddsBack, AreFinals, AreBacks};
 ghost use Rattle.ap_fst.specs.declared.label.Edge.{Edge};
 ghost use Rattle.ap_fst.specs.Silence.{HasNoEmptyCycle};
 ghost use Rattle.ap_live.specs.Rows.{AreRows};
@@ -162,24 +162,9 @@ fn move_before(
     move_link(alloc, fst, *last, item, room, found)
 }
 
-/// The link, if it is the only one.
-pub(crate) fn only_link(links: &[Arrival]) -> Option<Arrival>
-    ensures { (link : Arrival) → result ≡ Some link → links.now ≡ link ∷ [] }
-{
-    match links.split_last() {
-        None => None,
-        Some((last, others)) => {
-            if others.is_empty() {
-                return Some(*last);
-            }
-            None
-        }
-    }
-}
-
 /// Goes back from these items by edges with a left symbol. The items before them take their place.
 /// The other list, which is empty before and after, lends its memory.
-fn back_all(
+fn backward(
     alloc: Global,
     fst: &Fst,
     links: &[Arrival],
@@ -197,49 +182,6 @@ fn back_all(
     }
     mem::swap(items, found);
     Ok(())
-}
-
-/// The edge by which the item was reached, if it is the only item and its link the only one, and
-/// the edge has a left symbol.
-fn only_edge<'a>(fst: &'a Fst, links: &[Arrival], items: &Items) -> Option<&'a Edge>
-    ensures { (edge : Edge) → option_copied result ≡ Some edge →
-        IsOnly fst.now.edges edge links.now items.now }
-{
-    let Some(link) = only_link(links) else {
-        return None;
-    };
-    let Some(item) = items.only() else {
-        return None;
-    };
-    let Some(edge) = edge_at(fst.edges(), link.edge) else {
-        return None;
-    };
-    if leads(edge, link, item, false) {
-        return Some(edge);
-    }
-    None
-}
-
-/// Goes back from these items by edges with a left symbol. The items before them take their place.
-/// The other list, which is empty before and after, lends its memory where more than one item is
-/// reached by more than one link.
-fn backward(
-    alloc: Global,
-    fst: &Fst,
-    links: &[Arrival],
-    room: usize,
-    items: &mut Items,
-    found: &mut Items,
-) -> Result<(), Memory>
-    requires order { IsNonDecreasingBy arrival_to links.now }
-    requires none { found.old ≡ [] }
-    ensures back { OnOk result (IsBack fst.now.edges false links.now items.old items.new) }
-    ensures none { OnOk result (found.new ≡ []) }
-{
-    match only_edge(fst, links, &*items) {
-        None => back_all(alloc, fst, links, room, items, found),
-        Some(edge) => items.go_back(alloc, edge, room),
-    }
 }
 
 /// Adds the item before one of the items by one link, if its edge has an empty left side.

@@ -4,7 +4,6 @@ ghost use Rattle.ap_fst.specs.Lists.{IsIn};
 ghost use Rattle.ap_live.specs.Tails.{Merges};
 
 use crate::picking::is_symbol;
-use ap_fst::Edge;
 use ap_symbol::{Memory, Sequence, Symbol};
 use std::alloc::Global;
 use std::marker::Model;
@@ -54,20 +53,6 @@ pub(crate) fn push_right(
             back.push(symbol.copy(alloc)?)?;
             Ok(())
         }
-    }
-}
-
-impl Item {
-    /// Becomes the item before an edge.
-    pub(crate) fn go_back(&mut self, alloc: Global, edge: &Edge, room: usize) -> Result<(), Memory>
-        ensures { OnOk result (self.new ≡ record {
-          state = edge.now.from;
-          back = self.old.back ++ option_to_list edge.now.label.right;
-        }) }
-    {
-        push_right(alloc, &edge.label.right, room, &mut self.back)?;
-        self.state = edge.from;
-        Ok(())
     }
 }
 
@@ -284,33 +269,6 @@ impl Items {
         self.list.push(item)?;
         slot_last(self.list.as_slice(), &mut self.slots)?;
         Ok(())
-    }
-
-    /// The item, if it is the only one.
-    pub(crate) fn only(&self) -> Option<&Item>
-        ensures { (item : Item) → option_copied result ≡ Some item → self.now ≡ item ∷ [] }
-    {
-        match self.list.as_slice().split_last() {
-            None => None,
-            Some((last, others)) => {
-                if others.is_empty() {
-                    return Some(last);
-                }
-                None
-            }
-        }
-    }
-
-    /// The first item becomes the one before an edge.
-    pub(crate) fn go_back(&mut self, alloc: Global, edge: &Edge, room: usize) -> Result<(), Memory>
-        requires { 0 < length self.old }
-        ensures { OnOk result ((item : Item) → self.old ≡ item ∷ [] →
-            self.new ≡ record {
-              state = edge.now.from;
-              back = item.back ++ option_to_list edge.now.label.right;
-            } ∷ []) }
-    {
-        self.list[0].go_back(alloc, edge, room)
     }
 
     /// Takes the last item away.

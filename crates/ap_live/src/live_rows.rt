@@ -71,7 +71,13 @@ impl LiveRows {
             return Ok(());
         };
         let mut row = no_row(*self.rows.allocator());
-        fill_row(fst, outline, last.states(), Pick::Fitting(input, sensitive), &mut row)?;
+        fill_row(
+            fst,
+            outline,
+            last.states(),
+            Pick::Fitting(input, sensitive),
+            &mut row,
+        )?;
         self.rows.push(HeldRow::new(row))?;
         Ok(())
     }

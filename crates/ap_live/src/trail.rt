@@ -1,13 +1,9 @@
-ghost use Rattle.std.specs.Prelude.{◌≡◌, ◌↔◌, ◌≤◌, ◌<◌, ◌++◌, ◌∷◌, ℕ, [], List, Err, IfOk, IfSome, IsTrue, None, Ok, Some, false, length, reverse, slice_get, take, true};
-ghost use Rattle.std.specs.Option.{option_copied};
+ghost use Rattle.std.specs.Prelude.{◌≡◌, ◌↔◌, ◌≤◌, ◌<◌, ◌++◌, ◌∷◌, ℕ, [], List, Err, IfOk, IfSome, IsTrue, None, Ok, Some, false, length, slice_get, take, true};
 ghost use Rattle.std.specs.List.Sorted.{IsStrictlySortedBy};
 ghost use Rattle.ap_symbol.specs.Rendering.{word_cmp};
-ghost use Rattle.ap_symbol.specs.Words.{AreProper};
 ghost use Rattle.ap_symbol.specs.declared.symbol.Symbol.{Symbol};
 ghost use Rattle.ap_fst.specs.Lists.{IsIn};
-ghost use Rattle.ap_fst.specs.Machines.{Machine};
 ghost use Rattle.ap_fst.specs.declared.label.Edge.{Edge};
-ghost use Rattle.ap_live.specs.Heads.{written};
 ghost use Rattle.ap_live.specs.Fitting.{Input};
 ghost use Rattle.ap_live.specs.Outlines.{IsOutline};
 ghost use Rattle.ap_live.specs.Outputs.{IsOutput, WritesWords};

@@ -1,4 +1,4 @@
-use Rattle.std.proofs.Common.{◌≡◌, ◌<◌, ℕ, List, arith, ap, subst, sym, ◌∙◌, length, take}
+use Rattle.std.proofs.Common.{◌<◌, List, arith, subst, sym, length}
 use Rattle.ap_live.specs.Rows.{AreLiveRows}
 use Rattle.ap_live.specs.declared.rows.Row.{Row}
 use Rattle.ap_live.proofs.RowLaws.{live_cut}

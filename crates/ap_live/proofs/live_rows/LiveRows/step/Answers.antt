@@ -1,6 +1,6 @@
 use Rattle.std.proofs.Common.{◌≡◌, ◌∙◌, ◌-◌, ℕ, List, Some, ap, subst, sym, ◌++◌, ◌∷◌, [], slice_get, length}
 use Rattle.ap_live.specs.Fitting.{Input}
-use Rattle.ap_live.specs.Rows.{AreLiveRows, IsNext, Tells}
+use Rattle.ap_live.specs.Rows.{AreLiveRows, IsNext}
 use Rattle.ap_live.specs.declared.rows.Row.{Row}
 use Rattle.ap_live.proofs.RowLaws.{live_stepped}
 use Rattle.ap_live.proofs.live_rows.LiveRows.step.Goals as goal

@@ -1,4 +1,4 @@
-use Rattle.std.proofs.Common.{◌∙◌, inl, inr, sym}
+use Rattle.std.proofs.Common.{inl, inr}
 use Rattle.ap_live.proofs.Heads.{none_of}
 use Rattle.ap_live.proofs.LiveLaws.{before_cut, by_rows, cut_back}
 use Rattle.ap_live.proofs.ways.Ways.cut.Goals.{then-is_none-via-then-is_none, then-is_none-via-else-is_none+then-has_inputs}
@@ -12,8 +12,10 @@ returns-then-is_none c = λ m seen held.
       | then-is_none-via-then-is_none w ↦
           inl (none_of c.args.self.now.rows w.if-is_none.ensures)
       | then-is_none-via-else-is_none+then-has_inputs w ↦
-          inr (w.has_inputs.ensures.yes w.if-has_inputs.true,
-          w.has_inputs.ensures.some w.if-has_inputs.true)
+          inr (
+            w.has_inputs.ensures.yes w.if-has_inputs.true,
+            w.has_inputs.ensures.some w.if-has_inputs.true,
+          )
     ]) held
 
 pub returns-in-Some : goal.returns-in-Some

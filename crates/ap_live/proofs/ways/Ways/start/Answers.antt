@@ -1,1 +1,0 @@
-use Rattle.ap_live.proofs.ways.Ways.start.Goals as goal
