@@ -20,8 +20,9 @@ use ap_symbol::{Bytes, Memory, Symbol, Word};
 use std::alloc::Global;
 
 /// What the inputs so far reach: a node for each way, as long as the ways are few, and from then on
-/// rows of states. The trail stays as it was when the ways became too many, and is gone on with once
-/// the inputs are cut to those that it has. There is none where the ways of no input are too many.
+/// rows of states. The trail stays as it was when the ways became too many, and is gone on with
+/// once the inputs are cut to those that it has. There is none where the ways of no input are too
+/// many.
 #[derive(Debug, Drop)]
 pub struct Ways {
     pub trail: Option<Trail>,
@@ -202,8 +203,8 @@ impl Ways {
         }
     }
 
-    /// Goes back to the first so many inputs; where there are no more, nothing changes. Rows are let
-    /// go where the trail has these inputs.
+    /// Goes back to the first so many inputs; where there are no more, nothing changes. Rows are
+    /// let go where the trail has these inputs.
     pub(crate) fn cut(&mut self, len: usize)
         ensures { (m : Machine) (seen : List Input) → IsHeld m seen self.old →
             IsHeld m (take len seen) self.new }
