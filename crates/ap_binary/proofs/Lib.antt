@@ -1,6 +1,7 @@
 pub mod Bools
 pub mod Spans
 pub mod Numbers
+pub mod ShortNumbers
 pub mod Puts
 pub mod Going
 pub mod Options

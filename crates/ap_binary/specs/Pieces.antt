@@ -1,6 +1,6 @@
 -- What stands on the lines of a compiled file, each read from the front: its value, and the bytes
 -- behind it.
-use Rattle.std.specs.Prelude.{ℕ, zero, suc, ◌+◌, ◌-◌, ◌*◌, ◌^◌, Bool, true, false, not, ◌&&◌, ◌||◌, nat_lt, nat_le, ◌==◌, List, [], ◌∷◌, ◌++◌, length, take, drop, slice_index, Option, Some, None, if◌then◌else◌, codes}
+use Rattle.std.specs.Prelude.{◌≡◌, ◌<◌, ℕ, zero, suc, ◌+◌, ◌-◌, ◌*◌, ◌^◌, Bool, true, false, not, ◌&&◌, ◌||◌, nat_lt, nat_le, ◌==◌, List, [], ◌∷◌, ◌++◌, length, take, drop, slice_index, Option, Some, None, if◌then◌else◌, codes}
 use Rattle.std.specs.List.{prefix_len}
 use Rattle.std.specs.Str.{bytes_eq}
 use Rattle.std.specs.Str.Lossy.{utf8_valid_len}
@@ -71,6 +71,12 @@ number_at bytes =
       drop (prefix_len is_digit bytes) bytes,
     )
     else None
+
+-- the number that the digits at the front write, and how many they are
+pub record IsShort (bytes : List ℕ) (value len : ℕ) : Type 0 where
+  pub len_is : len ≡ prefix_len is_digit bytes
+  pub value_is : value ≡ value_after 0 (take len bytes)
+  pub small : value < 2 ^ 64
 
 -- The number of a state. One over 2 ^ 64 - 1 is as good as that limit: neither is below a number of
 -- states, and both are above each state.

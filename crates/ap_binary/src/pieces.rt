@@ -1,8 +1,8 @@
-ghost use Rattle.std.specs.Prelude.{◌≡◌, ◌+◌, ◌-◌, ◌*◌, ◌<◌, ◌≤◌, length, take, drop, IfOk, IfSome, Some, None, true, false};
+ghost use Rattle.std.specs.Prelude.{◌≡◌, ℕ, ◌+◌, ◌-◌, ◌*◌, ◌<◌, ◌≤◌, length, take, drop, IfOk, IfSome, Some, None, true, false};
 ghost use Rattle.std.specs.List.{prefix_len};
 ghost use Rattle.std.specs.Option.{MatchOption};
 ghost use Rattle.ap_binary.specs.Reading.{Gives};
-ghost use Rattle.ap_binary.specs.Pieces.{byte_at, word_at, is_digit, value_after, is_numeral, limited, number_at, state_of, is_character, character_of, character_at, letter_at, is_utf8, is_name_byte, tag_of, tag_at, side_at, label_of, label_at, number_then, edge_at, final_at, kind_at, head_at, scalar_of};
+ghost use Rattle.ap_binary.specs.Pieces.{byte_at, word_at, is_digit, value_after, is_numeral, limited, number_at, IsShort, state_of, is_character, character_of, character_at, letter_at, is_utf8, is_name_byte, tag_of, tag_at, side_at, label_of, label_at, number_then, edge_at, final_at, kind_at, head_at, scalar_of};
 ghost use Rattle.ap_symbol.specs.TagNames.{is_reserved_lem};
 
 use crate::heads::Head;
@@ -95,14 +95,54 @@ fn is_numeral(digits: &[u8]) -> bool
     !digits.is_empty() && (digits[0] != b'0' || digits.len() == 1)
 }
 
+/// Behind a number below this one a digit is read with no look at the limit.
+const SHORT: u64 = 1_000_000_000_000_000_000;
+
+/// The number that the digits at the front write, and how many they are; None where they are many.
+fn short_number(bytes: &[u8]) -> Option<(u64, usize)>
+    ensures { (value len : ℕ) → result ≡ Some (value, len) → IsShort bytes.now value len }
+{
+    let mut value: u64 = 0;
+    let mut len: usize = 0;
+    'digits: while len < bytes.len() {
+        let byte = bytes[len];
+        if !is_digit(byte) {
+            return Some((value, len));
+        }
+        if value >= SHORT {
+            return None;
+        }
+        value = value * 10 + (byte - 48) as u64;
+        len += 1;
+    }
+    Some((value, len))
+}
+
+/// A number of any length: its digits are counted first.
 #[tactic(auto, unfolding(crate::specs::Pieces::number_at))]
-pub(crate) fn number(bytes: &[u8]) -> Result<(Option<u64>, &[u8]), CutError>
+fn long_number(bytes: &[u8]) -> Result<(Option<u64>, &[u8]), CutError>
     ensures gives { Gives (λ x. (x.0, x.1.now)) result (number_at bytes.now) }
     ensures shorter { IfOk result (λ x. length x.1.now < length bytes.now) }
 {
     let (digits, rest) = bytes.split_at(digits_len(bytes));
     if is_numeral(digits) {
         Ok((value(digits), rest))
+    } else {
+        Err(CutError::Bad)
+    }
+}
+
+#[tactic(auto, unfolding(crate::specs::Pieces::number_at))]
+pub(crate) fn number(bytes: &[u8]) -> Result<(Option<u64>, &[u8]), CutError>
+    ensures gives { Gives (λ x. (x.0, x.1.now)) result (number_at bytes.now) }
+    ensures shorter { IfOk result (λ x. length x.1.now < length bytes.now) }
+{
+    let Some((value, len)) = short_number(bytes) else {
+        return long_number(bytes);
+    };
+    let (digits, rest) = bytes.split_at(len);
+    if is_numeral(digits) {
+        Ok((Some(value), rest))
     } else {
         Err(CutError::Bad)
     }
