@@ -13,7 +13,7 @@ use ap_symbol::{Memory, Symbol};
 
 /// So many nodes the edges with an empty left side may be followed from, after each input, so that
 /// ways that grow in number are left to rows of states.
-const MOST_NODES: usize = 256;
+const MOST_NODES: usize = 4_096;
 
 /// Adds the nodes behind those from the first place up to the second, by edges that fit an input,
 /// and answers whether they were found.
