@@ -1,5 +1,6 @@
 pub mod Spreading
 pub mod Others
+pub mod Codes
 pub mod Outlining
 pub mod Leading
 pub mod NodeLaws

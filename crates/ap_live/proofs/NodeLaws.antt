@@ -1,16 +1,11 @@
 -- Nodes are added for the edges that are picked.
-use Rattle.std.proofs.Common.{◌<◌, ◌≤◌, length, ◌≡◌, ◌⊎◌, inl, inr, ℕ, true, false, List, [], ◌∷◌, ◌++◌, refl, sym, ◌∙◌, ap, subst, append_assoc, append-nil, Option, Some, slice_get}
+use Rattle.std.proofs.Common.{◌≡◌, ◌⊎◌, inl, inr, ℕ, true, false, List, [], ◌∷◌, ◌++◌, refl, sym, ◌∙◌, ap, subst, append_assoc, append-nil, Option, Some, slice_get}
 use Rattle.std.proofs.lemmas.Bool.{true≢false}
-use Rattle.ap_symbol.specs.declared.symbol.Symbol.{Symbol}
 use Rattle.ap_fst.specs.declared.label.Edge.{Edge}
 use Rattle.ap_live.specs.Fitting.{Input, picks}
-use Rattle.ap_live.specs.Outlines.{IsCoded}
-use Rattle.ap_live.specs.Spreads.{HasLeft, HasLeftBelow, IsPlace, Picked}
+use Rattle.ap_live.specs.Spreads.{IsPlace, Picked}
 use Rattle.ap_live.specs.Trails.{AddsNodes, Grows, node}
 use Rattle.ap_live.specs.declared.nodes.Node.{Node}
-use Rattle.ap_live.specs.declared.outline.Entry.{Entry}
-use Rattle.ap_live.specs.declared.outline.Outline.{Outline}
-use Rattle.ap_live.proofs.Outlining.{all_from, none_before}
 use Rattle.ap_live.proofs.Spreading.{in_back, in_either, in_front, one_edge}
 
 -- ---- nodes more
@@ -98,16 +93,3 @@ module _ (edges : List Edge) (pick : Option Input) (from back : ℕ) where
     adds_skip old bad = adds_none (IsPlace place) old
         (λ s j p same. true≢false
         (sym p.passes ∙ ap (picks pick) (one_edge edges pick from s j place p e same at) ∙ bad))
-
--- none, where the first place has no entry with the code
-pub adds_unless : (edges : List Edge) (o : Outline) (pick : Option Input)
-    (from first last low code back : ℕ) (left : Option Symbol) (entries : List Entry)
-    (old : List Node) → last ≤ length o.entries.items → entries ≡ o.entries.items →
-    (low < last → (x : Entry) → slice_get entries low ≡ Some x → x.left ≡ code → ⊥) →
-    IsCoded edges o pick from first last low code left →
-    AddsNodes edges pick from (HasLeft edges left) back old old
-adds_unless edges o pick from first last low code back left entries old within same other is =
-    adds_seen edges pick from back (HasLeftBelow edges left low) (HasLeft edges left) old old
-    (all_from edges o pick from first last low code left entries within same other is)
-    (adds_none edges pick from back (HasLeftBelow edges left low) old
-    (none_before edges o pick from first last low code left within is))

@@ -1,8 +1,9 @@
 -- The outline of a transducer has its edges.
-use Rattle.std.proofs.Common.{◌≡◌, ◌⊎◌, inl, inr, ℕ, ◌+◌, ◌-◌, ◌<◌, ◌≤◌, true, List, [], ◌∷◌, ◌++◌, refl, sym, ◌∙◌, ap, subst, arith, Option, Some, None, slice_get, length, get_or, suc, zero}
+use Rattle.std.proofs.Common.{◌≡◌, ◌⊎◌, length-append, inl, inr, ℕ, ◌+◌, ◌-◌, ◌<◌, ◌≤◌, true, List, [], ◌∷◌, ◌++◌, refl, sym, ◌∙◌, ap, subst, arith, Option, Some, None, slice_get, length, get_or, suc, zero}
 use Rattle.std.proofs.lemmas.Bool.{cases_lt}
 use Rattle.std.proofs.lemmas.Option.{same_Some, slice_get-get_or, slice_get_within, get_or_from_slice_get}
 use Rattle.std.specs.List.Sorted.{IsNonDecreasingBy}
+use Rattle.std.specs.Int.{bit_at}
 use Rattle.std.specs.Ordering.{nat_cmp, ordering_then, ordering_index, ordering_reverse}
 use Rattle.std.specs.declared.cmp.Ordering.{Ordering}
 use Rattle.std.specs.declared.cmp.Ordering.TheVariants.{Less, Equal, Greater}
@@ -15,11 +16,12 @@ use Rattle.ap_fst.specs.declared.label.Edge.{Edge}
 use Rattle.ap_fst.proofs.LeftLaws.{places_sorted}
 use Rattle.ap_fst.proofs.OrderLaws.{side_total}
 use Rattle.ap_fst.proofs.PlaceLaws.{cmp_less, cmp_same}
-use Rattle.ap_live.specs.Outlines.{side_code, IsFirstPlace, AreFirsts, IsEntry, AreEntries, IsOutline, Rises, IsCut, IsCoded}
+use Rattle.ap_live.specs.Outlines.{side_code, IsBit, IsFirstPlace, AreCodes, AreFirsts, SoFar, IsEntry, AreEntries, IsOutline, Rises, IsCut, IsCoded}
 use Rattle.ap_live.specs.Fitting.{Input, picks, is_empty_side}
 use Rattle.ap_live.specs.Spreads.{SpreadOne, Picked, AnyPlace, HasLeft, HasLeftBelow, IsPlace}
 use Rattle.ap_live.specs.declared.arrivals.Arrival.{Arrival}
 use Rattle.ap_live.specs.declared.outline.Entry.{Entry}
+use Rattle.ap_live.specs.declared.outline.First.{First}
 use Rattle.ap_live.specs.declared.outline.Outline.{Outline}
 use Rattle.ap_live.proofs.Others.{place_has, side_none}
 use Rattle.ap_live.proofs.RowLaws.{snoc_get}
@@ -51,37 +53,110 @@ pub none_smaller : (edges : List Edge) (place from : ℕ) (d : Edge) →
 none_smaller edges place from d sorted at more j e at' le = let up : d.from ≤ e.from =
     rises edge_from edges place j d e sorted at at' le in omega arith
 
-pub firsts_more : (edges : List Edge) (firsts firsts' : List ℕ) (place : ℕ) →
-    firsts' ≡ firsts ++ place ∷ [] → AreFirsts edges firsts →
-    IsFirstPlace edges (length firsts) place → AreFirsts edges firsts'
-firsts_more edges firsts firsts' place e are new state at h =
-    elim (snoc_get firsts place at state (ap (λ (z : List ℕ). slice_get z state) (sym e) ∙ h)) [
-      | inl (lt, old) ↦ are state at old
+first_more : (edges : List Edge) (firsts firsts' : List First) (f : First) →
+    firsts' ≡ firsts ++ f ∷ [] → AreFirsts edges firsts →
+    IsFirstPlace edges (length firsts) f.place → (state : ℕ) (g : First) →
+    slice_get firsts' state ≡ Some g → IsFirstPlace edges state g.place
+first_more edges firsts firsts' f e are new state g h =
+    elim (snoc_get firsts f g state (ap (λ (z : List First). slice_get z state) (sym e) ∙ h)) [
+      | inl (lt, old) ↦ are.places state g old
       | inr both ↦
-          subst (λ (z : ℕ). IsFirstPlace edges state z) both.1
-          (subst (λ (z : ℕ). IsFirstPlace edges z place) (sym both.0) new)
+          subst (λ (z : First). IsFirstPlace edges state z.place) both.1
+          (subst (λ (z : ℕ). IsFirstPlace edges z f.place) (sym both.0) new)
+    ]
+
+codes_more : (edges : List Edge) (firsts firsts' : List First) (f : First) →
+    firsts' ≡ firsts ++ f ∷ [] → AreFirsts edges firsts →
+    SoFar edges firsts f.place f.codes → (state : ℕ) (d g : First) →
+    slice_get firsts' state ≡ Some d → slice_get firsts' (state + 1) ≡ Some g →
+    AreCodes edges d.place g.place g.codes
+codes_more edges firsts firsts' f e are so_far state d g h h' =
+    elim (snoc_get firsts f g (state + 1)
+    (ap (λ (z : List First). slice_get z (state + 1)) (sym e) ∙ h')) [
+      | inl (lt', old') ↦
+          elim (snoc_get firsts f d state
+          (ap (λ (z : List First). slice_get z state) (sym e) ∙ h)) [
+            | inl (lt, old) ↦ are.codes state d g old old'
+            | inr both ↦ absurd (omega (arith, lt', both.0))
+          ]
+      | inr both' ↦
+          elim (snoc_get firsts f d state
+          (ap (λ (z : List First). slice_get z state) (sym e) ∙ h)) [
+            | inl (lt, old) ↦
+                subst (λ (z : First). AreCodes edges d.place z.place z.codes) both'.1
+                (so_far state d old (sym both'.0))
+            | inr both ↦ absurd (omega (arith, both.0, both'.0))
+          ]
+    ]
+
+pub firsts_more : (edges : List Edge) (firsts firsts' : List First) (f : First) →
+    firsts' ≡ firsts ++ f ∷ [] → IsFirstPlace edges (length firsts) f.place →
+    AreFirsts edges firsts → SoFar edges firsts f.place f.codes → AreFirsts edges firsts'
+firsts_more edges firsts firsts' f e new are so_far = record {
+  places = first_more edges firsts firsts' f e are new;
+  codes = codes_more edges firsts firsts' f e are so_far;
+}
+
+-- No edge stands between where a state's edges begin and there.
+pub nothing_since : (edges : List Edge) (firsts firsts' : List First) (f : First) →
+    firsts' ≡ firsts ++ f ∷ [] → (codes : ℕ) → SoFar edges firsts' f.place codes
+nothing_since edges firsts firsts' f e codes state g h count j d there low high =
+    elim (snoc_get firsts f g state (ap (λ (z : List First). slice_get z state) (sym e) ∙ h)) [
+      | inl (lt, old) ↦
+          let more : length firsts' ≡ length firsts + 1 =
+          ap length e ∙ length-append firsts (f ∷ []) in
+          absurd (omega arith)
+      | inr last ↦
+          let same : f.place ≡ g.place = ap (λ (z : First). z.place) last.1 in
+          absurd (omega arith)
+    ]
+
+-- More codes are told.
+pub so_far_kept : (edges : List Edge) (firsts : List First) (place codes codes' : ℕ) →
+    ((b : ℕ) → bit_at codes b ≡ 1 → bit_at codes' b ≡ 1) → SoFar edges firsts place codes →
+    SoFar edges firsts place codes'
+so_far_kept edges firsts place codes codes' kept so_far state f there count j e at low high b is =
+    kept b (so_far state f there count j e at low high b is)
+
+-- The codes with that of one edge more are those of the edges so far.
+pub so_far_more : (edges : List Edge) (firsts : List First) (place codes codes' : ℕ) (e : Edge) →
+    slice_get edges place ≡ Some e → SoFar edges firsts place codes →
+    ((b : ℕ) → bit_at codes b ≡ 1 → bit_at codes' b ≡ 1) →
+    ((b : ℕ) → IsBit (side_code e.label.left) b → bit_at codes' b ≡ 1) →
+    SoFar edges firsts (place + 1) codes'
+so_far_more edges firsts place codes codes' e at so_far kept has state f there count j d at' low
+    high b is =
+    elim (cases_lt j place) [
+      | inl lt ↦ kept b (so_far state f there count j d at' low lt b is)
+      | inr ge ↦
+          let same : j ≡ place = omega arith in
+          let same_edge : d ≡ e =
+          same_Some d e (sym at' ∙ ap (slice_get edges) same ∙ at) in
+          has b (subst (λ (z : Edge). IsBit (side_code z.label.left) b) same_edge is)
     ]
 
 pub entries_more : (edges : List Edge) (entries entries' : List Entry) (e : Edge) (entry : Entry) →
     entries' ≡ entries ++ entry ∷ [] → AreEntries edges entries →
-    slice_get edges (length entries) ≡ Some e → IsEntry e entry → AreEntries edges entries'
+    slice_get edges (length entries) ≡ Some e → IsEntry edges e entry → AreEntries edges entries'
 entries_more edges entries entries' e entry same are at is j d x there h =
     elim (snoc_get entries entry x j (ap (λ (z : List Entry). slice_get z j) (sym same) ∙ h)) [
       | inl (lt, old) ↦ are j d x there old
       | inr both ↦
           let same_edge : e ≡ d =
           same_Some e d (sym at ∙ ap (slice_get edges) (sym both.0) ∙ there) in
-          subst (λ (z : Entry). IsEntry d z) both.1
-          (subst (λ (z : Edge). IsEntry z entry) same_edge is)
+          subst (λ (z : Entry). IsEntry edges d z) both.1
+          (subst (λ (z : Edge). IsEntry edges z entry) same_edge is)
     ]
 
 -- where the edges of a state begin, and those of the next
-pub first_span : (edges : List Edge) (firsts : List ℕ) (state first last : ℕ) →
-    AreFirsts edges firsts → slice_get firsts state ≡ Some first →
-    slice_get firsts (state + 1) ≡ Some last → IsSpan edges state first last
-first_span edges firsts state first last are at at' =
-    let a : IsFirstPlace edges state first = are state first at in
-    let b : IsFirstPlace edges (state + 1) last = are (state + 1) last at' in
+pub first_span : (edges : List Edge) (firsts : List First) (state : ℕ) (f g : First) →
+    AreFirsts edges firsts → slice_get firsts state ≡ Some f →
+    slice_get firsts (state + 1) ≡ Some g → IsSpan edges state f.place g.place
+first_span edges firsts state f g are at at' =
+    let first : ℕ = f.place in
+    let last : ℕ = g.place in
+    let a : IsFirstPlace edges state first = are.places state f at in
+    let b : IsFirstPlace edges (state + 1) last = are.places (state + 1) g at' in
     record {
       end = b.end;
       inside = λ j e there le lt.
@@ -189,8 +264,8 @@ span_rises edges o from first last is ascend span j k x y at at' low le high =
     let (d, there) = some_at edges j (omega arith) in
     let (e, there') = some_at edges k (omega arith) in
     let left : Option Symbol = d.label.left in
-    let one : IsEntry d x = is.entries j d x there at in
-    let two : IsEntry e y = is.entries k e y there' at' in
+    let one : IsEntry edges d x = is.entries j d x there at in
+    let two : IsEntry edges e y = is.entries k e y there' at' in
     let rise : left_place from left d ≤ left_place from left e =
     rises (left_place from left) edges j k d e (places_sorted from left edges ascend)
     there there' le in
@@ -317,7 +392,7 @@ coded_here edges o pick from first last low code left place x at same le lt is =
     let least : first ≤ low = is.cut.from in
     let end : last ≤ length edges = is.span.end in
     let (e, there) = some_at edges place (omega arith) in
-    let entry : IsEntry e x = is.outline_is.entries place e x there at in
+    let entry : IsEntry edges e x = is.outline_is.entries place e x there at in
     record {
       edge = e;
       at = there;
@@ -374,23 +449,6 @@ coded_over edges o pick from first last low code left states links states' links
     (all_below edges o pick from first last low code left place end is) h
 
 -- ---- which side a code is of
-
--- where the first place has no entry with the code
-pub all_from : (edges : List Edge) (o : Outline) (pick : Option Input)
-    (from first last low code : ℕ) (left : Option Symbol) (entries : List Entry) →
-    last ≤ length o.entries.items → entries ≡ o.entries.items →
-    (low < last → (x : Entry) → slice_get entries low ≡ Some x → x.left ≡ code → ⊥)
-    → IsCoded edges o pick from first last low code left
-    → (s j : ℕ) → Picked edges pick from s j → HasLeft edges left j → HasLeftBelow edges left low j
-all_from edges o pick from first last low code left entries within same other is s j p has =
-    elim (cases_lt low last) [
-      | inl lt ↦
-          let (x, at) = some_at o.entries.items low (omega arith) in
-          all_before edges o pick from first last low code left low x within at
-          (other lt x (ap (λ (z : List Entry). slice_get z low) same ∙ at)) (omega arith) lt is s j
-          p has
-      | inr ge ↦ all_below edges o pick from first last low code left low ge is s j p has
-    ]
 
 -- A part of rising codes rises, and where it is cut the whole is.
 pub cut_within : (entries : List Entry) (first last low high code at : ℕ) → first ≤ low →

@@ -7,7 +7,7 @@ use Rattle.ap_symbol.specs.declared.symbol.Symbol.{Symbol}
 use Rattle.ap_symbol.specs.declared.symbol.Symbol.TheVariants.{Letter}
 use Rattle.ap_fst.specs.declared.label.Edge.{Edge}
 use Rattle.ap_live.specs.Heads.{written_by}
-use Rattle.ap_live.specs.Outlines.{side_code}
+use Rattle.ap_live.specs.Outlines.{HasRight, side_code}
 use Rattle.ap_live.proofs.Outlining.{code_of_letter, code_of_none, some_at}
 
 nothing_written : (word : List Symbol) (o : Option Edge) →
@@ -31,7 +31,7 @@ empty_written edges place code word empty is = nothing_written word (slice_get e
 
 -- where it is that of a letter
 pub letter_written : (edges : List Edge) (place code c : ℕ) (word new : List Symbol) →
-    place < length edges → code ≡ c + 1 → code < 4294967295 →
+    place < length edges → code ≡ c + 1 → code < 2097152 →
     ((e : Edge) → slice_get edges place ≡ Some e → side_code e.label.right ≡ code) →
     new ≡ word ++ Letter c ∷ [] → new ≡ word ++ written_by (slice_get edges place)
 letter_written edges place code c word new within same small is made =
@@ -40,6 +40,14 @@ letter_written edges place code c word new within same small is made =
     code_of_letter c e.label.right (omega arith) (is e at ∙ same) in
     made ∙ sym (ap (λ (o : Option Edge). word ++ written_by o) at
     ∙ ap (λ (x : Option Symbol). word ++ option_to_list x) right)
+
+-- Edges with the same right side write the same.
+pub like_written : (edges : List Edge) (place like : ℕ) (side : Option Symbol) →
+    HasRight edges place side → HasRight edges like side →
+    written_by (slice_get edges like) ≡ written_by (slice_get edges place)
+like_written edges place like side (e, (at, is)) (d, (at', is')) =
+    ap written_by at' ∙ ap (λ (x : Option Symbol). option_to_list x) (is' ∙ sym is)
+    ∙ sym (ap written_by at)
 
 -- ---- the bytes of what it writes
 
@@ -51,7 +59,7 @@ empty_bytes edges place code bytes empty is =
     sym (append-nil bytes) ∙ ap (λ z. bytes ++ rendering z) none
 
 pub letter_spelt : (edges : List Edge) (place code c : ℕ) (bytes new : List ℕ) →
-    place < length edges → code ≡ c + 1 → code < 4294967295 →
+    place < length edges → code ≡ c + 1 → code < 2097152 →
     ((e : Edge) → slice_get edges place ≡ Some e → side_code e.label.right ≡ code) →
     new ≡ bytes ++ letter_bytes c → new ≡ bytes ++ rendering (written_by (slice_get edges place))
 letter_spelt edges place code c bytes new within same small is made =

@@ -1,5 +1,6 @@
 -- What of a transducer is read at each step.
-use Rattle.std.specs.Prelude.{◌≡◌, ℕ, ◌+◌, ◌<◌, ◌≤◌, true, List, Option, Some, None, slice_get, length}
+use Rattle.std.specs.Prelude.{◌≡◌, ◌⊎◌, ℕ, ◌+◌, ◌-◌, ◌<◌, ◌≤◌, true, List, Option, Some, None, slice_get, length}
+use Rattle.std.specs.Int.{bit_at}
 use Rattle.ap_symbol.specs.declared.symbol.Symbol.{Symbol}
 use Rattle.ap_symbol.specs.declared.symbol.Symbol.TheVariants.{Letter, Tag, Blank, Join, Queue, Alarm, Star, At}
 use Rattle.ap_fst.specs.Lists.{Ascends}
@@ -8,6 +9,7 @@ use Rattle.ap_fst.specs.Order.{edge_cmp}
 use Rattle.ap_fst.specs.declared.label.Edge.{Edge}
 use Rattle.ap_live.specs.Fitting.{Input, picks}
 use Rattle.ap_live.specs.declared.outline.Entry.{Entry}
+use Rattle.ap_live.specs.declared.outline.First.{First}
 use Rattle.ap_live.specs.declared.outline.Outline.{Outline}
 
 -- the code of a side, left or right
@@ -28,21 +30,46 @@ pub record IsFirstPlace (edges : List Edge) (state place : ℕ) : Type 0 where
   pub before : (j : ℕ) (e : Edge) → slice_get edges j ≡ Some e → j < place → e.from < state
   pub behind : (j : ℕ) (e : Edge) → slice_get edges j ≡ Some e → place ≤ j → state ≤ e.from
 
--- for each of the first states the place where its edges begin
-abbrev pub AreFirsts : List Edge → List ℕ → Type 0
-AreFirsts edges firsts = (state place : ℕ) → slice_get firsts state ≡ Some place →
-    IsFirstPlace edges state place
+-- the bit of a code: that of a small letter, and that of an empty side
+abbrev pub IsBit : ℕ → ℕ → Type 0
+IsBit code bit = ((code ≡ bit + 98) × (bit < 26)) ⊎ ((code ≡ 0) × (bit ≡ 31))
 
-pub record IsEntry (e : Edge) (entry : Entry) : Type 0 where
+-- Of the edges between these places each whose left side has a bit has it set.
+abbrev pub AreCodes : List Edge → ℕ → ℕ → ℕ → Type 0
+AreCodes edges first last codes = (j : ℕ) (e : Edge) → slice_get edges j ≡ Some e → first ≤ j →
+    j < last → (bit : ℕ) → IsBit (side_code e.label.left) bit → bit_at codes bit ≡ 1
+
+-- for each of the first states the place where its edges begin, and behind it their codes
+pub record AreFirsts (edges : List Edge) (firsts : List First) : Type 0 where
+  pub places : (state : ℕ) (f : First) → slice_get firsts state ≡ Some f →
+      IsFirstPlace edges state f.place
+  pub codes : (state : ℕ) (f g : First) → slice_get firsts state ≡ Some f →
+      slice_get firsts (state + 1) ≡ Some g → AreCodes edges f.place g.place g.codes
+
+-- the codes of the edges from where those of the last state begin up to a place
+abbrev pub SoFar : List Edge → List First → ℕ → ℕ → Type 0
+SoFar edges firsts place codes = (state : ℕ) (f : First) → slice_get firsts state ≡ Some f →
+    length firsts ≡ state + 1 → AreCodes edges f.place place codes
+
+-- the edge at a place has this right side
+abbrev pub HasRight : List Edge → ℕ → Option Symbol → Type 0
+HasRight edges place side = (e : Edge) × ((slice_get edges place ≡ Some e) × (e.label.right ≡ side))
+
+-- A code tells a right side: it is the side's, or it tells the place of an edge that has the side.
+abbrev pub TellsRight : List Edge → ℕ → Option Symbol → Type 0
+TellsRight edges code side = (code < 2097152 → side_code side ≡ code)
+    × (2097152 ≤ code → code < 4294967295 → HasRight edges (code - 2097152) side)
+
+pub record IsEntry (edges : List Edge) (e : Edge) (entry : Entry) : Type 0 where
   pub left_is : entry.left ≡ side_code e.label.left
   pub small : entry.left ≤ 4294967295
   pub to_is : entry.to ≡ e.to
-  pub right_is : entry.right ≡ side_code e.label.right
+  pub right_is : TellsRight edges entry.right e.label.right
 
 -- entries of the first edges
 abbrev pub AreEntries : List Edge → List Entry → Type 0
 AreEntries edges entries = (j : ℕ) (e : Edge) (entry : Entry) → slice_get edges j ≡ Some e →
-    slice_get entries j ≡ Some entry → IsEntry e entry
+    slice_get entries j ≡ Some entry → IsEntry edges e entry
 
 pub record IsOutline (edges : List Edge) (o : Outline) : Type 0 where
   pub firsts : AreFirsts edges o.firsts.items

@@ -7,7 +7,7 @@ ghost use Rattle.ap_live.specs.Outlines.{IsOutline};
 ghost use Rattle.ap_live.specs.Outputs.{WritesWords, is_word_side};
 
 use crate::backward::edge_at;
-use crate::outline::{Outline, letter_of, right_at};
+use crate::outline::{Outline, letter_of, place_of, right_at};
 use crate::wording::SYMBOL_BYTES;
 use ap_fst::{Edge, Fst};
 use ap_symbol::{Memory, Symbol, Word};
@@ -49,7 +49,7 @@ fn push_written(
     }
     match letter_of(code) {
         Some(letter) => word.push(Symbol::Letter(letter)),
-        None => push_right(alloc, edges, place, word),
+        None => push_right(alloc, edges, place_of(code, place), word),
     }
 }
 

@@ -130,7 +130,7 @@ fn text_code(code: usize, text: &str) -> usize {
     code
 }
 
-fn symbol_code(code: usize, symbol: &Symbol) -> usize {
+pub(crate) fn symbol_code(code: usize, symbol: &Symbol) -> usize {
     match symbol {
         Symbol::Letter(c) => mixed(code, *c as usize),
         Symbol::Tag(name) => text_code(code, name.text()),

@@ -7,11 +7,11 @@ ghost use Rattle.ap_fst.specs.Machines.{IsSpan};
 ghost use Rattle.ap_fst.specs.Order.{edge_cmp};
 ghost use Rattle.ap_fst.specs.declared.label.Edge.{Edge};
 ghost use Rattle.ap_live.specs.Fitting.{Input, pick_of, picks};
-ghost use Rattle.ap_live.specs.Outlines.{IsCoded, IsOutline};
+ghost use Rattle.ap_live.specs.Outlines.{AreCodes, IsCoded, IsOutline};
 ghost use Rattle.ap_live.specs.Spreads.{AnyPlace, HasLeft, IsOther};
 ghost use Rattle.ap_live.specs.Trails.{AddsNodes, Grows};
 
-use crate::outline::{Outline, code_of_input, has_code, letter_code, low_of, span_in};
+use crate::outline::{Outline, code_of_input, has_code, letter_code, low_of, may_have, span_in};
 use crate::picking::{Pick, is_picked};
 use ap_fst::{Edge, Fst};
 use ap_symbol::{Memory, Symbol};
@@ -66,6 +66,7 @@ fn push_letter(
     outline: &Outline,
     first: usize,
     last: usize,
+    codes: u32,
     letter: char,
     back: usize,
     nodes: &mut Vec<Node>,
@@ -74,15 +75,16 @@ fn push_letter(
     ensures grown { Grows nodes.old.items nodes.new.items }
     ensures added { OnOk result ((edges : List Edge) (pick : Option Input) (from : ℕ) →
         IsOutline edges outline.now → Ascends edge_cmp edges → IsSpan edges from first last →
+        AreCodes edges first last codes →
         ((e : Edge) → e.label.left ≡ Some (Letter letter) → picks pick e ≡ true) →
         AddsNodes edges pick from (HasLeft edges (Some (Letter letter))) back
         nodes.old.items nodes.new.items) }
 {
     let code = letter_code(letter);
-    let low = low_of(outline.entries.as_slice(), first, last, code);
-    if !has_code(outline.entries.as_slice(), low, last, code) {
+    if !may_have(codes, code) {
         return Ok(());
     }
+    let low = low_of(outline.entries.as_slice(), first, last, codes, code);
     push_coded(outline, low, last, code, back, nodes)
 }
 
@@ -92,16 +94,17 @@ fn push_silent(
     outline: &Outline,
     first: usize,
     last: usize,
+    codes: u32,
     back: usize,
     nodes: &mut Vec<Node>,
 ) -> Result<(), Memory>
     requires { last ≤ length outline.now.entries.items }
     ensures grown { Grows nodes.old.items nodes.new.items }
     ensures added { OnOk result ((edges : List Edge) (from : ℕ) → IsOutline edges outline.now →
-        Ascends edge_cmp edges → IsSpan edges from first last → AddsNodes edges None from AnyPlace
-        back nodes.old.items nodes.new.items) }
+        Ascends edge_cmp edges → IsSpan edges from first last → AreCodes edges first last codes →
+        AddsNodes edges None from AnyPlace back nodes.old.items nodes.new.items) }
 {
-    if !has_code(outline.entries.as_slice(), first, last, 0) {
+    if !may_have(codes, 0) {
         return Ok(());
     }
     push_coded(outline, first, last, 0, back, nodes)
@@ -172,6 +175,7 @@ fn push_mark(
     from: usize,
     first: usize,
     last: usize,
+    codes: u32,
     input: &Symbol,
     sensitive: bool,
     back: usize,
@@ -187,7 +191,7 @@ fn push_mark(
 {
     let edges = fst.edges();
     let code = code_of_input(input);
-    let low = low_of(outline.entries.as_slice(), first, last, code);
+    let low = low_of(outline.entries.as_slice(), first, last, codes, code);
     if !has_code(outline.entries.as_slice(), low, last, code) {
         return Ok(());
     }
@@ -206,6 +210,7 @@ fn push_fitting(
     from: usize,
     first: usize,
     last: usize,
+    codes: u32,
     input: &Symbol,
     sensitive: bool,
     other: Option<&Symbol>,
@@ -217,21 +222,21 @@ fn push_fitting(
         (option_copied other) }
     ensures grown { Grows nodes.old.items nodes.new.items }
     ensures added { OnOk result (IsOutline fst.now.edges outline.now →
-        IsSpan fst.now.edges from first last → AddsNodes fst.now.edges
-        (Some (record { symbol = input.now; sensitive = sensitive })) from AnyPlace back
-        nodes.old.items nodes.new.items) }
+        IsSpan fst.now.edges from first last → AreCodes fst.now.edges first last codes →
+        AddsNodes fst.now.edges (Some (record { symbol = input.now; sensitive = sensitive })) from
+        AnyPlace back nodes.old.items nodes.new.items) }
 {
     let edges = fst.edges();
     match (input, other) {
         (Symbol::Letter(letter), None) => {
-            push_letter(outline, first, last, *letter, back, nodes)
+            push_letter(outline, first, last, codes, *letter, back, nodes)
         }
         (Symbol::Letter(letter), Some(Symbol::Letter(small))) => {
-            push_letter(outline, first, last, *letter, back, nodes)?;
-            push_letter(outline, first, last, *small, back, nodes)
+            push_letter(outline, first, last, codes, *letter, back, nodes)?;
+            push_letter(outline, first, last, codes, *small, back, nodes)
         }
         (_, None) => push_mark(
-            fst, outline, from, first, last, input, sensitive, back, nodes,
+            fst, outline, from, first, last, codes, input, sensitive, back, nodes,
         ),
         _ => {
             let pick = Pick::Fitting(input, sensitive);
@@ -261,11 +266,11 @@ pub(crate) fn enter(
         nodes.old.items nodes.new.items }
 {
     let from = nodes[at].state;
-    let Some((first, last)) = span_in(outline, from) else {
+    let Some((first, last, codes)) = span_in(outline, from) else {
         return Ok(false);
     };
     push_fitting(
-        fst, outline, from, first, last, input, sensitive, other, at, nodes,
+        fst, outline, from, first, last, codes, input, sensitive, other, at, nodes,
     )?;
     Ok(true)
 }
@@ -285,9 +290,9 @@ pub(crate) fn enter_silently(
         nodes.old.items nodes.new.items }
 {
     let _ = fst.states();
-    let Some((first, last)) = span_in(outline, nodes[at].state) else {
+    let Some((first, last, codes)) = span_in(outline, nodes[at].state) else {
         return Ok(false);
     };
-    push_silent(outline, first, last, at, nodes)?;
+    push_silent(outline, first, last, codes, at, nodes)?;
     Ok(true)
 }

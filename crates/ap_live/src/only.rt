@@ -8,7 +8,7 @@ ghost use Rattle.ap_live.specs.Outlines.{IsOutline};
 ghost use Rattle.ap_live.specs.Outputs.{WritesWords, is_word_side};
 
 use crate::backward::edge_at;
-use crate::outline::{Outline, letter_of, right_at};
+use crate::outline::{Outline, letter_of, place_of, right_at};
 use ap_fst::{Edge, Fst};
 use ap_symbol::{Memory, Symbol, Word};
 use std::alloc::Global;
@@ -18,7 +18,7 @@ const ROOM: usize = 64;
 
 /// The byte of the letter with a code, where it is a small one of the twenty-six.
 fn small_letter(code: u32) -> Option<u8>
-    ensures { (c : ℕ) → result ≡ Some c → (code ≡ c + 1) × (code < 4_294_967_295)
+    ensures { (c : ℕ) → result ≡ Some c → (code ≡ c + 1) × (code < 2_097_152)
         × (letter_bytes c ≡ c ∷ []) }
 {
     if code < 98 || code > 123 {
@@ -114,7 +114,7 @@ fn spell_written(
             return spell_bare(letter, bytes);
         }
     }
-    spell_right(alloc, edges, place, bytes)
+    spell_right(alloc, edges, place_of(code, place), bytes)
 }
 
 /// The bytes of the word that the edges at these places write, the last first.

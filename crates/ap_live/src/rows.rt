@@ -159,6 +159,7 @@ fn spread_letter(
     outline: &Outline,
     first: usize,
     last: usize,
+    codes: u32,
     letter: char,
     pick: Pick<'_>,
     states: &mut Vec<usize>,
@@ -173,7 +174,7 @@ fn spread_letter(
         states.old.items links.old.items states.new.items links.new.items) }
 {
     let code = letter_code(letter);
-    let low = low_of(outline.entries.as_slice(), first, last, code);
+    let low = low_of(outline.entries.as_slice(), first, last, codes, code);
     spread_coded(outline, low, last, code, pick, states, links)
 }
 
@@ -195,8 +196,8 @@ fn spread_symbol(
 {
     let _ = fst.states();
     if let Symbol::Letter(letter) = symbol {
-        if let Some((first, last)) = span_in(outline, from) {
-            return spread_letter(outline, first, last, *letter, pick, states, links);
+        if let Some((first, last, codes)) = span_in(outline, from) {
+            return spread_letter(outline, first, last, codes, *letter, pick, states, links);
         }
     }
     spread_left(fst, from, Some(symbol), pick, states, links)
@@ -246,7 +247,7 @@ fn spread_silently(
     let _ = fst.states();
     match span_in(outline, from) {
         None => spread_left(fst, from, None, Pick::Silent, states, links),
-        Some((first, last)) => {
+        Some((first, last, _)) => {
             spread_coded(outline, first, last, 0, Pick::Silent, states, links)
         }
     }
@@ -293,7 +294,7 @@ fn spread_mark(
         SpreadOne fst.now.edges (pick_of pick.entry) from AnyPlace
         states.old.items links.old.items states.new.items links.new.items) }
 {
-    if let Some((first, last)) = span_in(outline, from) {
+    if let Some((first, last, _)) = span_in(outline, from) {
         if last <= first.saturating_add(FEW) {
             return spread_few(fst, first, last, pick, other, states, links);
         }

@@ -14,4 +14,7 @@ returns-clause-entered c = λ e is x at.
     subst (λ (z : Node). AddsNodes c.args.fst.now.edges (Some input) z.state AnyPlace c.args.at
     c.args.nodes.now.items c.push_fitting.new.nodes.items) same
     (c.in_ok-push_fitting.ensures.added is
-    (c.span_in.ensures.span c.args.fst.now.edges c.in-Some.first c.in-Some.last c.in-Some.is is))
+    (c.span_in.ensures.span c.args.fst.now.edges c.in-Some.first c.in-Some.last c.in-Some.codes
+    c.in-Some.is is)
+    (c.span_in.ensures.codes c.args.fst.now.edges c.in-Some.first c.in-Some.last c.in-Some.codes
+    c.in-Some.is is))

@@ -10,6 +10,9 @@ returns-clause-entered c = λ e is x at.
     ∙ get_or_from_slice_get c.args.nodes.now.items c.args.at x c.index.result.now at in
     let span : IsSpan c.args.fst.now.edges x.state c.in-Some.first c.in-Some.last =
     subst (λ (z : Node). IsSpan c.args.fst.now.edges z.state c.in-Some.first c.in-Some.last) same
-    (c.span_in.ensures.span c.args.fst.now.edges c.in-Some.first c.in-Some.last c.in-Some.is is) in
+    (c.span_in.ensures.span c.args.fst.now.edges c.in-Some.first c.in-Some.last c.in-Some.codes
+    c.in-Some.is is) in
     c.in_ok-push_silent.ensures.added c.args.fst.now.edges x.state is
     c.states.ensures.sound.edges_ascend span
+    (c.span_in.ensures.codes c.args.fst.now.edges c.in-Some.first c.in-Some.last c.in-Some.codes
+    c.in-Some.is is)

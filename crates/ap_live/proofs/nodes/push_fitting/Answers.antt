@@ -22,13 +22,13 @@ returns-in-Letter-None-clause-added c =
     let input : Input = record { symbol = c.args.input.now; sensitive = c.args.sensitive } in
     let letter : Symbol = Letter c.in-Letter-None.letter in
     IfOk-weaker c.push_letter.result _ _
-    (λ x h is span. adds_seen c.args.fst.now.edges (Some input) c.args.from c.args.back
+    (λ x h is span codes. adds_seen c.args.fst.now.edges (Some input) c.args.from c.args.back
     (HasLeft c.args.fst.now.edges (Some letter)) AnyPlace c.args.nodes.now.items
     c.push_letter.new.nodes.items
     (λ s j p any. one_side c.args.fst.now.edges (Some input) input letter
     (option_copied c.args.other) refl c.in-Letter-None.is-0 (ap option_copied c.in-Letter-None.is-1)
     c.requires.other c.args.from s j p)
-    (h c.args.fst.now.edges (Some input) c.args.from is c.edges-edges.ensures.sound.edges_ascend span
+    (h c.args.fst.now.edges (Some input) c.args.from is c.edges-edges.ensures.sound.edges_ascend span codes
     (picked_by input letter (itself input c.in-Letter-None.letter c.in-Letter-None.is-0))))
     c.push_letter.ensures.added
 
@@ -40,16 +40,16 @@ returns-in_ok-push_letter-in-Letter-Some-Letter-clause-added c =
     let small : Symbol = Letter c.in-Letter-Some-Letter.small in
     let there : option_copied c.args.other ≡ Some small = cc in
     IfOk-weaker c.push_letter-in-Letter-Some-Letter-2.result _ _
-    (λ x h is span. adds_two c.args.fst.now.edges (Some input) c.args.from c.args.back
+    (λ x h is span codes. adds_two c.args.fst.now.edges (Some input) c.args.from c.args.back
     (HasLeft c.args.fst.now.edges (Some letter)) (HasLeft c.args.fst.now.edges (Some small))
     AnyPlace c.args.nodes.now.items c.push_letter-in-Letter-Some-Letter.new.nodes.items
     c.push_letter-in-Letter-Some-Letter-2.new.nodes.items
     (λ s j p any. two_sides c.args.fst.now.edges (Some input) input letter small
     (option_copied c.args.other) refl c.in-Letter-Some-Letter.is-0 there c.requires.other c.args.from s j p)
     (c.in_ok-push_letter-in-Letter-Some-Letter.ensures.added c.args.fst.now.edges (Some input) c.args.from
-    is c.edges-edges.ensures.sound.edges_ascend span
+    is c.edges-edges.ensures.sound.edges_ascend span codes
     (picked_by input letter
     (itself input c.in-Letter-Some-Letter.letter c.in-Letter-Some-Letter.is-0)))
-    (h c.args.fst.now.edges (Some input) c.args.from is c.edges-edges.ensures.sound.edges_ascend span
+    (h c.args.fst.now.edges (Some input) c.args.from is c.edges-edges.ensures.sound.edges_ascend span codes
     (picked_by input small (c.requires.other.fits small there))))
     c.push_letter-in-Letter-Some-Letter-2.ensures.added

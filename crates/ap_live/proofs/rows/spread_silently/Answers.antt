@@ -16,5 +16,5 @@ returns-in-Some c = IfOk-weaker c.spread_coded.result _ _
     (h c.args.fst.now.edges c.args.from c.in-Some.first None
     (silent_coded c.args.fst.now.edges c.args.outline.now c.args.from c.in-Some.first
     c.in-Some.last is c.states.ensures.sound.edges_ascend
-    (c.span_in.ensures.span c.args.fst.now.edges c.in-Some.first c.in-Some.last c.in-Some.is is))))
+    (c.span_in.ensures.span c.args.fst.now.edges c.in-Some.first c.in-Some.last c.in-Some.field-0-2 c.in-Some.is is))))
     c.spread_coded.ensures

@@ -12,5 +12,5 @@ returns-in-Some c = IfOk-weaker c.spread_letter.result _ _
     c.args.links.now.items c.spread_letter.new.states.items c.spread_letter.new.links.items)
     (sym c.in-Letter.is)
     (h c.args.fst.now.edges c.args.from is c.states.ensures.sound.edges_ascend
-    (c.span_in.ensures.span c.args.fst.now.edges c.in-Some.first c.in-Some.last c.in-Some.is is)))
+    (c.span_in.ensures.span c.args.fst.now.edges c.in-Some.first c.in-Some.last c.in-Some.codes c.in-Some.is is)))
     c.spread_letter.ensures

@@ -1,7 +1,7 @@
 use Rattle.std.proofs.Common.{ℕ, ◌≡◌, ◌<◌, ◌≤◌, ◌-◌, Some, slice_get}
 use Rattle.ap_live.specs.Outlines.{Rises}
 use Rattle.ap_live.specs.declared.outline.Entry.{Entry}
-use Rattle.ap_live.proofs.outline.low_of.Given as goal
+use Rattle.ap_live.proofs.outline.cut_of.Given as goal
 
 abbrev pub invariant-loop-middle : goal.invariant-loop-middle
 invariant-loop-middle l = record {

@@ -1,5 +1,5 @@
 use Rattle.ap_live.proofs.Outlining.{cut_within}
-use Rattle.ap_live.proofs.outline.low_of.Goals as goal
+use Rattle.ap_live.proofs.outline.cut_of.Goals as goal
 
 pub returns : goal.returns
 returns c = λ rises. cut_within c.args.entries.now c.args.first c.args.last c.loop-middle.low
