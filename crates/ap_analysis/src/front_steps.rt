@@ -179,6 +179,14 @@ fn knows_space(before: bool, key: &[u8], text: &[u8], count: usize, any_ending: 
     before || is_space(key, text, count, any_ending)
 }
 
+/// Whether the first byte is a letter of the twenty-six.
+fn begins_word(piece: &[u8]) -> bool {
+    match piece.first() {
+        None => false,
+        Some(byte) => byte.is_ascii_alphabetic(),
+    }
+}
+
 impl FrontSteps {
     pub(crate) fn new(alloc: Global) -> FrontSteps
         ensures { (lexicon : Lexicon) (sensitive : Bool) → AreFrontSteps lexicon sensitive result }
@@ -236,7 +244,7 @@ impl FrontSteps {
         front_of(key, text, mark.count as usize, mark.any_ending, piece, into)
     }
 
-    /// The step at the front of the bytes, if it is kept. Its text is appended.
+    /// The step at the front of the bytes, if it is looked for and kept. Its text is appended.
     pub(crate) fn recall(&mut self, piece: &[u8], into: &mut Bytes) -> Result<Option<Front>, Memory>
         ensures marks { self.new.marks ≡ self.old.marks }
         ensures bytes { self.new.bytes ≡ self.old.bytes }
@@ -247,6 +255,9 @@ impl FrontSteps {
         ensures short { OnOk result (length into.new < length into.old + FRONT_MAX) }
         ensures none { result ≡ Ok None → into.new ≡ into.old }
     {
+        if begins_word(piece) && !self.worth.is_asked() {
+            return Ok(None);
+        }
         let Some(at) = self.hinted(piece) else {
             return Ok(None);
         };
@@ -255,7 +266,7 @@ impl FrontSteps {
         }
         let found = self.front_at(self.marks[at], piece, into)?;
         if let Some(front) = found {
-            self.worth.count(front.used);
+            self.worth.count_asked(front.used);
         }
         Ok(found)
     }

@@ -4,7 +4,7 @@ use Rattle.ap_live.specs.Lexicon.{lexicon_of}
 use Rattle.ap_analysis.specs.FrontSteps.{IsFrontStep, step_by}
 use Rattle.ap_analysis.specs.Held.{Held}
 use Rattle.ap_analysis.specs.declared.front_steps.FrontKey.{FrontKey}
-use Rattle.ap_analysis.proofs.ByteFronts.{seen_gave}
+use Rattle.ap_analysis.proofs.ByteFronts.{seen_bare, seen_gave}
 use Rattle.ap_analysis.proofs.Running.{some_weaker}
 use Rattle.ap_analysis.proofs.work.AnalysisWork.seek.Goals as goal
 
@@ -63,6 +63,19 @@ returns-in_ok-found-in-Some-clause-gave c =
     c.front_of.new.into c.self.view_is
     (ap (λ (h : Held). length h.items) c.self.view_is ∙ c.requires.none)
     c.know.ensures.coherent (is (lexicon_of c.self.inside.compiled c.self.inside.sensitive)
+    c.self.inside.sensitive
+    (rw c.as_slice-text.ensures (subst (λ (o : Option FrontKey). IfSome o (λ key.
+    IsFrontStep (lexicon_of c.self.inside.compiled c.self.inside.sensitive)
+    c.self.inside.sensitive (step_by c.args.piece.now key c.sought-made.new.text)))
+    c.in-Some.is c.in_ok-made.ensures.step))))
+    c.in_ok-found-in-Some.ensures.gave
+
+pub returns-in_ok-found-in-Some-clause-bare : goal.returns-in_ok-found-in-Some-clause-bare
+returns-in_ok-found-in-Some-clause-bare c =
+    some_weaker c.in_ok-found-in-Some.found _ _ (λ front is e.
+    seen_bare (lexicon_of c.self.inside.compiled c.self.inside.sensitive)
+    c.self.inside.sensitive c.args.piece.now front.used front.seen c.args.into.now
+    c.front_of.new.into e (is (lexicon_of c.self.inside.compiled c.self.inside.sensitive)
     c.self.inside.sensitive
     (rw c.as_slice-text.ensures (subst (λ (o : Option FrontKey). IfSome o (λ key.
     IsFrontStep (lexicon_of c.self.inside.compiled c.self.inside.sensitive)
