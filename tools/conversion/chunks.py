@@ -24,7 +24,7 @@ class Fault(Exception):
 def spell_chunks(root, made_file, telling):
     """Writes the chunks of interchunk rules that hold literals as chunks without content, and
     the postchunk rules for them into the file `made_file`, where it is named."""
-    known = {}
+    known, before = {}, made_before(made_file)
     for chunk in all_elements(root, "chunk"):
         spell_recased(chunk, telling)
         tokens = tokens_of(chunk)
@@ -35,7 +35,7 @@ def spell_chunks(root, made_file, telling):
             if any(is_content(token) for token in tokens):
                 gather(chunk, tokens, telling)
             elif made_file:
-                name = spell_chunk(chunk, tokens, known)
+                name = spell_chunk(chunk, tokens, known, len(before) // 2)
                 telling.change(line, "a chunk of literals", f"the chunk {name} without content, "
                                "and a postchunk rule that writes its units")
             else:
@@ -44,7 +44,7 @@ def spell_chunks(root, made_file, telling):
             telling.change(line, f"a chunk of literals ({fault})", "the same, escaped",
                            "the words in it")
     if made_file:
-        write_made(known, made_file)
+        write_made(known, before, made_file)
 
 
 def spell_recased(chunk, telling):
@@ -171,9 +171,9 @@ def parse(tokens):
     return tokens[:brace], units
 
 
-def spell_chunk(chunk, tokens, known):
+def spell_chunk(chunk, tokens, known, before):
     """Writes a chunk of literals as one without content, and keeps its postchunk rule in
-    `known`; gives the name of the chunk."""
+    `known`; gives the name of the chunk. `before` is the number of rules made before."""
     name_values, unit_values = parse(tokens)
     name_values = [value for value in name_values
                    if isinstance(value, str) or value.tag != "b"]
@@ -188,7 +188,7 @@ def spell_chunk(chunk, tokens, known):
                                                            and name_case == carrier),
                         ".".join(tag.get("v") for tag in word.tags) if is_told else None)
                        for place, (word, is_told) in enumerate(zip(words, told)))
-    name = known.setdefault(rule_words, f"made-{letters_of(len(known))}")
+    name = known.setdefault(rule_words, f"made-{letters_of(before + len(known))}")
     for child in elements(chunk):
         chunk.remove(child)
     lemma = made("lit", v=name)
@@ -207,9 +207,17 @@ def letters_of(number):
     return text
 
 
-def write_made(known, made_file):
-    """Writes categories and rules of postchunk for the chunks without content."""
-    root = made("made")
+def made_before(made_file):
+    """The categories and rules that the file holds from other interchunk rules."""
+    if not made_file or not os.path.exists(made_file):
+        return []
+    return list(etree.parse(made_file, etree.XMLParser(remove_blank_text=True)).getroot())
+
+
+def write_made(known, before, made_file):
+    """Writes categories and rules of postchunk for the chunks without content, behind those
+    that were made before."""
+    root = made("made", *before)
     for words, name in known.items():
         root.append(made("def-cat", made("cat-item", name=name), n=name))
         pieces = []

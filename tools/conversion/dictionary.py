@@ -14,8 +14,8 @@ class Variants:
     """Which variant and alternative is asked for, as the words of the command say it."""
 
     def __init__(self, both="", left="", right="", alternative="", side=""):
-        """`both`, `left`, `right` and `alternative` are the values that `v`, `vl`, `vr` and
-        `alt` must have; `side` is `left` or `right` where entries of other variants are kept
+        """`both`, `left`, `right` and `alternative` are the values, one or more words, that `v`,
+        `vl`, `vr` and `alt` must have; `side` is `left` or `right` where entries of other variants are kept
         in the direction that leads away from that side, else empty."""
         self.both, self.left, self.right = both, left, right
         self.alternative, self.side = alternative, side
@@ -28,7 +28,7 @@ class Variants:
                 ("v", self.both, self.gone()), ("vl", self.left, {"RL"}),
                 ("vr", self.right, {"LR"}), ("alt", self.alternative, {"LR", "RL"})):
             values = element.get(attribute, "").split()
-            if values and asked not in values and not (attribute == "v" and not asked):
+            if values and not set(asked.split()) & set(values) and (attribute != "v" or asked):
                 kept -= gone
         side = element.get("r")
         return kept & {side} if side is not None else kept

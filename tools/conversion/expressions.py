@@ -60,7 +60,7 @@ def class_spelt(body):
         white = " " if 32 not in taken and " " not in white else ""
     spelt = "[" + "".join(range_spelt(low, high) for low, high in ranges) + "]" if ranges else ""
     if " " in white and spelt:
-        spelt = f"({spelt}| )"
+        spelt = f"( |{spelt})"
     elif " " in white:
         spelt = " "
     lost = "white space other than a space" if set(white) & set(WHITE) else ""

@@ -41,7 +41,7 @@ def keep_variant(element, variant, telling):
     if values is None:
         return
     line, was = line_of(element), f"{element.tag} with v={values}"
-    if variant and variant not in values.split():
+    if variant and not set(variant.split()) & set(values.split()):
         telling.change(line, was, "nothing", "nothing of that variant")
         remove(element)
         return
