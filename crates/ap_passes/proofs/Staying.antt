@@ -18,7 +18,7 @@ joins_none (x ∷ word) h =
     cond-false (is_join x) ([] ∷ between_joins word) (in_front (x ∷ []) (between_joins word)) p.0
     ∙ ap (in_front (x ∷ [])) (joins_none word p.1)
 
-parts_none : (word : List Symbol) → list_any is_join (drop (tag_place word) word) ≡ false →
+pub parts_none : (word : List Symbol) → list_any is_join (drop (tag_place word) word) ≡ false →
     parts word ≡ word ∷ []
 parts_none word h = ap (in_front (take (tag_place word) word))
     (joins_none (drop (tag_place word) word) h)

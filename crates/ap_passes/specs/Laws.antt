@@ -76,6 +76,11 @@ pub record IsTakenApart (word : List Symbol) (words : List (List Symbol)) : Type
 abbrev pub TakesApart : Type 0
 TakesApart = (word : List Symbol) → is_marked word ≡ false → IsTakenApart word (split word)
 
+-- and there is one way to take a word apart
+abbrev pub ApartOnce : Type 0
+ApartOnce = (word : List Symbol) (words others : List (List Symbol)) → IsTakenApart word words →
+    IsTakenApart word others → words ≡ others
+
 -- Nothing is lost: where no part is empty, the words joined again by Joins are the word with its
 -- invariable part moved.
 abbrev pub NothingIsLost : Type 0
