@@ -15,3 +15,8 @@ pub mod WordsMade
 pub mod TreeCharacters
 pub mod WordedValues
 pub mod WordedRules
+pub mod ValuesRead
+pub mod ConditionsRead
+pub mod PiecesRead
+pub mod StatementsRead
+pub mod SectionsRead

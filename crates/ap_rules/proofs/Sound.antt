@@ -1,5 +1,5 @@
 -- What a tree spells is sound.
-use Rattle.std.proofs.Common.{◌≡◌, ℕ, ◌+◌, ◌-◌, ◌<◌, ◌≤◌, Bool, true, false, not, ◌&&◌, ◌==◌, cond, ltb, nat_le, List, [], ◌∷◌, ◌++◌, length, map, refl, sym, subst, ap, ◌∙◌, arith, Option, Some, None, Result, Ok, Err, codes, is_none, is_some}
+use Rattle.std.proofs.Common.{◌≡◌, ℕ, ◌+◌, ◌-◌, ◌*◌, ◌<◌, ◌≤◌, Bool, true, false, not, ◌&&◌, ◌==◌, cond, ltb, nat_le, List, [], ◌∷◌, ◌++◌, length, map, refl, sym, subst, ap, ◌∙◌, arith, Option, Some, None, Result, Ok, Err, codes, is_none, is_some}
 use Rattle.std.specs.Prelude.{slice_get, if◌then◌else◌}
 use Rattle.std.specs.Option.{option_map, option_to_list, unwrap_or}
 use Rattle.std.specs.List.{position_or_len}
@@ -17,9 +17,9 @@ use Rattle.ap_rules.specs.Conditions.{comparison, membership, list_number, list_
 use Rattle.ap_rules.specs.Faults.{is_transfer, has_attribute}
 use Rattle.ap_rules.specs.Pieces.{rows_named, chunk_piece, chunk_pieces, variable_given, word_given, is_named_once, chunk_of, any_chunk, piece, pieces}
 use Rattle.ap_rules.specs.Plain.{PlainValue, PlainValues, clip, lit, lit_tag, var, get_case_from, case_of, concat, blank_value, values_of, PlainComparison, PlainMembership, PlainCondition, PlainConditions, equal, begins_with, ends_with, contains_substring, is_in, begins_with_list, ends_with_list, conditions_of, PlainChunkPiece, chunk_unit, chunk_units, chunk_blank, PlainChunk, PlainPiece, blank, unit, units, chunk, value_chunk, PlainStatement, out, PlainWhen, assign, modify_case, call_macro, statements_of, whens_of}
-use Rattle.ap_rules.specs.Soundness.{Opt, Each, HasSome, Bounds, IsWithin, IsPosition, IsTag, IsSoundPart, IsSoundClip, IsSoundCase, IsSoundBlank, IsSoundValue, AreSoundValues, AreSound, IsSoundComparison, IsSoundMembership, IsSoundCondition, AreSoundConditions, IsSoundChunkPiece, IsVariable, IsSoundChunk, IsSoundPiece, IsSoundPlace, IsSoundStatement, AreSoundStatements, AreSoundWhens}
+use Rattle.ap_rules.specs.Soundness.{Opt, Each, HasSome, Bounds, IsWithin, IsPosition, IsTag, IsLink, IsSoundPart, IsSoundClip, IsSoundCase, IsSoundBlank, IsSoundValue, AreSoundValues, AreSound, IsSoundComparison, IsSoundMembership, IsSoundCondition, AreSoundConditions, IsSoundChunkPiece, IsVariable, IsSoundChunk, IsSoundPiece, IsSoundPlace, IsSoundStatement, AreSoundStatements, AreSoundWhens}
 use Rattle.ap_rules.specs.Statements.{place_of, placed, setting, params, is_given, call_of, appended, choice, simple_statement, statement, tested, when_of, statements, whens, otherwise}
-use Rattle.ap_rules.specs.Texts.{when_so, decimal, bounded, number_in, word_of, tag_named, tag_symbol, parts_after, with_symbol, tag_symbols, tags_of, given_text}
+use Rattle.ap_rules.specs.Texts.{is_digit, is_leading, when_so, decimal, bounded, number_in, word_of, tag_named, tag_symbol, parts_after, with_symbol, tag_symbols, tags_of, given_text}
 use Rattle.ap_rules.specs.Values.{Scope, on_some, position_of, part_named, part_given, side_of, is_value, link_of, clip_of, case_given, recased, simple_value, value, values}
 use Rattle.ap_rules.specs.declared.defined.Defined.{Defined}
 use Rattle.ap_rules.specs.declared.faults.Reach.{Reach}
@@ -127,6 +127,77 @@ pub tags_sound : (stars : Bool) (text : List ℕ) → Opt (AreTags stars) (tags_
 tags_sound stars text = opt_if (AreTags stars) (length text == 0) (Some [])
     (tag_symbols stars (parts_after [] text)) tt (symbols_sound stars (parts_after [] text))
 
+-- a link of a clip
+
+digit_number : (b : Bool) (k n : ℕ) → when_so b k ≡ Some n → (b ≡ true) × (k ≡ n)
+digit_number true k n e = (refl, (let same : k ≡ n = cc in same))
+digit_number false k n e = absurd (let no : ⊥ = cc in no)
+
+in_bounds : (least most k n : ℕ) → bounded least most (Some k) ≡ Some n → (k ≡ n) × (n ≤ most)
+in_bounds least most k n e = by (nat_le least k) (nat_le k most) refl refl e
+  where
+    by : (p q : Bool) → nat_le least k ≡ p → nat_le k most ≡ q →
+        cond {A = Option ℕ} (p && q) (Some k) None ≡ Some n → (k ≡ n) × (n ≤ most)
+    by true true f g h = let same : k ≡ n = cc in
+        (same, subst (λ (m : ℕ). m ≤ most) same (grind (arith, nat_tests)))
+    by true false f g h = absurd (let no : ⊥ = cc in no)
+    by false q f g h = absurd (let no : ⊥ = cc in no)
+
+-- a text of one part gives one tag or none
+part_link : (text : List ℕ) (n : ℕ) → number_in 1 99 (Some text) ≡ Some n →
+    Opt IsLink (tag_symbols false (text ∷ []))
+part_link text n e = by (bytes_eq (codes "*") text) (is_tag_name (encode_utf8_all text))
+  where
+    by : (a b : Bool) → Opt IsLink (with_symbol
+        (cond {A = Option Symbol} a None (cond b (Some (tag_symbol_of (encode_utf8_all text))) None))
+        (Some []))
+    by true b = tt
+    by false true = (text, n, e, refl)
+    by false false = tt
+
+no_dot : (c : ℕ) → is_digit c ≡ true → (c == 46) ≡ false
+no_dot c e = grind (arith, nat_tests)
+
+leading_digit : (c : ℕ) → is_leading c ≡ true → (1 ≤ c - 48) × (is_digit c ≡ true)
+leading_digit c e = (grind (arith, nat_tests), grind (arith, nat_tests))
+
+both_true : (a b : Bool) → (a && b) ≡ true → (a ≡ true) × (b ≡ true)
+both_true true true e = (refl, refl)
+both_true true false e = absurd (let no : ⊥ = let q : ◌≡◌ {A = Bool} false true = e in cc in no)
+both_true false b e = absurd (let no : ⊥ = let q : ◌≡◌ {A = Bool} false true = e in cc in no)
+
+-- the number of a text that is one
+number_of_text : (o : Option ℕ) (n : ℕ) → bounded 1 99 o ≡ Some n → (o ≡ Some n) × (n ≤ 99)
+number_of_text None n e = absurd (let no : ⊥ = cc in no)
+number_of_text (Some k) n e = let b = in_bounds 1 99 k n e in (ap Some b.0, b.1)
+
+pub link_sound : (text : List ℕ) (n : ℕ) → number_in 1 99 (Some text) ≡ Some n →
+    Opt IsLink (tags_of false text)
+link_sound [] n e = absurd (let no : ⊥ = cc in no)
+link_sound (a ∷ []) n e =
+    let d = digit_number (is_digit a) (a - 48) n (number_of_text (decimal (a ∷ [])) n e).0 in
+    subst (λ (b : Bool). Opt IsLink (tag_symbols false
+    (cond b ([] ∷ [] ∷ []) ((a ∷ []) ∷ [])))) (sym (no_dot a d.0)) (part_link (a ∷ []) n e)
+link_sound (a ∷ b ∷ []) n e =
+    let d = digit_number (is_leading a && is_digit b) ((a - 48) * 10 + (b - 48)) n
+    (number_of_text (decimal (a ∷ b ∷ [])) n e).0 in
+    let t = both_true (is_leading a) (is_digit b) d.0 in
+    subst (λ (x : Bool). Opt IsLink (tag_symbols false
+    (cond x ([] ∷ cond (b == 46) ([] ∷ [] ∷ []) ((b ∷ []) ∷ []))
+    (cond (b == 46) ((a ∷ []) ∷ [] ∷ []) ((a ∷ b ∷ []) ∷ [])))))
+    (sym (no_dot a (leading_digit a t.0).1))
+    (subst (λ (x : Bool). Opt IsLink (tag_symbols false
+    (cond x ((a ∷ []) ∷ [] ∷ []) ((a ∷ b ∷ []) ∷ [])))) (sym (no_dot b t.1))
+    (part_link (a ∷ b ∷ []) n e))
+link_sound (a ∷ b ∷ c ∷ []) n e =
+    let m = number_of_text (decimal (a ∷ b ∷ c ∷ [])) n e in
+    let d = digit_number (is_leading a && is_digit b && is_digit c)
+    ((a - 48) * 100 + (b - 48) * 10 + (c - 48)) n m.0 in
+    let t = both_true (is_leading a && is_digit b) (is_digit c) d.0 in
+    let u = both_true (is_leading a) (is_digit b) t.0 in
+    absurd (let no : ⊥ = omega (arith, d.1, m.1, (leading_digit a u.0).0) in no)
+link_sound (a ∷ b ∷ c ∷ d ∷ more) n e = absurd (let no : ⊥ = cc in no)
+
 -- what a scope lets be numbered
 pub record Counts : Type 0 where
   pub attributes : ℕ
@@ -213,7 +284,7 @@ clip_with s n content given (Some text) f =
     opt_bind (IsPosition (bounds s n)) (IsSoundClip (bounds s n) content) _ (position_of s given)
     (λ pos at. opt_bind (IsSoundPart (content && false) n.attributes)
     (IsSoundClip (bounds s n) content) _ (part_given (content && false) s.names given)
-    (λ part sound. linked pos at part sound (is_none (number_in 1 99 (Some text))))
+    (λ part sound. linked pos at part sound (is_none (number_in 1 99 (Some text))) refl)
     (part_sound (content && false) s.names (given_text (value_of (codes "part") given)) n.attributes
     f.attributes))
     (number_within s.reach.least s.reach.most (value_of (codes "pos") given))
@@ -229,15 +300,25 @@ clip_with s n content given (Some text) f =
     }
 
     linked : (pos : ℕ) → IsPosition (bounds s n) pos → (part : ClipPart) →
-        IsSoundPart (content && false) n.attributes part → (b : Bool)
-        → Opt (IsSoundClip (bounds s n) content)
+        IsSoundPart (content && false) n.attributes part → (b : Bool) →
+        is_none (number_in 1 99 (Some text)) ≡ b →
+        Opt (IsSoundClip (bounds s n) content)
         (on_some (cond {A = Option (Option (List Symbol))} b None
         (option_map Some (tags_of false text)))
         (λ (link : Option (List Symbol)). Some (clip_to pos part link)))
-    linked pos at part sound true = tt
-    linked pos at part sound false = tagged (tags_of false text) (tags_sound false text)
+    linked pos at part sound true e = tt
+    linked pos at part sound false e = tagged (tags_of false text) (is_link number refl e)
       where
-        tagged : (o : Option (List Symbol)) → Opt (AreTags false) o →
+        number : Option ℕ
+        number = number_in 1 99 (Some text)
+
+        is_link : (o : Option ℕ) → number_in 1 99 (Some text) ≡ o → is_none o ≡ false →
+            Opt IsLink (tags_of false text)
+        is_link None h k = absurd (let no : ⊥ = let q : ◌≡◌ {A = Bool} false true = sym k in cc in
+            no)
+        is_link (Some n) h k = link_sound text n h
+
+        tagged : (o : Option (List Symbol)) → Opt IsLink o →
             Opt (IsSoundClip (bounds s n) content)
             (on_some (option_map Some o)
             (λ (link : Option (List Symbol)). Some (clip_to pos part link)))

@@ -3,7 +3,7 @@ use Rattle.std.specs.Prelude.{ℕ, Bool, List, [], ◌∷◌, ◌++◌, Option, 
 use Rattle.std.specs.Option.{unwrap_or}
 use Rattle.ap_markup.specs.NameLists.{has_name, with_name, number_of}
 use Rattle.ap_markup.specs.Pieces.{Pair}
-use Rattle.ap_markup.specs.Said.{value_of, name_of, is_named}
+use Rattle.ap_markup.specs.Said.{value_of, is_named}
 use Rattle.ap_markup.specs.Tree.{Tag}
 use Rattle.ap_rules.specs.Children.{Children, nothing, element}
 use Rattle.ap_rules.specs.Texts.{number_in}
@@ -21,20 +21,20 @@ abbrev pub with_macro : List ℕ → ℕ → Defined → Defined
 with_macro name npar d = if has_name d.macros name then d
     else record d { macros = d.macros ++ name ∷ []; npars = d.npars ++ npar ∷ [] }
 
--- the names once an element is over
-abbrev pub defined_after : Tag → Defined → Defined
-defined_after tag d =
-    if is_named (codes "def-cat") tag
-    then record d { cats = with_name d.cats (name_of tag.attributes) }
-    else if is_named (codes "def-attr") tag
-    then record d { attrs = with_name d.attrs (name_of tag.attributes) }
-    else if is_named (codes "def-var") tag
-    then record d { vars = with_name d.vars (name_of tag.attributes) }
-    else if is_named (codes "def-list") tag
-    then record d { lists = with_name d.lists (name_of tag.attributes) }
-    else if is_named (codes "def-macro") tag
-    then with_macro (name_of tag.attributes) (npar_of tag.attributes) d
+-- the names with that which an element gives to what it defines
+abbrev pub defined_named : Option (List ℕ) → Tag → Defined → Defined
+defined_named None tag d = d
+defined_named (Some name) tag d =
+    if is_named (codes "def-cat") tag then record d { cats = with_name d.cats name }
+    else if is_named (codes "def-attr") tag then record d { attrs = with_name d.attrs name }
+    else if is_named (codes "def-var") tag then record d { vars = with_name d.vars name }
+    else if is_named (codes "def-list") tag then record d { lists = with_name d.lists name }
+    else if is_named (codes "def-macro") tag then with_macro name (npar_of tag.attributes) d
     else d
+
+-- The names once an element is over. One that gives no name defines nothing.
+abbrev pub defined_after : Tag → Defined → Defined
+defined_after tag d = defined_named (value_of (codes "n") tag.attributes) tag d
 
 -- the names with those that the elements define, wherever these stand
 abbrev pub defined_in : Defined → Children → Defined

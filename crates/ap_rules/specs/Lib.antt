@@ -18,3 +18,8 @@ pub mod Spelling
 pub mod Sentences
 pub mod Soundness
 pub mod Worded
+pub mod ValueRows
+pub mod ConditionRows
+pub mod PieceRows
+pub mod StatementRows
+pub mod SectionRows

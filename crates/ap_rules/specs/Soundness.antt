@@ -1,11 +1,13 @@
 -- When rules are sound: each number that stands for a name is that of something they define, and no
 -- element has a fault of its positions, tags, lengths or uses, or lacks what it must have.
 use Rattle.std.specs.Prelude.{◌≡◌, ℕ, ◌<◌, ◌≤◌, Bool, true, false, ◌&&◌, List, [], ◌∷◌, ◌++◌, length, map, Option, Some, None, is_none, slice_get}
+use Rattle.std.specs.Str.{encode_utf8_all}
 use Rattle.ap_symbol.specs.declared.symbol.Symbol.{Symbol}
 use Rattle.ap_symbol.specs.declared.symbol.Symbol.TheVariants.{Letter, Tag, Blank, Join, Queue, Alarm, Star, At}
 use Rattle.ap_rules.specs.Faults.{is_transfer, is_length, reach_to, rule_reach}
 use Rattle.ap_rules.specs.Pieces.{is_named_once}
 use Rattle.ap_rules.specs.Plain.{PlainValue, PlainValues, clip, lit, lit_tag, var, get_case_from, case_of, concat, blank_value, no_values, then_value, PlainComparison, PlainMembership, PlainCondition, PlainConditions, all_of, one_of, negated, equal, begins_with, ends_with, contains_substring, is_in, begins_with_list, ends_with_list, no_conditions, then_condition, PlainChunkPiece, chunk_unit, chunk_units, chunk_blank, PlainChunk, PlainPiece, blank, unit, units, chunk, value_chunk, PlainStatement, PlainStatements, PlainWhens, choose, assign, append, out, modify_case, call_macro, no_statements, then_statement, no_whens, then_when, PlainMacro, PlainRule, PlainRules}
+use Rattle.ap_rules.specs.Texts.{number_in}
 use Rattle.ap_rules.specs.declared.faults.Reach.{Reach}
 use Rattle.ap_rules.specs.declared.attribute.AttrItem.{AttrItem}
 use Rattle.ap_rules.specs.declared.rules.CatItem.{CatItem}
@@ -76,11 +78,16 @@ IsSoundPart content attributes Whole = Unit {0}
 IsSoundPart content attributes Content = content ≡ true
 IsSoundPart content attributes (Attribute n) = n < attributes
 
+-- a link: one tag, whose name is a number from 1 to 99
+abbrev pub IsLink : List Symbol → Type 0
+IsLink word = (text : List ℕ) × (n : ℕ) × (number_in 1 99 (Some text) ≡ Some n)
+    × (word ≡ Tag (encode_utf8_all text) ∷ [])
+
 -- a clip that may read the content of a chunk where `content` says so, and then has no link
 abbrev pub IsSoundClip : Bounds → Bool → Clip → Type 0
 IsSoundClip b content c =
     IsPosition b c.pos × IsSoundPart (content && is_none c.link_to) b.attributes c.part
-    × Opt (Each (IsTag false)) c.link_to
+    × Opt IsLink c.link_to
 
 abbrev pub IsSoundCase : Bounds → CaseOf → Type 0
 IsSoundCase b c = IsPosition b c.pos × IsSoundPart false b.attributes c.part

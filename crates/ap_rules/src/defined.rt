@@ -7,7 +7,7 @@ ghost use Rattle.ap_rules.specs.Defining.{none_defined, npar_of, with_macro, def
 
 use crate::children::next_element;
 use crate::texts::number_in;
-use ap_markup::{Names, Node, Part, is_named, name_of, value_of};
+use ap_markup::{Names, Node, Part, is_named, value_of};
 use ap_symbol::{Memory, Sequence};
 use std::alloc::Global;
 
@@ -59,11 +59,13 @@ impl<'a> Defined<'a> {
         Ok(())
     }
 
-    /// What an element defines, once it is over.
+    /// What an element defines, once it is over. One that gives no name defines nothing.
     pub fn add(&mut self, node: &'a Node) -> Result<(), Memory>
         ensures { OnOk result (self.new ≡ defined_after (tag_of node.now) self.old) }
     {
-        let name = name_of(node);
+        let Some(name) = value_of("n", node.attributes.as_slice()) else {
+            return Ok(());
+        };
         if is_named("def-cat", node) {
             self.cats.add(name)
         } else if is_named("def-attr", node) {

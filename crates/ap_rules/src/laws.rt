@@ -1,8 +1,10 @@
 ghost use Rattle.std.specs.Prelude.{◌≡◌, ℕ, List};
+ghost use Rattle.ap_rules.specs.Children.{Children};
 ghost use Rattle.ap_rules.specs.Plain.{PlainRules};
+ghost use Rattle.ap_rules.specs.SectionRows.{AreRules};
 ghost use Rattle.ap_rules.specs.Sentences.{SpellsRules, IsRefusedFor};
 ghost use Rattle.ap_rules.specs.Soundness.{IsSound};
-ghost use Rattle.ap_rules.specs.Spelling.{Spells, IsFirstFault};
+ghost use Rattle.ap_rules.specs.Spelling.{Spells, IsFirstFault, rules_in};
 ghost use Rattle.ap_rules.specs.Worded.{AreWorded};
 ghost use Rattle.ap_rules.specs.declared.refusal.RuleFault.{RuleFault};
 ghost use Rattle.ap_rules.specs.declared.rules.Form.{Form};
@@ -24,6 +26,15 @@ pub fn refuses_by_the_first_fault()
         IsRefusedFor form text f }
     ensures read { (form : Form) (text : List ℕ) (f : RuleFault) → IsRefusedFor form text f →
         IsFirstFault form text f }
+{}
+
+/// The law of rows. A tree whose elements are these rules by the table, each by its row and none
+/// passed over, is read as them and no others.
+pub fn reads_each_row()
+    ensures read { (form : Form) (tree : Children) (r : PlainRules) → AreRules form tree r →
+        rules_in form tree ≡ r }
+    ensures one { (form : Form) (tree : Children) (q r : PlainRules) → AreRules form tree q →
+        AreRules form tree r → q ≡ r }
 {}
 
 /// A text spells the rules of one file at most.

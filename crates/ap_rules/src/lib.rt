@@ -23,8 +23,8 @@ mod values;
 pub use attribute::{AttrItem, DefAttr};
 pub use condition::{And, Comparison, Condition, Membership, Not, Or};
 pub use laws::{
-    has_one_fault, reads_what_the_grammar_spells, refuses_by_the_first_fault, spells_is_sound,
-    spells_one, spells_without_fault, spells_words,
+    has_one_fault, reads_each_row, reads_what_the_grammar_spells, refuses_by_the_first_fault,
+    spells_is_sound, spells_one, spells_without_fault, spells_words,
 };
 pub use piece::{Chunk, ChunkPiece, Lu, Mlu, Piece, Tag, ValueChunk};
 pub use reading::read_rules;
