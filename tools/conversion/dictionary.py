@@ -164,29 +164,21 @@ def declare_symbols(root, telling):
 
 
 def join_paradigms(root, telling):
-    """Makes one paradigm of two with one name: the second gets the entries of the first before
-    its own. Where the first is used before the second, it stays under a name of its own."""
-    seen, used = {}, set()
+    """Makes one paradigm of two with one name: the second takes in the first, which stays in its
+    place under a name of its own, for its uses between them too."""
+    seen = {}
     for paradigm in all_elements(root, "pardef"):
         name = paradigm.get("n")
         first = seen.get(name)
-        if first is not None and name in used:
+        if first is not None:
             own = f"{name} before line {line_of(paradigm)}"
             telling.change(line_of(paradigm), f"a second paradigm {name}",
-                           "one with the entries of both; the first stays for its uses before")
+                           "one with the entries of both")
             for use in uses_before(root, paradigm, name):
                 use.set("n", own)
             first.set("n", own)
             paradigm.insert(0, made("e", made("par", n=own)))
-            used.discard(name)
-        elif first is not None:
-            telling.change(line_of(paradigm), f"a second paradigm {name}",
-                           "one with the entries of both")
-            for place, entry in enumerate(list(first)):
-                paradigm.insert(place, entry)
-            remove(first)
         seen[name] = paradigm
-        used.update(use.get("n") for use in paradigm.iter("par"))
 
 
 def uses_before(root, paradigm, name):

@@ -165,10 +165,21 @@ def spell_units(root, telling):
             take_signs_off(one, name, units)
     for test in all_elements(root, "equal"):
         spell_test(test, units)
+    if root.tag == "interchunk" or root.get("default") == "chunk":
+        leave_out_among_chunks(root, units)
     for out in all_elements(root, "out"):
         spell_out(out, units)
     for var in all_elements(root, "var"):
         var.attrib.pop("done", None)
+
+
+def leave_out_among_chunks(root, units):
+    """Leaves out the variables that stand among chunks and hold more than blanks."""
+    for var in all_elements(root, "var"):
+        if var.getparent().tag == "out" and var.get("n") not in units.blank:
+            units.telling.change(line_of(var), f"the variable {var.get('n')} among chunks",
+                                 "nothing", "the chunk that it may hold")
+            remove(var)
 
 
 def statement_let(name, *values):
