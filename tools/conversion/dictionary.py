@@ -14,9 +14,9 @@ class Variants:
     """Which variant and alternative is asked for, as the words of the command say it."""
 
     def __init__(self, both="", left="", right="", alternative="", side=""):
-        """`both`, `left`, `right` and `alternative` are the values, one or more words, that `v`,
-        `vl`, `vr` and `alt` must have; `side` is `left` or `right` where entries of other variants are kept
-        in the direction that leads away from that side, else empty."""
+        """`both`, `left`, `right` and `alternative` are the values, one or more words, that
+        `v`, `vl`, `vr` and `alt` must have; `side` is `left` or `right` where entries of other
+        variants are kept in the direction that leads away from that side, else empty."""
         self.both, self.left, self.right = both, left, right
         self.alternative, self.side = alternative, side
 
@@ -135,7 +135,7 @@ def clean_attributes(element, telling):
         return
     allowed, _ = attributes_of(DICTIONARY, element.tag)
     for name in sorted(set(element.attrib) - allowed):
-        lost = "the weight: readings stand in the order of their bytes" if name == "w" else "nothing"
+        lost = "the weight: readings stand by their bytes" if name == "w" else "nothing"
         telling.change(line_of(element), f"{name}={element.get(name)} of {element.tag}",
                        "nothing", lost)
         del element.attrib[name]

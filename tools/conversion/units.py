@@ -220,7 +220,7 @@ def spread(statement, name, units):
     if any(is_break(atom) for atom in atoms):
         units.telling.change(line_of(statement), f"an end and a begin of units in {name}",
                              f"the variables {part(name, 2)} to {part(name, MOST_UNITS)}",
-                             f"units past the number {MOST_UNITS}")
+                             f"units past the number {MOST_UNITS}, where a run makes so many")
     out, own = [], [atom for atom in atoms if is_variable(atom, name)]
     if statement.tag == "let":
         if own and atoms and atoms[0] is own[0] and len(own) == 1:
