@@ -17,7 +17,6 @@ NO_COUNTERPART = {
     "apertium-anaphora": "no antecedent is found",
     "apertium-posttransfer": "blanks stay as they are",
 }
-SUFFIXES = {"automorf": "", "autobil": "", "autogen": "", "autopgen": "post-"}
 MARKS = {"automorf": ("", "+#"), "autobil": ("+#", "+#"), "autogen": ("+#", "~"),
          "autopgen": ("~", "")}
 

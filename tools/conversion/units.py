@@ -165,10 +165,21 @@ def spell_units(root, telling):
             take_signs_off(one, name, units)
     for test in all_elements(root, "equal"):
         spell_test(test, units)
+    if root.tag == "interchunk" or root.get("default") == "chunk":
+        leave_out_among_chunks(root, units)
     for out in all_elements(root, "out"):
         spell_out(out, units)
     for var in all_elements(root, "var"):
         var.attrib.pop("done", None)
+
+
+def leave_out_among_chunks(root, units):
+    """Leaves out the variables that stand among chunks and hold more than blanks."""
+    for var in all_elements(root, "var"):
+        if var.getparent().tag == "out" and var.get("n") not in units.blank:
+            units.telling.change(line_of(var), f"the variable {var.get('n')} among chunks",
+                                 "nothing", "the chunk that it may hold")
+            remove(var)
 
 
 def statement_let(name, *values):
@@ -209,7 +220,7 @@ def spread(statement, name, units):
     if any(is_break(atom) for atom in atoms):
         units.telling.change(line_of(statement), f"an end and a begin of units in {name}",
                              f"the variables {part(name, 2)} to {part(name, MOST_UNITS)}",
-                             f"units past the number {MOST_UNITS}")
+                             f"units past the number {MOST_UNITS}, where a run makes so many")
     out, own = [], [atom for atom in atoms if is_variable(atom, name)]
     if statement.tag == "let":
         if own and atoms and atoms[0] is own[0] and len(own) == 1:
