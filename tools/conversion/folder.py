@@ -164,7 +164,10 @@ class Folder:
     def rewritten(self, path, base, way):
         """Rewrites a compiled dictionary of Apertium as one of the program."""
         kind = base.rpartition(".")[2].partition("-")[0]
-        lines, left_out = binary.compiled(path, way, MARKS.get(kind, ("", "")))
+        try:
+            lines, left_out = binary.compiled(path, way, MARKS.get(kind, ("", "")))
+        except (binary.Fault, IndexError) as fault:
+            raise Fault(f"{path}: no compiled dictionary that is read here ({fault})") from fault
         self.tell(f"{os.path.basename(path)} became {base}.ltc; lost: "
                   + (f"{left_out} edges with white space" if left_out else "nothing"))
         into = os.path.join(self.out, base + ".ltc")
