@@ -10,3 +10,4 @@ pub mod PlainLaws
 pub mod Plains
 pub mod Moved
 pub mod Taken
+pub mod BareTexts

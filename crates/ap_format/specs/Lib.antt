@@ -4,3 +4,4 @@ pub mod Standing
 pub mod Reformatted
 pub mod Laws
 pub mod Giving
+pub mod BareTexts

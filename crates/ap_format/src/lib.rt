@@ -13,5 +13,7 @@ mod reformat;
 mod reformatter;
 
 pub use deformat::Destxt;
-pub use laws::{destxt_is_read, plain_text_comes_back};
-pub use reformat::{Retxt, RetxtWork};
+pub use laws::{
+    bare_blanks_are_exact, destxt_is_read, plain_text_comes_back, retxt_gives_bare_text,
+};
+pub use reformat::Retxt;

@@ -1,108 +1,19 @@
 ghost use Rattle.std.specs.Prelude.{◌≡◌, ℕ, ◌<◌, List, [], length, true, false, None};
-ghost use Rattle.ap_stream.specs.Each.{held_items, held_size, none_held};
+ghost use Rattle.ap_stream.specs.Each.{held_size};
 ghost use Rattle.ap_stream.specs.Told.{Ending};
 ghost use Rattle.ap_stream.specs.Rest.{rest_of, held_of, rest_at_fault, rest_at_cut, rest_pending_first};
-ghost use Rattle.ap_stream.specs.declared.dialect.Dialect.TheVariants.{Generated};
 ghost use Rattle.ap_format.specs.Reformatted.{ret_text, ret_work};
 
-use crate::items::write_bare;
 use crate::reformatter::{Reformatter, give_piece};
-use ap_stream::{Finish, Handler, Pipe, Read, Stage, StageFault, StreamFault, Turn};
-use ap_symbol::{Bytes, Memory};
+use ap_stream::{Finish, Pipe, Stage, StageFault, StreamFault};
+use ap_symbol::Bytes;
 use std::alloc::Global;
 use std::marker::Model;
 
-/// Lets the held item go.
-fn let_go(item: &mut Option<Read>)
-    ensures { item.new ≡ None }
-{
-    *item = None;
-}
-
-/// The characters and blanks of a generated text as a plain text: a `Handler` over its items, which
-/// gives with `Staged` what `Retxt` gives.
-#[derive(Drop)]
-pub struct RetxtWork {
-    item: Option<Read>,
-    finished: bool,
-    /// Room for the bytes of a blank.
-    text: Vec<u8>,
-}
-
-impl Model for RetxtWork {
-    ghost use Rattle.std.specs.Prelude.{IfSome};
-    ghost use Rattle.ap_stream.specs.Reading.{IsRead};
-    ghost use Rattle.ap_stream.specs.declared.dialect.Dialect.TheVariants.{Generated};
-    ghost use Rattle.ap_format.specs.Reformatted.{Reformatting};
-
-    ghost Value = { Reformatting };
-
-    ghost view = { λ w. record { item = w.item; finished = w.finished } };
-
-    ghost invariant = { λ w. IfSome w.item (IsRead Generated) };
-}
-
-impl RetxtWork {
-    /// The work, which holds nothing. It takes no memory.
-    pub fn new(alloc: Global) -> RetxtWork
-        ensures item { result.item ≡ None }
-        ensures finished { result.finished ≡ false }
-    {
-        RetxtWork {
-            item: None,
-            finished: false,
-            text: Vec::new(alloc),
-        }
-    }
-}
-
-impl Handler for RetxtWork {
-    ghost work = { ret_work };
-
-    ghost dialect = { λ _. Generated };
-
-    ghost count = { λ h. length (held_items h.item) };
-
-    ghost held = { λ h. held_size h.item };
-
-    ghost span = { λ _. 0 };
-
-    ghost finished = { λ h. h.finished };
-
-    ghost wants = { λ h. h.item ≡ None };
-
-    fn push(&mut self, read: Read) -> Result<(), Memory> {
-        self.item = Some(read);
-        Ok(())
-    }
-
-    fn finish(&mut self) {
-        self.finished = true;
-    }
-
-    fn turn(&mut self, into: &mut Bytes) -> Result<Turn, StageFault> {
-        match &self.item {
-            None => Ok(if self.finished {
-                Turn::Over
-            } else {
-                Turn::Wants
-            }),
-            Some(read) => match write_bare(&read.item, &mut self.text, into) {
-                Ok(()) => {
-                    let_go(&mut self.item);
-                    Ok(Turn::Wrote)
-                }
-                Err(_) => Err(StageFault::Memory),
-            },
-        }
-    }
-
-    ghost wants_first = { λ h e. none_held h.item e };
-}
-
 /// A generated text as a plain text: a `Stage` over bytes. A plain character is written without its
 /// escape. A blank is written without the first `[` and the last `]` of each superblank, and each
-/// `\` and character in one as the character. What gives itself is copied by runs.
+/// `\` and character in one as the character (`retxt_gives_bare_text`). What gives itself is copied
+/// by runs.
 #[derive(Drop)]
 pub struct Retxt {
     reformatter: Reformatter,

@@ -1,3 +1,4 @@
+pub mod Counts
 pub mod Limits
 pub mod Pieces
 pub mod Places

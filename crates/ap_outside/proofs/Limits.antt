@@ -1,7 +1,8 @@
 -- What is read of bytes up to a limit that isn't reached is all of them.
-use Rattle.std.specs.Prelude.{◌≡◌, ℕ, ◌+◌, ◌-◌, ◌^◌, ◌<◌, ◌≤◌, min, List, [], ◌++◌, Option, Some, None, take, length}
+use Rattle.std.specs.Prelude.{◌≡◌, ℕ, ◌+◌, ◌-◌, ◌^◌, ◌<◌, ◌≤◌, min, List, [], ◌++◌, Option, Some, None, Result, Ok, Err, IfOk, IfErr, OnOk, IsErrAnd, take, length}
 use Rattle.std.specs.Option.{IfSome, option_map}
-use Rattle.std.proofs.Common.{arith, ap, ◌∙◌, subst}
+use Rattle.std.specs.declared.io.Error.{Error}
+use Rattle.std.proofs.Common.{arith, ap, ◌∙◌, subst, sym, Vec, Global}
 use Rattle.std.proofs.lemmas.List.{take_all, length-take}
 
 -- the bytes that are left end before the limit
@@ -27,3 +28,21 @@ whole_read remaining file inner most limit got before inner_is limit_is short fi
     let first = subst (λ b. IfSome (option_map (take limit) (remaining file))
     (λ xs. got ≡ b ++ xs)) none same in
     all_read (remaining file) limit got (omega (arith, limit_is, short, fits)) first
+
+-- What was read to the end, without an error and no more than that, is all that was left.
+pub whole_of : {F E : Type 0} (remaining : F → Option (List ℕ)) (file inner : F) (most limit : ℕ)
+    (got before : List ℕ) (read : Result ℕ Error) (result : Result (Vec ℕ Global) E) (P : Error →
+    E → Type 0) → inner ≡ file → limit ≡ min (most + 1) (2 ^ 64 - 1) → length got < 2 ^ 63 →
+    before ≡ [] → OnOk read (IfSome (option_map (take limit) (remaining inner))
+    (λ xs. got ≡ before ++ xs)) → IfOk result (λ all. OnOk read (all.items ≡ got)) →
+    IfOk result (λ all. length all.items ≤ most) → IfErr read (λ error. IsErrAnd result (P error))
+    → IfOk result (λ all. IfSome (remaining file) (λ whole. all.items ≡ whole))
+whole_of remaining file inner most limit got before read (Err e) P same is short none had all fits
+    failed = tt
+whole_of remaining file inner most limit got before (Err e) (Ok all) P same is short none had got_is
+    fits failed = absurd failed
+whole_of remaining file inner most limit got before (Ok n) (Ok all) P same is short none had got_is
+    fits failed =
+    let few : length got ≤ most = omega (arith, ap length got_is) in
+    subst (λ (bytes : List ℕ). IfSome (remaining file) (λ whole. bytes ≡ whole)) (sym got_is)
+    (whole_read remaining file inner most limit got before same is few short none had)

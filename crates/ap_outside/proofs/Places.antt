@@ -3,8 +3,9 @@ use Rattle.std.specs.List.{position, position_from}
 use Rattle.std.specs.Option.{option_map}
 use Rattle.std.proofs.lemmas.Iterator.Adapters.{position_from-zero}
 use Rattle.std.proofs.lemmas.Slice.Eq.{bytes_eq-Decides}
+use Rattle.std.proofs.lemmas.List.{get_or-set_other}
 use mathlib.Core.Path.{fun_ext}
-use Rattle.ap_outside.specs.Held.{place_of, content_at, content_of, faults_at, faults_of}
+use Rattle.ap_outside.specs.Held.{place_of, content_at, content_of, faults_at, faults_of, ShareCount}
 use Rattle.std.proofs.lemmas.Bool.{cases_Bool}
 use Rattle.ap_outside.specs.StoreCauses.{SparesLoadFaults}
 use Rattle.ap_outside.specs.declared.files.StoreRefusal.{StoreRefusal}
@@ -240,3 +241,30 @@ not_failed false h never = (λ f. absurd (never f), λ t. absurd (cc))
 pub neither : (a b : Bool) → a ≡ false → b ≡ false → (a || b) ≡ false
 neither true b h k = cc
 neither false b h k = k
+
+-- ---- the count of one place changes
+
+-- the counts that aren't those of a name that is there
+other-place : (faults : List ℕ) (absent at count : ℕ) (place : Option ℕ) → (place ≡ Some at → ⊥) →
+    faults_at (slice_set faults at count) absent place ≡ faults_at faults absent place
+other-place faults absent at count None away = refl
+other-place faults absent at count (Some k) away =
+    get_or-set_other faults at k count 0 (λ same. away (ap Some same))
+
+pub others_of_a_file : (files : List MemFile) (faults : List ℕ) (absent at count : ℕ)
+    (name other : List ℕ) → place_of files name ≡ Some at → (ShareCount files name other → ⊥) →
+    faults_of files (slice_set faults at count) absent other ≡ faults_of files faults absent other
+others_of_a_file files faults absent at count name other there apart =
+    other-place faults absent at count (place_of files other) (λ same. apart (same ∙ sym there))
+
+-- and those that aren't the one of names that aren't there
+there-place : (faults : List ℕ) (absent count : ℕ) (place : Option ℕ) → (place ≡ None → ⊥) →
+    faults_at faults count place ≡ faults_at faults absent place
+there-place faults absent count None away = absurd (away refl)
+there-place faults absent count (Some k) away = refl
+
+pub others_of_no_file : (files : List MemFile) (faults : List ℕ) (absent count : ℕ)
+    (name other : List ℕ) → place_of files name ≡ None → (ShareCount files name other → ⊥) →
+    faults_of files faults count other ≡ faults_of files faults absent other
+others_of_no_file files faults absent count name other gone apart =
+    there-place faults absent count (place_of files other) (λ same. apart (same ∙ sym gone))

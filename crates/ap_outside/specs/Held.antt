@@ -1,4 +1,4 @@
-use Rattle.std.specs.Prelude.{ℕ, List, Option, Some, None, slice_index_or, slice_get, position, string_bytes}
+use Rattle.std.specs.Prelude.{◌≡◌, ℕ, List, Option, Some, None, slice_index_or, slice_get, position, string_bytes}
 use Rattle.std.specs.Option.{option_map}
 use Rattle.std.specs.Str.{bytes_eq}
 use Rattle.ap_outside.specs.declared.mem_file.MemFile.{MemFile}
@@ -23,3 +23,7 @@ faults_at faults absent (Some at) = slice_index_or faults at 0
 
 abbrev pub faults_of : List MemFile → List ℕ → ℕ → List ℕ → ℕ
 faults_of files faults absent name = faults_at faults absent (place_of files name)
+
+-- Two names share a count of faults: they are those of one file, or no file has either.
+abbrev pub ShareCount : List MemFile → List ℕ → List ℕ → Type 0
+ShareCount files name other = place_of files other ≡ place_of files name

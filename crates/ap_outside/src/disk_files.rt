@@ -1,9 +1,13 @@
-ghost use Rattle.std.specs.Prelude.{◌≡◌, ◌≤◌, ◌<◌, None, IfOk, IfSome, IsErrOf, length};
+ghost use Rattle.std.specs.Prelude.{◌≡◌, ◌≤◌, ◌<◌, None, IfOk, IfErr, IfSome, OnOk, OnErr, IsErrAnd, IsErrOf, is_err, length};
+ghost use Rattle.std.specs.IoError.{error_kind};
+ghost use Rattle.ap_outside.specs.Causes.{SparesStoreFaults, raised};
+ghost use Rattle.ap_outside.specs.Disk.{IsRefusalFor, WritesAll};
+ghost use Rattle.ap_outside.specs.StoreCauses.{HasStoreCause};
 
 use crate::files::{Files, LoadRefusal, StoreRefusal};
 use std::alloc::Global;
-use std::fs::{self, File};
-use std::io::{ErrorKind, Read};
+use std::fs::File;
+use std::io::{self, ErrorKind, Read, Write};
 use std::rt;
 
 /// The files of a runtime. It tells no contents, and gives one number as each of its counts.
@@ -22,6 +26,34 @@ impl<R: rt::Files + Drop> DiskFiles<R> {
     }
 }
 
+/// Why a file is not loaded, by the kind of error of opening or reading it.
+fn refusal_of(kind: ErrorKind) -> LoadRefusal
+    ensures { IsRefusalFor kind result }
+{
+    if kind == ErrorKind::OutOfMemory {
+        return LoadRefusal::Memory;
+    }
+    LoadRefusal::Failed
+}
+
+/// What was read to the end, or to one byte beyond `most`.
+fn read_of(bytes: Vec<u8>, read: io::Result<usize>, most: u64) -> Result<Vec<u8>, LoadRefusal>
+    ensures whole { IfOk result (λ all. OnOk read (all.items ≡ bytes.items)) }
+    ensures most { IfOk result (λ all. length all.items ≤ most) }
+    ensures long { IsErrOf result LoadRefusal.TooLong → most < length bytes.items }
+    ensures failed { IfErr read (λ error. IsErrAnd result (IsRefusalFor (error_kind error))) }
+{
+    match read {
+        Err(error) => Err(refusal_of(error.kind())),
+        Ok(_) => {
+            if bytes.len() as u64 > most {
+                return Err(LoadRefusal::TooLong);
+            }
+            Ok(bytes)
+        }
+    }
+}
+
 /// Reads to the end, at most one byte beyond `most`.
 fn read_whole<F: Read + Drop>(alloc: Global, file: F, most: u64) -> Result<Vec<u8>, LoadRefusal>
     ensures most { IfOk result (λ bytes. length bytes.items ≤ most) }
@@ -30,30 +62,92 @@ fn read_whole<F: Read + Drop>(alloc: Global, file: F, most: u64) -> Result<Vec<u
         IfSome (F.remaining file) (λ all. most < length all) }
 {
     let mut bytes = Vec::new(alloc);
-    match file.take(most.saturating_add(1)).read_to_end(&mut bytes) {
-        Ok(_) => {
-            if bytes.len() as u64 > most {
-                return Err(LoadRefusal::TooLong);
-            }
-            Ok(bytes)
-        }
-        Err(error) => {
-            if error.kind() == ErrorKind::OutOfMemory {
-                return Err(LoadRefusal::Memory);
-            }
-            Err(LoadRefusal::Failed)
-        }
+    let read = file.take(most.saturating_add(1)).read_to_end(&mut bytes);
+    read_of(bytes, read, most)
+}
+
+/// Reads a file that was opened, or says why it wasn't.
+fn load_opened<F: Read + Drop>(
+    alloc: Global,
+    opened: io::Result<F>,
+    most: u64,
+) -> Result<Vec<u8>, LoadRefusal>
+    ensures most { IfOk result (λ bytes. length bytes.items ≤ most) }
+    ensures whole { IfOk result (λ bytes. IfOk opened
+        (λ file. IfSome (F.remaining file) (λ all. bytes.items ≡ all))) }
+    ensures too_long { IsErrOf result LoadRefusal.TooLong →
+        IfOk opened (λ file. IfSome (F.remaining file) (λ all. most < length all)) }
+    ensures unopened { IfErr opened (λ error. IsErrAnd result (IsRefusalFor (error_kind error))) }
+{
+    match opened {
+        Ok(file) => read_whole(alloc, file, most),
+        Err(error) => Err(refusal_of(error.kind())),
     }
 }
 
-impl<R: rt::Files + Drop> DiskFiles<R> {
-    fn read(&self, alloc: Global, name: &str, most: u64) -> Result<Vec<u8>, LoadRefusal>
-        ensures { IfOk result (λ bytes. length bytes.items ≤ most) }
-    {
-        match File::open(&self.rt, name) {
-            Ok(file) => read_whole(alloc, file, most),
-            Err(_) => Err(LoadRefusal::Failed),
+/// Writes all of the bytes to a file that was made, or says why it wasn't. A writer that takes
+/// nothing of bytes that are left is an error.
+fn write_whole<W: Write>(made: &mut io::Result<W>, bytes: &[u8]) -> io::Result<()>
+    ensures { OnOk result (WritesAll W.contents made.old made.new bytes.now) }
+{
+    match made {
+        Ok(file) => file.write_all(bytes),
+        Err(error) => Err(*error),
+    }
+}
+
+/// The answer of a store whose write went so.
+fn store_of(written: io::Result<()>) -> Result<(), StoreRefusal>
+    ensures same { is_err result ≡ is_err written }
+    ensures failed { OnErr result (IsErrOf result StoreRefusal.Failed) }
+{
+    match written {
+        Ok(()) => Ok(()),
+        Err(_) => Err(StoreRefusal::Failed),
+    }
+}
+
+/// Makes the file have exactly these bytes, and counts a failure.
+fn store_whole<W: Write>(
+    faults: &mut u64,
+    made: &mut io::Result<W>,
+    bytes: &[u8],
+) -> Result<(), StoreRefusal>
+    ensures whole { OnOk result (WritesAll W.contents made.old made.new bytes.now) }
+    ensures failed { OnErr result (IsErrOf result StoreRefusal.Failed) }
+    ensures cause { HasStoreCause faults.old faults.new result }
+    ensures raised { OnErr result (faults.new ≡ raised faults.old) }
+{
+    let stored = store_of(write_whole(made, bytes));
+    if stored.is_err() {
+        *faults = faults.saturating_add(1);
+    }
+    stored
+}
+
+/// Loads the file that was opened, and counts a failure.
+fn load_whole<F: Read + Drop>(
+    alloc: Global,
+    faults: &mut u64,
+    opened: io::Result<F>,
+    most: u64,
+) -> Result<Vec<u8>, LoadRefusal>
+    ensures most { IfOk result (λ bytes. length bytes.items ≤ most) }
+    ensures whole { IfOk result (λ bytes. IfOk opened
+        (λ file. IfSome (F.remaining file) (λ all. bytes.items ≡ all))) }
+    ensures too_long { IsErrOf result LoadRefusal.TooLong →
+        IfOk opened (λ file. IfSome (F.remaining file) (λ all. most < length all)) }
+    ensures unopened { IfErr opened (λ error. IsErrAnd result (IsRefusalFor (error_kind error))) }
+    ensures cause { SparesStoreFaults faults.old faults.new result }
+    ensures raised { IsErrOf result LoadRefusal.Failed → faults.new ≡ raised faults.old }
+{
+    match load_opened(alloc, opened, most) {
+        Ok(bytes) => Ok(bytes),
+        Err(LoadRefusal::Failed) => {
+            *faults = faults.saturating_add(1);
+            Err(LoadRefusal::Failed)
         }
+        Err(refusal) => Err(refusal),
     }
 }
 
@@ -65,23 +159,10 @@ impl<R: rt::Files + Drop> Files for DiskFiles<R> {
     ghost store_faults = { λ s. s.faults };
 
     fn load(&mut self, alloc: Global, name: &str, most: u64) -> Result<Vec<u8>, LoadRefusal> {
-        match self.read(alloc, name, most) {
-            Ok(bytes) => Ok(bytes),
-            Err(LoadRefusal::Failed) => {
-                self.faults = self.faults.saturating_add(1);
-                Err(LoadRefusal::Failed)
-            }
-            Err(refusal) => Err(refusal),
-        }
+        load_whole(alloc, &mut self.faults, File::open(&self.rt, name), most)
     }
 
     fn store(&mut self, name: &str, bytes: &[u8]) -> Result<(), StoreRefusal> {
-        match fs::write(&self.rt, name, bytes) {
-            Ok(()) => Ok(()),
-            Err(_) => {
-                self.faults = self.faults.saturating_add(1);
-                Err(StoreRefusal::Failed)
-            }
-        }
+        store_whole(&mut self.faults, &mut File::create(&self.rt, name), bytes)
     }
 }

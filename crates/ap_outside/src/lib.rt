@@ -3,6 +3,7 @@
 //! memory, which tells, and an adapter over std, which doesn't.
 #![tactic(auto)]
 
+mod arguments;
 mod disk_files;
 mod files;
 mod mem_file;
@@ -16,6 +17,7 @@ mod std_source;
 #[cfg(test)]
 mod tests;
 
+pub use arguments::words_of;
 pub use disk_files::DiskFiles;
 pub use files::{Files, LoadRefusal, StoreRefusal};
 pub use mem_files::MemFiles;

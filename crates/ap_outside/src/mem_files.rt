@@ -1,6 +1,6 @@
-ghost use Rattle.std.specs.Prelude.{◌≡◌, ◌≤◌, ◌||◌, ◌↔◌, None, Some, length, IfOk, IfSome, IsErrOf, OnErr, OnOk, IsTrue, is_none, option_map};
+ghost use Rattle.std.specs.Prelude.{◌≡◌, ◌≤◌, ◌||◌, ◌↔◌, List, ℕ, None, Some, length, IfOk, IfSome, IsErrOf, OnErr, OnOk, IsTrue, is_none, option_map};
 ghost use Rattle.ap_outside.specs.Causes.{HasLoadCause, SparesStoreFaults, raised};
-ghost use Rattle.ap_outside.specs.Held.{content_of, faults_of, place_of};
+ghost use Rattle.ap_outside.specs.Held.{content_of, faults_of, place_of, ShareCount};
 ghost use Rattle.ap_outside.specs.Numbered.{next_call, is_listed};
 ghost use Rattle.ap_outside.specs.StoreCauses.{HasStoreCause, SparesLoadFaults};
 ghost use Rattle.ap_outside.specs.Told.{Loads, IsTooLong, Stores, StoresSome, with_held};
@@ -112,7 +112,8 @@ impl Files for MemFiles {
 
     ghost store_faults = { λ s. s.store_faults };
 
-    /// It fails exactly where its number is listed or the name isn't there.
+    /// It fails exactly where its number is listed or the name isn't there, and then the count of
+    /// that name rises, and no other's.
     fn load(&mut self, alloc: Global, name: &str, most: u64) -> Result<Vec<u8>, LoadRefusal>
         ensures most { IfOk result (λ bytes. length bytes.items ≤ most) }
         ensures loaded { IfOk result
@@ -130,6 +131,10 @@ impl Files for MemFiles {
             faults_of self.new.files.items self.new.faults.items self.new.absent_faults name.now
             ≡ raised (faults_of self.old.files.items self.old.faults.items
             self.old.absent_faults name.now) }
+        ensures others { (other : List ℕ) →
+            (ShareCount self.old.files.items name.now other → ⊥) →
+            faults_of self.new.files.items self.new.faults.items self.new.absent_faults other
+            ≡ faults_of self.old.files.items self.old.faults.items self.old.absent_faults other }
         ensures listed { IsErrOf result LoadRefusal.Failed
             ↔ IsTrue (is_none (content_of self.old.files.items name.now)
             || is_listed self.old.failing.items self.old.calls) }

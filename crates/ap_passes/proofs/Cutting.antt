@@ -1,12 +1,12 @@
 -- A word that is split, part by part.
-use Rattle.std.proofs.Common.{◌≡◌, ℕ, zero, suc, ◌+◌, ◌-◌, ◌<◌, ◌≤◌, Bool, true, false, cond, List, [], ◌∷◌, ◌++◌, length, get_or, take, drop, sym, ap, ◌∙◌, refl, arith, length-drop}
-use Rattle.std.specs.List.{filter, flat_map}
+use Rattle.std.proofs.Common.{◌≡◌, ℕ, ◌+◌, ◌-◌, ◌<◌, ◌≤◌, Bool, true, false, cond, List, [], ◌∷◌, ◌++◌, length, get_or, take, drop, sym, ap, ◌∙◌, refl, arith, length-drop}
+use Rattle.std.specs.List.{filter}
 use Rattle.std.proofs.lemmas.Bool.{cond-true, cond-false}
 use Rattle.std.proofs.lemmas.List.{append-nil, append_assoc, at_drop_more, drop_all, length-take, take_rest}
 use Rattle.std.proofs.lemmas.List.Elements.{filter-append}
 use Rattle.ap_symbol.specs.declared.symbol.Symbol.{Symbol}
 use Rattle.ap_symbol.proofs.Parts.{part_more}
-use Rattle.ap_passes.specs.Marks.{is_join, is_tag, until}
+use Rattle.ap_passes.specs.Marks.{is_join}
 use Rattle.ap_passes.specs.Passes.{spaced, spaced_one, one}
 use Rattle.ap_passes.specs.Splitting.{between, in_front, between_joins, parts, parts_from, is_filled, tag_place}
 use Rattle.ap_passes.specs.Writing.{following}

@@ -1,10 +1,10 @@
 -- The first symbol that passes a test.
-use Rattle.std.proofs.Common.{◌≡◌, ℕ, zero, suc, ◌+◌, ◌-◌, ◌<◌, ◌≤◌, Bool, true, false, cond, ◌||◌, List, [], ◌∷◌, ◌++◌, length, get_or, take, drop, sym, ap, ◌∙◌, refl, arith}
+use Rattle.std.proofs.Common.{◌≡◌, ℕ, zero, suc, ◌+◌, ◌<◌, ◌≤◌, Bool, true, false, cond, ◌||◌, List, [], ◌∷◌, length, get_or, take, drop, sym, ap, ◌∙◌, refl, arith}
 use Rattle.std.specs.List.{list_any}
 use Rattle.std.proofs.lemmas.Bool.{or_parts, or_from, false≢true}
 use Rattle.std.proofs.lemmas.List.{at_drop_more, at_drop_all}
 use Rattle.ap_symbol.specs.declared.symbol.Symbol.{Symbol}
-use Rattle.ap_passes.specs.Marks.{until}
+use Rattle.ap_passes.specs.Marks.{until, stops_at}
 
 -- the symbol at a place doesn't pass, or it does, or there is none
 pub until_on : (test : Symbol → Bool) (word : List Symbol) (at : ℕ) (x : Symbol) →
@@ -103,3 +103,15 @@ pub none_less : (test less : Symbol → Bool) → ((x : Symbol) → test x ≡ f
 none_less test less fewer [] h = refl
 none_less test less fewer (x ∷ word) h = let p = or_parts (test x) (list_any test word) h in
     or_from (less x) (list_any less word) (fewer x p.0) (none_less test less fewer word p.1)
+
+-- what stands from that place on
+stops_until_at : (b : Bool) (test : Symbol → Bool) (x : Symbol) (word : List Symbol) → test x ≡ b →
+    stops_at test (drop (until test word) word) ≡ true →
+    stops_at test (drop (cond b 0 (suc (until test word))) (x ∷ word)) ≡ true
+stops_until_at true test x word e on = e
+stops_until_at false test x word e on = on
+
+pub stops_until : (test : Symbol → Bool) (word : List Symbol) →
+    stops_at test (drop (until test word) word) ≡ true
+stops_until test [] = refl
+stops_until test (x ∷ word) = stops_until_at (test x) test x word refl (stops_until test word)

@@ -6,3 +6,4 @@ pub mod Whole
 pub mod ReadAgain
 pub mod Kept
 pub mod WordBytes
+pub mod OneWay

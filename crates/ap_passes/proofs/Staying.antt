@@ -1,11 +1,11 @@
 -- Words that stay as they are.
-use Rattle.std.proofs.Common.{◌≡◌, ℕ, ◌+◌, ◌<◌, ◌≤◌, Bool, true, false, cond, List, [], ◌∷◌, ◌++◌, length, take, drop, sym, ap, ◌∙◌, refl, arith}
+use Rattle.std.proofs.Common.{◌≡◌, ◌<◌, Bool, true, false, cond, List, [], ◌∷◌, length, take, drop, ap, ◌∙◌, refl, arith}
 use Rattle.std.specs.Prelude.{nat_lt}
 use Rattle.std.specs.List.{filter, list_any, list_all}
 use Rattle.std.proofs.lemmas.Bool.{cond-true, cond-false, or_parts, and_left, and_right, and_from, le-ltb}
 use Rattle.std.proofs.lemmas.List.{take-append-drop, drop_all}
 use Rattle.ap_symbol.specs.declared.symbol.Symbol.{Symbol}
-use Rattle.ap_passes.specs.Marks.{is_join, is_queue, is_tag, is_seam, is_marked, until}
+use Rattle.ap_passes.specs.Marks.{is_join, is_queue, is_tag, is_seam, is_marked}
 use Rattle.ap_passes.specs.Splitting.{in_front, between_joins, parts, is_filled, tag_place, queue_place, is_moved, moved, split}
 use Rattle.ap_passes.proofs.Cutting.{filled_by}
 use Rattle.ap_passes.proofs.Finding.{none_until, none_less, none_drop, until_le}
@@ -18,7 +18,7 @@ joins_none (x ∷ word) h =
     cond-false (is_join x) ([] ∷ between_joins word) (in_front (x ∷ []) (between_joins word)) p.0
     ∙ ap (in_front (x ∷ [])) (joins_none word p.1)
 
-parts_none : (word : List Symbol) → list_any is_join (drop (tag_place word) word) ≡ false →
+pub parts_none : (word : List Symbol) → list_any is_join (drop (tag_place word) word) ≡ false →
     parts word ≡ word ∷ []
 parts_none word h = ap (in_front (take (tag_place word) word))
     (joins_none (drop (tag_place word) word) h)

@@ -41,3 +41,13 @@ is_seam_byte b = eqb b 43 || eqb b 35
 abbrev pub until : (Symbol → Bool) → List Symbol → ℕ
 until test [] = 0
 until test (x ∷ word) = if test x then 0 else suc (until test word)
+
+-- such a symbol stands at the front
+abbrev pub begins_with : (Symbol → Bool) → List Symbol → Bool
+begins_with test [] = false
+begins_with test (x ∷ word) = test x
+
+-- such a symbol stands at the front, or none does
+abbrev pub stops_at : (Symbol → Bool) → List Symbol → Bool
+stops_at test [] = true
+stops_at test (x ∷ word) = test x

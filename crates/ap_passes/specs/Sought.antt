@@ -3,7 +3,7 @@ use Rattle.std.specs.Prelude.{Bool}
 use Rattle.ap_symbol.specs.declared.symbol.Symbol.{Symbol}
 use Rattle.ap_passes.specs.declared.places.Sought.{Sought}
 use Rattle.ap_passes.specs.declared.places.Sought.TheVariants as sought
-use Rattle.ap_passes.specs.Marks.{is_tag, is_join, is_queue, is_end, is_seam}
+use Rattle.ap_passes.specs.Marks.{is_tag, is_queue, is_end, is_seam}
 
 abbrev pub test_of : Sought → Symbol → Bool
 test_of sought.Tag = is_tag

@@ -1,4 +1,14 @@
-ghost use Rattle.ap_passes.specs.Laws.{NothingIsLost, NoneIsEmpty, PlainStays, TaglessStays, SplitReads, FirstReads, FirstKeeps, SplitKeeps, FirstIsRead, SplitIsRead};
+ghost use Rattle.ap_passes.specs.Laws.{NothingIsLost, TakesApart, ApartOnce, NoneIsEmpty, PlainStays, TaglessStays, SplitReads, FirstReads, FirstKeeps, SplitKeeps, FirstIsRead, SplitIsRead};
+
+/// The law of taking a word apart that begins with neither `*` nor `@`. Its invariable part begins
+/// with the first Queue and runs to the next tag, the next Join or the end; it is moved in front of
+/// the first tag where a tag stands before it, and else the word stays. Then the word is split
+/// exactly at the Joins that have a tag somewhere before them, and of the parts those are left that
+/// aren't empty. There is one way to take a word apart so. It is a statement alone and does nothing.
+pub fn words_are_taken_apart()
+    ensures apart { TakesApart }
+    ensures once { ApartOnce }
+{}
 
 /// The law that nothing of a word is lost where no part is empty: its words joined again by Joins
 /// are the word with its invariable part moved. It is a statement alone and does nothing.

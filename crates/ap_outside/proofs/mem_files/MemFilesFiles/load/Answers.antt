@@ -3,7 +3,7 @@ use Rattle.std.proofs.lemmas.Grind.{common_steps}
 use Rattle.ap_outside.specs.Held.{content_of}
 use Rattle.ap_outside.specs.Numbered.{is_listed}
 use Rattle.ap_outside.specs.declared.mem_file.MemFile.{MemFile}
-use Rattle.ap_outside.proofs.Places.{content_placed, not_failed, neither}
+use Rattle.ap_outside.proofs.Places.{content_placed, not_failed, neither, others_of_a_file, others_of_no_file}
 use Rattle.ap_outside.proofs.mem_files.MemFilesFiles.load.Goals as goal
 
 pub returns-then-len-most-clause-listed : goal.returns-then-len-most-clause-listed
@@ -52,3 +52,15 @@ returns-in-Err-clause-memory c _ =
     content_placed c.args.self.now.files.items c.in-Some.at c.index-2.result.now c.args.name.now
     (search rules) in
     rw (there ∙ ap Some (sym (ap content c.index-2.ensures))) (omega arith)
+
+pub returns-in_default-clause-others : goal.returns-in_default-clause-others
+returns-in_default-clause-others c other apart =
+    others_of_no_file c.args.self.now.files.items c.args.self.now.faults.items
+    c.args.self.now.absent_faults c.saturating_add-self-in_default.result c.args.name.now other
+    (search rules) apart
+
+pub returns-then-contains-clause-others : goal.returns-then-contains-clause-others
+returns-then-contains-clause-others c other apart =
+    others_of_a_file c.args.self.now.files.items c.args.self.now.faults.items
+    c.args.self.now.absent_faults c.in-Some.at c.saturating_add.result c.args.name.now other
+    (search rules) apart

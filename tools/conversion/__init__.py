@@ -1,0 +1,1 @@
+"""Makes files of Apertium 3 into the notation that the program reads."""
