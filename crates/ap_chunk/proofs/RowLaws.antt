@@ -2,6 +2,7 @@
 use Rattle.std.proofs.Common.{◌≡◌, ◌↔◌, ℕ, zero, suc, Bool, true, false, List, [], ◌∷◌, map, slice_get, refl, sym, ap, ◌∙◌, Option, Some, None}
 use Rattle.std.proofs.lemmas.Bool.{false≢true}
 use Rattle.ap_symbol.specs.declared.symbol.Symbol.{Symbol}
+use Rattle.ap_stream.specs.declared.item.Character.{Character}
 use Rattle.ap_stream.specs.declared.item.Chunk.{Chunk as ChunkItem}
 use Rattle.ap_stream.specs.declared.item.Item.{Item}
 use Rattle.ap_stream.specs.declared.item.Item.TheVariants.{Plain, Blank, Unit as unit_item, Chunk as chunk_item}
@@ -68,7 +69,7 @@ name_tells rules Transfer c word e = absurd e
 name_tells rules Interchunk c word e = of_word rules c.name word e
 name_tells rules Postchunk c word e = of_word rules c.name word e
 
-no_plain : (form : Form) (c : ℕ) (word : List Symbol) → IsSeenBy form (Plain c) word → ⊥
+no_plain : (form : Form) (c : Character) (word : List Symbol) → IsSeenBy form (Plain c) word → ⊥
 no_plain Transfer c word e = e
 no_plain Interchunk c word e = e
 no_plain Postchunk c word e = e

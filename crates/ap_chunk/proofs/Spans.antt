@@ -197,6 +197,7 @@ greatest patterns us true (wall ∷ parts) (suc m) le row fit = absurd row
 greatest patterns us false (wall ∷ parts) (suc m) le row fit = absurd row
 
 pub span_is_greatest : SpanIsGreatest
+unfolding span
 span_is_greatest rules reads =
     let patterns = patterns_of rules in
     let parts = parts_of rules reads in
