@@ -78,7 +78,7 @@ def read(path):
     if data.header(b"LTTB") is None:
         raise Fault("no header LTTB")
     alphabet = data.text()
-    tags = [data.text() for _ in range(data.number())]
+    tags = [f"<{data.text().strip('<>')}>" for _ in range(data.number())]
     count = len(tags)
 
     def symbol(number):
@@ -92,9 +92,6 @@ def read(path):
         return symbol(data.number() - count)
 
     pairs = [(side(), side()) for _ in range(data.number())]
-    tags[:] = [tag if tag.startswith("<") else f"<{tag}>" for tag in tags]
-    pairs = [tuple(f"<{each}>" if len(each) > 1 and not each.startswith("<") else each
-                   for each in pair) for pair in pairs]
     sections = {}
     for _ in range(data.number()):
         name = data.text()

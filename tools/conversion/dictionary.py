@@ -14,9 +14,9 @@ class Variants:
     """Which variant and alternative is asked for, as the words of the command say it."""
 
     def __init__(self, both="", left="", right="", alternative="", side=""):
-        """`both`, `left`, `right` and `alternative` are the values, one or more words, that `v`,
-        `vl`, `vr` and `alt` must have; `side` is `left` or `right` where entries of other variants are kept
-        in the direction that leads away from that side, else empty."""
+        """`both`, `left`, `right` and `alternative` are the values, one or more words, that
+        `v`, `vl`, `vr` and `alt` must have; `side` is `left` or `right` where entries of other
+        variants are kept in the direction that leads away from that side, else empty."""
         self.both, self.left, self.right = both, left, right
         self.alternative, self.side = alternative, side
 
@@ -135,7 +135,7 @@ def clean_attributes(element, telling):
         return
     allowed, _ = attributes_of(DICTIONARY, element.tag)
     for name in sorted(set(element.attrib) - allowed):
-        lost = "the weight: readings stand in the order of their bytes" if name == "w" else "nothing"
+        lost = "the weight: readings stand by their bytes" if name == "w" else "nothing"
         telling.change(line_of(element), f"{name}={element.get(name)} of {element.tag}",
                        "nothing", lost)
         del element.attrib[name]
@@ -164,29 +164,21 @@ def declare_symbols(root, telling):
 
 
 def join_paradigms(root, telling):
-    """Makes one paradigm of two with one name: the second gets the entries of the first before
-    its own. Where the first is used before the second, it stays under a name of its own."""
-    seen, used = {}, set()
+    """Makes one paradigm of two with one name: the second takes in the first, which stays in its
+    place under a name of its own, for its uses between them too."""
+    seen = {}
     for paradigm in all_elements(root, "pardef"):
         name = paradigm.get("n")
         first = seen.get(name)
-        if first is not None and name in used:
+        if first is not None:
             own = f"{name} before line {line_of(paradigm)}"
             telling.change(line_of(paradigm), f"a second paradigm {name}",
-                           "one with the entries of both; the first stays for its uses before")
+                           "one with the entries of both")
             for use in uses_before(root, paradigm, name):
                 use.set("n", own)
             first.set("n", own)
             paradigm.insert(0, made("e", made("par", n=own)))
-            used.discard(name)
-        elif first is not None:
-            telling.change(line_of(paradigm), f"a second paradigm {name}",
-                           "one with the entries of both")
-            for place, entry in enumerate(list(first)):
-                paradigm.insert(place, entry)
-            remove(first)
         seen[name] = paradigm
-        used.update(use.get("n") for use in paradigm.iter("par"))
 
 
 def uses_before(root, paradigm, name):

@@ -152,7 +152,10 @@ def part(name, number):
 
 def spell_units(root, telling):
     """Makes variables that hold units into variables that hold a unit each, in the whole file."""
+    for unit in all_elements(root, "lu"):
+        split_literals(unit, telling)
     units = Units(root, telling)
+    tell_of_first_units(root, units)
     for name in sorted(units.many):
         variables = section_of(root, "def-var")
         for number in range(2, MOST_UNITS + 1):
@@ -165,10 +168,51 @@ def spell_units(root, telling):
             take_signs_off(one, name, units)
     for test in all_elements(root, "equal"):
         spell_test(test, units)
+    if root.tag == "interchunk" or root.get("default") == "chunk":
+        leave_out_among_chunks(root, units)
     for out in all_elements(root, "out"):
         spell_out(out, units)
     for var in all_elements(root, "var"):
         var.attrib.pop("done", None)
+
+
+def split_literals(unit, telling):
+    """Writes a unit with an end and a begin of units among its values as several."""
+    atoms = atoms_of(elements(unit))
+    if unit.getparent().tag == "mlu" or not any(is_break(atom) for atom in atoms):
+        return
+    pieces = [made("lu")]
+    for atom in atoms:
+        if is_break(atom):
+            pieces += [made("b"), made("lu")]
+        elif not isinstance(atom, tuple):
+            pieces[-1].append(copy_of(atom))
+    telling.change(line_of(unit), "an end and a begin of units in a unit", "units")
+    replace(unit, pieces)
+
+
+def tell_of_first_units(root, units):
+    """Tells where a variable of several units is read for its first one alone."""
+    for var in all_elements(root, "var"):
+        parent = var.getparent()
+        if var.get("n") not in units.many or parent.tag in ("lu", "chunk", "out", "equal"):
+            continue
+        holder = parent
+        while holder.tag in ("concat", "get-case-from"):
+            holder = holder.getparent()
+        written = name_written(holder) if holder.tag in ("let", "append") else None
+        if written is None and (parent.tag != "get-case-from" or holder.tag != "lu"):
+            units.telling.change(line_of(var), f"the variable {var.get('n')} in {parent.tag}",
+                                 "its first unit", "its later units, where it holds any")
+
+
+def leave_out_among_chunks(root, units):
+    """Leaves out the variables that stand among chunks and hold more than blanks."""
+    for var in all_elements(root, "var"):
+        if var.getparent().tag == "out" and var.get("n") not in units.blank:
+            units.telling.change(line_of(var), f"the variable {var.get('n')} among chunks",
+                                 "nothing", "the chunk that it may hold")
+            remove(var)
 
 
 def statement_let(name, *values):
@@ -209,7 +253,7 @@ def spread(statement, name, units):
     if any(is_break(atom) for atom in atoms):
         units.telling.change(line_of(statement), f"an end and a begin of units in {name}",
                              f"the variables {part(name, 2)} to {part(name, MOST_UNITS)}",
-                             f"units past the number {MOST_UNITS}")
+                             f"units past the number {MOST_UNITS}, where a run makes so many")
     out, own = [], [atom for atom in atoms if is_variable(atom, name)]
     if statement.tag == "let":
         if own and atoms and atoms[0] is own[0] and len(own) == 1:

@@ -27,3 +27,4 @@ mod StagesKept
 mod OpenBlanks
 mod ChunksFilled
 mod SamePlain
+pub mod Spans

@@ -18,3 +18,4 @@ pub mod Known
 pub mod Kept
 pub mod Working
 pub mod Laws
+pub mod Spans

@@ -1,6 +1,7 @@
 ghost use Rattle.ap_chunk.specs.Going.{GoesOnAlike, OneIsChosen, TriesAll};
 ghost use Rattle.ap_chunk.specs.Laws.{PlainRulesDecide, TransferKeeps, SoundGivesWritten, SoundTransferKeeps, SoundInterchunkKeeps, SoundPostchunkKeeps, TransferIsRead, InterchunkIsRead, PostchunkIsRead};
-ghost use Rattle.ap_chunk.specs.Rows.{RowsTell};
+ghost use Rattle.ap_chunk.specs.Rows.{RowsTell, UnitsTell};
+ghost use Rattle.ap_chunk.specs.Spans.{SpanIsGreatest};
 
 /// The law that going on unit by unit, from the places in patterns that fit so far, chooses what
 /// trying every rule on the whole list chooses. It is a statement alone and does nothing.
@@ -21,9 +22,20 @@ pub fn one_is_chosen()
 {}
 
 /// The law that a unit with the row of a word is of those categories that take the word, and of no
-/// others. It is a statement alone and does nothing.
+/// others: it passes as of a number exactly where a category of that number is there and takes the
+/// word. So is an item of a match, in transfer by the source of a unit and in interchunk and
+/// postchunk by the name of a chunk. It is a statement alone and does nothing.
 pub fn rows_tell()
-    ensures { RowsTell }
+    ensures row { RowsTell }
+    ensures unit { UnitsTell }
+{}
+
+/// The law that the span of a match is the greatest number of items from the front that may be seen
+/// together: units with one blank at most between two of them, which fit the beginning of some
+/// pattern, and of a longer one where a blank stands last. It is a statement alone and does
+/// nothing.
+pub fn span_is_greatest()
+    ensures { SpanIsGreatest }
 {}
 
 /// The law that transfer keeps superblanks, by rules whose words can be written and that give

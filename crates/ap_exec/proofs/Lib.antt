@@ -24,3 +24,4 @@ pub mod Worded
 pub mod RunningKeeps
 pub mod RunningGives
 pub mod Borderless
+pub mod Rereading

@@ -1,6 +1,9 @@
 -- The room of an output and the bytes of its pieces are the same number together all along.
-use Rattle.std.proofs.Common.{◌≡◌, ℕ, zero, suc, ◌+◌, ◌-◌, ◌==◌, ◌≤◌, nat_le, Bool, true, false, if◌then◌else◌, List, [], ◌∷◌, ◌++◌, length, refl, ap, sym, ◌∙◌, arith, rules, Option, Ok, Err, subst}
+use Rattle.std.proofs.Common.{◌≡◌, ℕ, zero, suc, ◌+◌, ◌-◌, ◌==◌, ◌<◌, ◌≤◌, nat_le, Bool, true, false, if◌then◌else◌, List, [], ◌∷◌, ◌++◌, length, refl, ap, sym, ◌∙◌, arith, rules, Option, Ok, Err, subst}
+use Rattle.std.specs.Prelude.{◌↔◌}
+use Rattle.std.proofs.lemmas.Bool.Decides.{nat_tests}
 use Rattle.ap_symbol.specs.declared.symbol.Symbol.{Symbol}
+use Rattle.ap_stream.specs.declared.TheConstants.{SPAN_MAX}
 use Rattle.ap_rules.specs.Plain.{PlainPiece, values_of, PlainStatement, PlainStatements, PlainWhens, choose, assign, append, out, modify_case, call_macro, no_statements, then_statement, no_whens, then_when}
 use Rattle.ap_rules.specs.declared.statement.Place.{Place}
 use Rattle.ap_rules.specs.declared.statement.Place.TheVariants as place
@@ -11,7 +14,7 @@ use Rattle.ap_exec.specs.Conditions.{holds}
 use Rattle.ap_exec.specs.Pieces.{piece_of, piece_size, pieces_size}
 use Rattle.ap_exec.specs.Results.{Ran, ◌>>=◌, seen}
 use Rattle.ap_exec.specs.Running.{Still, Now, sight_of, with_var, with_place, recased_at, placed, outs, places_of, either_of, Calls, run, run_all, run_choice, body_at, called}
-use Rattle.ap_exec.specs.SizeLaws.{counted, RoomIsLessByPieces, OutputsAreWithin}
+use Rattle.ap_exec.specs.SizeLaws.{counted, RoomIsLessByPieces, LimitIsBySizes, OutputsAreWithin}
 use Rattle.ap_exec.specs.Values.{value_of, appended}
 
 -- where a run gives a state, it has the same count
@@ -147,3 +150,30 @@ outputs_are_within r n m vars o e =
     room_is_less_by_pieces w (length r.macros) (here_in m.chunk (length m.units))
     (action_of r n) begin g.0 g.1.0 in
     omega (arith, same, ap (λ (x : Outcome). pieces_size x.pieces) g.1.1)
+
+-- a piece is too long by the sizes of the pieces with it
+past_of : (m n : ℕ) → nat_le m n ≡ false → n < m
+past_of m n h = grind (arith, nat_tests)
+
+no_error : (t : Now) → ◌≡◌ {A = Ran Now} (Ok t) (Err OutputTooLong) → ⊥
+no_error t e = cc
+
+limit_by : (b : Bool) (p : Piece) (s : Now) → nat_le (piece_size p) s.room ≡ b →
+    counted s ≡ SPAN_MAX →
+    (◌≡◌ {A = Ran Now} (if b then Ok (record s {
+      pieces = s.pieces ++ p ∷ [];
+      room = s.room - piece_size p;
+    }) else Err OutputTooLong) (Err OutputTooLong))
+    ↔ (SPAN_MAX < pieces_size (s.pieces ++ p ∷ []))
+limit_by true p s h e = (
+  λ k. absurd (no_error _ k),
+  λ lt. absurd (omega (arith, size_more s.pieces p, le_of (piece_size p) s.room h, e, lt)),
+)
+limit_by false p s h e = (
+  λ k. omega (arith, size_more s.pieces p, past_of (piece_size p) s.room h, e),
+  λ lt. refl,
+)
+
+pub limit_is_by_sizes : LimitIsBySizes
+unfolding placed
+limit_is_by_sizes s p e = limit_by (nat_le (piece_size p) s.room) p s refl e

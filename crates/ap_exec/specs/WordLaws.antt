@@ -1,14 +1,20 @@
 -- What the comparisons of words and the writing to a part come to.
-use Rattle.std.specs.Prelude.{◌≡◌, ℕ, ◌+◌, ◌<◌, ◌≤◌, Bool, true, false, List, ◌++◌, length, take, drop, IsTrue, ◌↔◌}
+use Rattle.std.specs.Prelude.{◌≡◌, ◌⊎◌, ℕ, ◌+◌, ◌<◌, ◌≤◌, Bool, true, false, List, ◌++◌, length, take, drop, Some, IsTrue, ◌↔◌}
+use Rattle.std.specs.List.{list_all}
 use Rattle.ap_symbol.specs.Case.{lower_lem}
 use Rattle.ap_symbol.specs.Lists.{IsIn}
 use Rattle.ap_symbol.specs.Recasing.{each_letter}
 use Rattle.ap_symbol.specs.declared.symbol.Symbol.{Symbol}
+use Rattle.ap_rules.specs.declared.rules.Form.{Form}
+use Rattle.ap_rules.specs.declared.value.Clip.{Clip}
+use Rattle.ap_rules.specs.declared.value.ClipPart.TheVariants.{Lem, Whole}
+use Rattle.ap_rules.specs.declared.value.Side.TheVariants.{Source}
 use Rattle.ap_exec.specs.declared.comparing.Way.{Way}
 use Rattle.ap_exec.specs.declared.comparing.Way.TheVariants.{Equals, Begins, Ends, Contains}
 use Rattle.ap_exec.specs.Comparing.{compared, compared_some}
-use Rattle.ap_exec.specs.Parts.{Span, cut}
-use Rattle.ap_exec.specs.Writing.{moved, spliced}
+use Rattle.ap_exec.specs.Parts.{Span, is_lemma, cut, side_in, part_at}
+use Rattle.ap_exec.specs.Units.{Shown, Sight, unit_at}
+use Rattle.ap_exec.specs.Writing.{moved, spliced, written}
 
 -- a word as it is compared: itself, or with all its letters in lower case
 abbrev pub read_as : Bool → List Symbol → List Symbol
@@ -46,8 +52,30 @@ SomeIsAnItem = (way : Way) (caseless : Bool) (word : List Symbol) (items : List 
     → IsTrue (compared_some way caseless word items)
     ↔ ((item : List Symbol) × (IsIn item items × IsTrue (compared way caseless word item)))
 
--- A part that was written is read as what was written, and what stands before it and behind it is
--- as it was.
+-- the clip names a part of the whole word on its side, the queue too
+abbrev pub IsOnWhole : Form → Clip → Type 0
+IsOnWhole form c = (side_in form c.side ≡ Source) ⊎ (c.queue ≡ true)
+
+-- at the clip's position stands the unit that was written to by the clip
+pub record IsWrittenAt (sight : Sight) (c : Clip) (value : List Symbol) : Type 0 where
+  pub before : Shown
+  pub here : unit_at sight.here sight.units c.pos
+      ≡ Some (written sight.form sight.attributes c value before)
+
+-- a whole word that was written is read as what was written
+abbrev pub WholeIsRead : Type 0
+WholeIsRead = (sight : Sight) (c : Clip) (value : List Symbol) → c.part ≡ Whole →
+    IsOnWhole sight.form c → IsWrittenAt sight c value →
+    part_at sight c.pos c.part c.side c.queue ≡ value
+
+-- so is a lemma, where no tag was written
+abbrev pub LemmaIsRead : Type 0
+LemmaIsRead = (sight : Sight) (c : Clip) (value : List Symbol) → c.part ≡ Lem →
+    IsOnWhole sight.form c → list_all is_lemma value ≡ true → IsWrittenAt sight c value →
+    part_at sight c.pos c.part c.side c.queue ≡ value
+
+-- Where a word's stretch was written over, the value stands in its place, and what stands before it
+-- and behind it is as it was.
 abbrev pub WrittenIsRead : Type 0
 WrittenIsRead = (span : Span) (value word : List Symbol) → span.start + span.count ≤ length word
     → (cut (record { start = span.start; count = length value }) (spliced span value word) ≡ value)

@@ -1,4 +1,4 @@
-ghost use Rattle.ap_exec.specs.WordLaws.{EqualsIsEquality, BeginsIsAFront, EndsIsABack, ContainsIsWithin, SomeIsAnItem, WrittenIsRead, OtherSideStays};
+ghost use Rattle.ap_exec.specs.WordLaws.{EqualsIsEquality, BeginsIsAFront, EndsIsABack, ContainsIsWithin, SomeIsAnItem, WholeIsRead, LemmaIsRead, WrittenIsRead, OtherSideStays};
 
 /// The law of how the conditions of rules compare words: as lists of symbols, with all letters in
 /// lower case first where case doesn't count. It is a statement alone and does nothing.
@@ -10,10 +10,14 @@ pub fn words_are_compared()
     ensures some { SomeIsAnItem }
 {}
 
-/// The law that a part that was written to a word is read again as what was written, and that
-/// nothing outside of it changes; and that the border of a target parts it as before. It is a
-/// statement alone and does nothing.
+/// The law of writing to a part of a word. A whole word that was written to is read again as what
+/// was written, and so is a lemma, where no tag was written to it; another part is sought anew in
+/// the word that came out, and may be found elsewhere or nowhere. The value stands in the place of
+/// what was written over, and nothing outside of it changes; and the border of a target parts it as
+/// before. It is a statement alone and does nothing.
 pub fn written_parts_are_read()
-    ensures read { WrittenIsRead }
+    ensures whole { WholeIsRead }
+    ensures lemma { LemmaIsRead }
+    ensures stretch { WrittenIsRead }
     ensures other_side { OtherSideStays }
 {}

@@ -5,3 +5,4 @@ pub mod Paradigms
 pub mod Entering
 pub mod Steps
 pub mod Meaning
+pub mod Using

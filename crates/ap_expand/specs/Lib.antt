@@ -1,3 +1,4 @@
+pub mod Uses
 pub mod Lines
 pub mod Search
 pub mod Walks

@@ -7,6 +7,7 @@ use Rattle.ap_expand.specs.Lines.{Way}
 use Rattle.ap_expand.specs.Search.{IsStack, pardefs_trace, stack_trace, sections_trace, frame_trace, written_step, lines_among}
 use Rattle.ap_expand.specs.Walks.{todo_trace}
 use Rattle.ap_expand.specs.declared.frame.Frame.{Frame}
+use Rattle.ap_expand.specs.declared.uses.Uses.{Uses}
 use Rattle.ap_expand.specs.declared.search.Search.{Search}
 use Rattle.ap_expand.specs.declared.search.Arrival.{Arrival}
 use Rattle.ap_expand.specs.declared.search.Arrival.TheVariants.{Opened, Ended}
@@ -15,9 +16,9 @@ use Rattle.ap_expand.specs.declared.search.Step.TheVariants.{Line, NoLine, End}
 
 -- the steps that are still to come
 abbrev pub search_trace : Search → List (Option (List ℕ))
-search_trace s = stack_trace (pardefs_trace [] s.pardefs.now) s.left.items s.right.items
-    (s.top ∷ reverse s.below.items)
-    ++ sections_trace (pardefs_trace [] s.pardefs.now) s.sections.now
+search_trace s = stack_trace s.uses.items (pardefs_trace s.uses.items [] s.pardefs.now) s.left.items
+    s.right.items (s.top ∷ reverse s.below.items)
+    ++ sections_trace s.uses.items (pardefs_trace s.uses.items [] s.pardefs.now) s.sections.now
 
 -- a search as it stands between two steps
 pub record IsSearch (s : Search) : Type 0 where
@@ -31,15 +32,15 @@ entries_at (pardef ∷ pardefs) zero = pardef.entries
 entries_at (pardef ∷ pardefs) (suc n) = entries_at pardefs n
 
 -- an entry was entered: the frame that is to open, or the end of the way
-abbrev pub Advanced : List Pardef → List Frame → List EntryPart → Way → List ℕ → List ℕ → List ℕ →
-    Arrival → Type 0
-Advanced pardefs frames parts way left right line (Opened frame) =
-    (todo_trace (pardefs_trace [] pardefs) (reverse frames) parts (length frames) way ≡ None
-    ∷ frame_trace (pardefs_trace [] pardefs) left right frame (reverse frames))
+abbrev pub Advanced : List Uses → List Pardef → List Frame → List EntryPart → Way → List ℕ →
+    List ℕ → List ℕ → Arrival → Type 0
+Advanced uses pardefs frames parts way left right line (Opened frame) =
+    (todo_trace (pardefs_trace uses [] pardefs) (reverse frames) parts (length frames) way ≡ None
+    ∷ frame_trace uses (pardefs_trace uses [] pardefs) left right frame (reverse frames))
     × (frame.parent ≤ length frames) × (frame.left_len ≡ length left)
     × (frame.right_len ≡ length right) × (line ≡ [])
-Advanced pardefs frames parts way left right line (Ended written) =
-    (todo_trace (pardefs_trace [] pardefs) (reverse frames) parts (length frames) way
+Advanced uses pardefs frames parts way left right line (Ended written) =
+    (todo_trace (pardefs_trace uses [] pardefs) (reverse frames) parts (length frames) way
     ≡ written_step written line ∷ []) × (written ≡ false → line ≡ [])
 
 -- what a step took from the steps to come

@@ -8,7 +8,9 @@ use Rattle.ap_dix.specs.declared.dictionary.EntryPart.TheVariants.{Identity, Pai
 use Rattle.ap_dix.specs.declared.dictionary.Pardef.{Pardef}
 use Rattle.ap_dix.specs.declared.dictionary.Section.{Section}
 use Rattle.ap_dix.specs.declared.dictionary.Side.{Side}
-use Rattle.ap_dix.specs.declared.dictionary.Side.TheVariants.{LrOnly, RlOnly}
+pub use Rattle.ap_expand.specs.Uses.{is_lr, is_rl}
+use Rattle.ap_expand.specs.Uses.{is_barren}
+use Rattle.ap_expand.specs.declared.uses.Uses.{Uses}
 use Rattle.ap_expand.specs.Lines.{Way, words, way_line, expression_bytes}
 use Rattle.ap_expand.specs.declared.frame.Frame.{Frame}
 
@@ -25,14 +27,6 @@ Opening = Follow → Way → List (Option (List ℕ))
 abbrev pub with_words : Way → List ℕ → List ℕ → Way
 with_words way left right =
     record { left = way.left ++ left; right = way.right ++ right; lr = way.lr; rl = way.rl }
-
-abbrev pub is_lr : Side → Bool
-is_lr LrOnly = true
-is_lr _ = false
-
-abbrev pub is_rl : Side → Bool
-is_rl RlOnly = true
-is_rl _ = false
 
 -- a way on which an entry of that side is used as well
 abbrev pub with_side : Way → Side → Way
@@ -60,32 +54,37 @@ parts_trace above (Expression e text ∷ parts) follow way =
 parts_trace above (Paradigm n ∷ parts) follow way =
     None ∷ get_or above n no_entries (parts_trace above parts follow) way
 
--- the steps of an entry
-abbrev pub entry_trace : List Opening → Entry → Opening
-entry_trace above entry follow way = if entry.ignored then None ∷ []
+-- the steps of an entry; it is passed over where it is ignored, or each way on through it would use
+-- entries of both kinds
+abbrev pub is_passed : List Uses → Bool → Bool → Entry → Bool
+is_passed uses lr rl entry = entry.ignored || is_barren uses lr rl entry
+
+abbrev pub entry_trace : List Uses → List Opening → Entry → Opening
+entry_trace uses above entry follow way = if is_passed uses way.lr way.rl entry then None ∷ []
     else parts_trace above entry.parts follow (with_side way entry.side)
 
 -- the steps of some entries, of which the last one passes on to what was open before
-abbrev pub entries_trace : List Opening → List Entry → Opening
-entries_trace above [] follow way = None ∷ []
-entries_trace above (entry ∷ entries) follow way = entry_trace above entry follow way
-    ++ entries_trace above entries follow way
+abbrev pub entries_trace : List Uses → List Opening → List Entry → Opening
+entries_trace uses above [] follow way = None ∷ []
+entries_trace uses above (entry ∷ entries) follow way = entry_trace uses above entry follow way
+    ++ entries_trace uses above entries follow way
 
 -- the steps of the paradigms
-abbrev pub pardefs_trace : List Opening → List Pardef → List Opening
-pardefs_trace above [] = above
-pardefs_trace above (pardef ∷ pardefs) =
-    pardefs_trace (above ++ entries_trace above pardef.entries ∷ []) pardefs
+abbrev pub pardefs_trace : List Uses → List Opening → List Pardef → List Opening
+pardefs_trace uses above [] = above
+pardefs_trace uses above (pardef ∷ pardefs) =
+    pardefs_trace uses (above ++ entries_trace uses above pardef.entries ∷ []) pardefs
 
 -- at the end of a way stands its line
 abbrev pub end_trace : Follow
 end_trace way = way_line way ∷ []
 
 -- the steps of some sections
-abbrev pub sections_trace : List Opening → List Section → List (Option (List ℕ))
-sections_trace above [] = []
-sections_trace above (section ∷ sections) =
-    entries_trace above section.entries end_trace (words [] []) ++ sections_trace above sections
+abbrev pub sections_trace : List Uses → List Opening → List Section → List (Option (List ℕ))
+sections_trace uses above [] = []
+sections_trace uses above (section ∷ sections) =
+    entries_trace uses above section.entries end_trace (words [] [])
+    ++ sections_trace uses above sections
 
 -- the parts that are left to do from that frame on, which is numbered from 1 at the bottom; the
 -- list has the top first
@@ -106,18 +105,19 @@ frame_way left right frame =
     }
 
 -- the steps of a frame above these
-abbrev pub frame_trace : List Opening → List ℕ → List ℕ → Frame → List Frame →
+abbrev pub frame_trace : List Uses → List Opening → List ℕ → List ℕ → Frame → List Frame →
     List (Option (List ℕ))
-frame_trace above left right frame below =
-    entries_trace above frame.entries.now
+frame_trace uses above left right frame below =
+    entries_trace uses above frame.entries.now
     (parts_trace above (frame.rest.now ++ todo_of below frame.parent) end_trace)
     (frame_way left right frame)
 
 -- the steps of the frames, the top first
-abbrev pub stack_trace : List Opening → List ℕ → List ℕ → List Frame → List (Option (List ℕ))
-stack_trace above left right [] = []
-stack_trace above left right (frame ∷ below) = frame_trace above left right frame below
-    ++ stack_trace above (take frame.left_len left) (take frame.right_len right) below
+abbrev pub stack_trace : List Uses → List Opening → List ℕ → List ℕ → List Frame →
+    List (Option (List ℕ))
+stack_trace uses above left right [] = []
+stack_trace uses above left right (frame ∷ below) = frame_trace uses above left right frame below
+    ++ stack_trace uses above (take frame.left_len left) (take frame.right_len right) below
 
 -- each frame's words begin those of the one above it, and its parent stands below it
 abbrev pub IsStack : List ℕ → List ℕ → List Frame → Type 0

@@ -37,14 +37,12 @@ impl<'a> Expansion<'a> {
         requires { IsSound dictionary.now }
         ensures { IfOk result (λ made. made ≡ lines dictionary.now) }
     {
-        Ok(Expansion {
+        let search = Search::new(
             alloc,
-            search: Search::new(
-                alloc,
-                dictionary.pardefs.as_slice(),
-                dictionary.sections.as_slice(),
-            ),
-        })
+            dictionary.pardefs.as_slice(),
+            dictionary.sections.as_slice(),
+        )?;
+        Ok(Expansion { alloc, search })
     }
 
     /// Puts the next line into `line`, without an end, and answers true; or answers false, where no

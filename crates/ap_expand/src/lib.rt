@@ -5,6 +5,7 @@ mod expansion;
 mod frame;
 mod line;
 mod search;
+mod uses;
 mod walk;
 
 pub use expansion::Expansion;

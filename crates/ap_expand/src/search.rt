@@ -1,11 +1,14 @@
 ghost use Rattle.std.specs.Prelude.{◌≡◌, ◌||◌, ◌++◌, ◌∷◌, [], List, IfOk, None, OnErr, IsTrue, length, reverse, true, false};
 ghost use Rattle.ap_dix.specs.Soundness.{are_sound_pardefs};
-ghost use Rattle.ap_expand.specs.Search.{AreLinked, Begins, is_lr, is_rl, lines_among, pardefs_trace, sections_trace};
+ghost use Rattle.ap_expand.specs.Search.{AreLinked, Begins, is_lr, is_rl, is_passed, lines_among, pardefs_trace, sections_trace};
+ghost use Rattle.ap_expand.specs.Uses.{pardefs_uses};
+ghost use Rattle.ap_expand.specs.declared.uses.Uses.{Uses as WayUses};
 ghost use Rattle.ap_expand.specs.Walks.{way_of};
 ghost use Rattle.ap_expand.specs.Places.{search_trace, IsSectionFrame, IsSearch, entries_at, Advanced, Took};
 
 use crate::frame::Frame;
 use crate::line::write_line;
+use crate::uses::{Uses, is_barren, paradigm_uses};
 use crate::walk::walk;
 use ap_dix::{Entry, Pardef, Section, Side};
 use ap_symbol::{Bytes, Memory};
@@ -15,6 +18,8 @@ use std::alloc::Global;
 /// A place in the expansion of a dictionary: a stack of the lists of entries that are open.
 pub(crate) struct Search<'a> {
     pub(crate) pardefs: &'a [Pardef],
+    /// What each way through each of the paradigms uses.
+    pub(crate) uses: Vec<Uses>,
     /// The sections that were not opened yet.
     pub(crate) sections: &'a [Section],
     /// The frames below the top one, the lowest first.
@@ -82,7 +87,7 @@ fn advance<'a>(
     requires linked { AreLinked (reverse frames.now) }
     requires empty { line.old ≡ [] }
     ensures advanced { IfOk result
-        (λ advance. Advanced pardefs.now frames.now entry.now.parts
+        (λ advance. (uses : List WayUses) → Advanced uses pardefs.now frames.now entry.now.parts
         (way_of left.old.items right.old.items lr rl) left.new.items right.new.items
         line.new advance) }
     ensures left { Begins left.old.items left.new.items }
@@ -119,20 +124,28 @@ fn section_frame<'a>(entries: &'a [Entry]) -> Frame<'a>
 
 impl<'a> Search<'a> {
     /// The start of the expansion.
-    pub(crate) fn new(alloc: Global, pardefs: &'a [Pardef], sections: &'a [Section]) -> Search<'a>
+    pub(crate) fn new(
+        alloc: Global,
+        pardefs: &'a [Pardef],
+        sections: &'a [Section],
+    ) -> Result<Search<'a>, Memory>
         requires { IsTrue (are_sound_pardefs 0 pardefs.now) }
-        ensures search { IsSearch result }
-        ensures steps { search_trace result ≡ None
-            ∷ sections_trace (pardefs_trace [] pardefs.now) sections.now }
+        ensures search { IfOk result (λ made. IsSearch made) }
+        ensures uses { IfOk result (λ made. made.uses.items ≡ pardefs_uses [] pardefs.now) }
+        ensures steps { IfOk result (λ made. search_trace made ≡ None
+            ∷ sections_trace made.uses.items (pardefs_trace made.uses.items [] pardefs.now)
+            sections.now) }
     {
-        Search {
+        let uses = paradigm_uses(alloc, pardefs)?;
+        Ok(Search {
             pardefs,
+            uses,
             sections,
             below: Vec::new(alloc),
             top: section_frame(&[]),
             left: Vec::new(alloc),
             right: Vec::new(alloc),
-        }
+        })
     }
 
     /// Leaves the top frame, which has no entries left, and answers whether there is another.
@@ -160,7 +173,7 @@ impl<'a> Search<'a> {
         }
     }
 
-    /// Takes the first entry of the top frame, which is not ignored.
+    /// Takes the first entry of the top frame, which is not passed over.
     fn enter(
         &mut self,
         entry: &'a Entry,
@@ -169,7 +182,8 @@ impl<'a> Search<'a> {
     ) -> Result<Step, Memory>
         requires search { IsSearch self.old }
         requires first { self.old.top.entries.now ≡ entry.now ∷ others.now }
-        requires taken { entry.now.ignored ≡ false }
+        requires taken { is_passed self.old.uses.items self.old.top.lr self.old.top.rl entry.now
+            ≡ false }
         requires empty { line.old ≡ [] }
         ensures search { IsSearch self.new }
         ensures took { IfOk result (λ step. Took self.old self.new line.new step) }
@@ -208,6 +222,13 @@ impl<'a> Search<'a> {
         }
     }
 
+    /// Whether an entry of the top frame is passed over.
+    fn passes(&self, entry: &Entry) -> bool
+        ensures { result ≡ is_passed self.now.uses.items self.now.top.lr self.now.top.rl entry.now }
+    {
+        entry.ignored || is_barren(self.uses.as_slice(), self.top.lr, self.top.rl, entry)
+    }
+
     /// Takes a step.
     pub(crate) fn step(&mut self, line: &mut Bytes) -> Result<Step, Memory>
         requires search { IsSearch self.old }
@@ -218,7 +239,7 @@ impl<'a> Search<'a> {
     {
         match self.top.entries.split_first() {
             Some((entry, others)) => {
-                if entry.ignored {
+                if self.passes(entry) {
                     self.top.entries = others;
                     return Ok(Step::NoLine);
                 }

@@ -8,3 +8,4 @@ pub mod PostSteps
 pub mod PostTurns
 pub mod PostWritings
 pub mod PostKept
+pub mod Exactly

@@ -1,11 +1,10 @@
 -- The search at the front of held items: one symbol more, back to the longest match, and what it
 -- finds.
-use Rattle.std.specs.Prelude.{◌≡◌, ◌⊎◌, ℕ, suc, zero, ◌+◌, ◌<◌, ◌≤◌, Bool, true, false, List, [], ◌∷◌, ◌++◌, length, take, Some, None}
+use Rattle.std.specs.Prelude.{◌≡◌, ◌⊎◌, ℕ, suc, zero, ◌<◌, ◌≤◌, Bool, true, false, List, [], ◌∷◌, ◌++◌, length, take, Some, None}
 use Rattle.std.proofs.Common.{refl, ap, sym, ◌∙◌, subst, arith, get_or, inl, inr}
 use Rattle.std.proofs.lemmas.List.{length-take, length-append, take-take}
 use Rattle.ap_symbol.specs.declared.symbol.Symbol.{Symbol}
 use Rattle.ap_fst.specs.Sections.{Parts}
-use Rattle.ap_stream.specs.Steps.{front}
 use Rattle.ap_stream.specs.declared.item.Read.{Read}
 use Rattle.ap_stream.proofs.ItemFronts.{front_short, front_more, front_stops, IsNextSymbol, front_next}
 use Rattle.ap_live.specs.Greatest.{greatest}
@@ -15,7 +14,7 @@ use Rattle.ap_live.specs.declared.live_sections.LiveSections.{LiveSections}
 use Rattle.ap_live.proofs.AnyWords.{viable_front}
 use Rattle.ap_live.proofs.Greatest.{greatest_within}
 use Rattle.ap_lookup.specs.Matching.{is_match, fitting}
-use Rattle.ap_lookup.specs.PostGenerating.{symbol_of, symbols, matched}
+use Rattle.ap_lookup.specs.PostGenerating.{symbol_of, symbols}
 use Rattle.ap_lookup.specs.PostSearching.{IsBegun, IsSearch, IsEnd, IsFound}
 use Rattle.ap_lookup.specs.declared.post_search.Search.{Search}
 use Rattle.ap_lookup.specs.declared.post_search.Found.{Found}

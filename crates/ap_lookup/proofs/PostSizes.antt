@@ -22,9 +22,8 @@ use Rattle.ap_stream.specs.declared.item.Read.{Read}
 use Rattle.ap_stream.proofs.Spells.{spelled_size}
 use Rattle.ap_stream.proofs.StepLaws.{bytes_less}
 use Rattle.ap_live.specs.Lexicon.{Lexicon, IsCoherent}
-use Rattle.ap_lookup.specs.Matching.{fitting}
-use Rattle.ap_lookup.specs.PostGenerating.{symbols, begins_alarm, matched, span, chosen, blank_of, blanks, left_over, is_slot, filling, part, unused, filled, word_step, matched_step, match_step, alarm_step, copied, post_step}
-use Rattle.ap_lookup.proofs.PostSteps.{span_alarm, fitting_short, matched_within, step_alarm, step_bare, alarm_over, alarm_within, match_some, match_none}
+use Rattle.ap_lookup.specs.PostGenerating.{symbols, begins_alarm, matched, span, chosen, blank_of, blanks, left_over, filling, filled, word_step, match_step, alarm_step, copied, post_step}
+use Rattle.ap_lookup.proofs.PostSteps.{span_alarm, fitting_short, matched_within, step_alarm, step_bare, alarm_over, alarm_within, match_some}
 
 -- all the bytes of some texts
 abbrev all_bytes : List (List ℕ) → List ℕ

@@ -2,7 +2,6 @@
 use Rattle.std.specs.Prelude.{◌≡◌, ℕ, suc, ◌+◌, ◌<◌, ◌≤◌, Bool, true, false, List, [], ◌∷◌, ◌++◌, length, take, drop, IsTrue}
 use Rattle.std.specs.List.{flat_map, list_all}
 use Rattle.std.proofs.Common.{arith, refl, ap, sym, ◌∙◌, subst, get_or, append_assoc, drop-cons, length-take}
-use Rattle.std.proofs.lemmas.Bool.{cases_Bool}
 use Rattle.std.proofs.lemmas.List.{drop_all, append-nil}
 use Rattle.std.proofs.lemmas.List.Folds.{list_all_at}
 use Rattle.ap_symbol.specs.Words.{is_proper, AreProper}
@@ -11,7 +10,7 @@ use Rattle.ap_stream.specs.Supers.{blank_supers}
 use Rattle.ap_stream.specs.declared.item.Item.{Item}
 use Rattle.ap_stream.specs.declared.item.Item.TheVariants as item
 use Rattle.ap_stream.specs.declared.item.Read.{Read}
-use Rattle.ap_lookup.specs.PostGenerating.{blank_of, blanks, left_over, filling, part, unused, filled}
+use Rattle.ap_lookup.specs.PostGenerating.{blank_of, blanks, left_over, part, unused, filled}
 
 split_at : {X : Type 0} (xs : List X) (at : ℕ) (d : X) → at < length xs →
     drop at xs ≡ get_or xs at d ∷ drop (at + 1) xs

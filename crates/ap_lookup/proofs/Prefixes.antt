@@ -32,7 +32,7 @@ words_in : (words : List (List Symbol)) (right : List Symbol) → IsIn right wor
 words_in [] right i = absurd i
 words_in (word ∷ words) right i = refl
 
-any_some : (lexicon : Lexicon) (symbols right : List Symbol) (kind : Kind2) →
+pub any_some : (lexicon : Lexicon) (symbols right : List Symbol) (kind : Kind2) →
     IsIn right (lexicon.readings kind symbols) → has_words (any_words lexicon symbols) ≡ true
 any_some lexicon symbols right Standard i =
     either_some (lexicon.readings Standard symbols) _ (inl (words_in _ right i))
@@ -54,7 +54,7 @@ of_kind : (lexicon : Lexicon) (symbols : List Symbol) (kind : Kind2) →
 of_kind lexicon symbols kind h = let s = some_word (lexicon.readings kind symbols) h in
     (kind, s.0, s.1)
 
-some_kind : (lexicon : Lexicon) (symbols : List Symbol) → has_words (any_words lexicon symbols)
+pub some_kind : (lexicon : Lexicon) (symbols : List Symbol) → has_words (any_words lexicon symbols)
     ≡ true → (kind : Kind2) × (right : List Symbol) × IsIn right (lexicon.readings kind symbols)
 some_kind lexicon symbols h =
     elim (some_append (lexicon.readings Standard symbols) _ h) [
@@ -111,7 +111,7 @@ module _ (lexicon : Lexicon) (word : List Symbol) where
       (none_above 0 (λ m more p. none m p))
 
   -- so there is a longest one, or none
-  found : (n : ℕ) → prefix lexicon word ≡ n → 0 < n → IsLongest lexicon word n
+  pub found : (n : ℕ) → prefix lexicon word ≡ n → 0 < n → IsLongest lexicon word n
   found n e some =
       let le : n ≤ length word =
       (let w = greatest_within (is_prefix lexicon word) (length word) in omega (arith, w, e)) in
@@ -127,7 +127,7 @@ module _ (lexicon : Lexicon) (word : List Symbol) where
             omega (arith, r, e, more);
       }
 
-  nothing : prefix lexicon word ≡ 0 → (n : ℕ) → IsPrefix lexicon word n → ⊥
+  pub nothing : prefix lexicon word ≡ 0 → (n : ℕ) → IsPrefix lexicon word n → ⊥
   nothing e n p = let r = greatest_reaches (is_prefix lexicon word) (length word) n p.within
       (passes n p) in let s = p.some in omega (arith, r, e, s)
 

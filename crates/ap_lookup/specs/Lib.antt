@@ -3,6 +3,7 @@ pub mod Translation
 pub mod Translating
 pub mod Looking
 pub mod Laws
+pub mod Exactly
 pub mod Lookup
 pub mod Generating
 pub mod Works

@@ -1,18 +1,18 @@
 -- What post-generation copies where it holds nothing.
-use Rattle.std.specs.Prelude.{◌≡◌, ℕ, Bool, true, false, not, ◌&&◌, ◌||◌, ◌==◌, eqb, List, [], ◌∷◌, ◌++◌, length, refl}
-use Rattle.std.proofs.Common.{arith, ap, sym, ◌∙◌}
+use Rattle.std.specs.Prelude.{◌≡◌, ℕ, Bool, true, false, not, ◌&&◌, ◌||◌, eqb, List, [], ◌∷◌, ◌++◌, length, refl}
+use Rattle.std.proofs.Common.{arith, ap}
 use Rattle.std.proofs.lemmas.List.{append-nil}
 use Rattle.ap_stream.specs.Blanks.{is_white}
-use Rattle.ap_stream.specs.Copying.{is_common, is_copied}
+use Rattle.ap_stream.specs.Copying.{is_copied}
 use Rattle.ap_stream.specs.Crossing.{stops_word}
 use Rattle.ap_stream.specs.Spelling.{spelled}
 use Rattle.ap_stream.specs.Steps.{steps}
-use Rattle.ap_stream.specs.Told.{Told, behind}
+use Rattle.ap_stream.specs.Told.{behind}
 use Rattle.ap_stream.specs.declared.item.Item.{Item}
 use Rattle.ap_stream.specs.declared.item.Item.TheVariants.{Plain, Blank, Unit, Chunk}
 use Rattle.ap_stream.specs.declared.item.Read.{Read}
 use Rattle.ap_live.specs.Lexicon.{Lexicon}
-use Rattle.ap_lookup.specs.PostGenerating.{is_alarm_item, begins_alarm, post_step}
+use Rattle.ap_lookup.specs.PostGenerating.{is_alarm_item, post_step}
 use Rattle.ap_lookup.specs.PostWorks.{post_generated}
 
 no_alarm_by : (s a w e : Bool) → (not e && not (s || (a || w))) ≡ true → (not e && a) ≡ false

@@ -1,11 +1,11 @@
 -- What the search for a match at the front of the held items knows.
-use Rattle.std.specs.Prelude.{◌≡◌, ◌⊎◌, ℕ, suc, ◌<◌, ◌≤◌, Bool, true, false, List, [], length, take, slice_index_or}
+use Rattle.std.specs.Prelude.{◌≡◌, ◌⊎◌, ℕ, suc, ◌<◌, ◌≤◌, Bool, true, false, List, length, take, slice_index_or}
 use Rattle.ap_fst.specs.Sections.{Parts}
 use Rattle.ap_stream.specs.declared.item.Read.{Read}
 use Rattle.ap_symbol.specs.declared.symbol.Symbol.{Symbol}
 use Rattle.ap_live.specs.Lexicon.{Lexicon, lexicon_of}
 use Rattle.ap_live.specs.SectionLives.{AreLive}
-use Rattle.ap_lookup.specs.Matching.{longest_match, fitting}
+use Rattle.ap_lookup.specs.Matching.{fitting}
 use Rattle.ap_lookup.specs.PostGenerating.{symbols, matched}
 use Rattle.ap_lookup.specs.declared.post_search.Search.{Search}
 use Rattle.ap_lookup.specs.declared.post_search.Found.{Found}

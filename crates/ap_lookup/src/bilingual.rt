@@ -2,11 +2,14 @@ ghost use Rattle.std.specs.Prelude.{◌≡◌, ℕ, List, [], false, None, IfOk}
 ghost use Rattle.ap_stream.specs.Each.{held_size};
 ghost use Rattle.ap_stream.specs.Told.{Ending};
 ghost use Rattle.ap_stream.specs.Rest.{rest_of, held_of, rest_at_fault, rest_at_cut, rest_pending_first};
-ghost use Rattle.ap_live.specs.Lexicon.{lexicon_of};
+ghost use Rattle.ap_symbol.specs.Alphabet.{has_letter};
+ghost use Rattle.ap_live.specs.Lexicon.{lexicon_of, IsLexiconOf};
+ghost use Rattle.ap_live.specs.Relations.{relation_of};
 ghost use Rattle.ap_lookup.specs.Works.{bilingual_text, bilingual_work};
 
 use crate::bilingual_work::BilingualWork;
 use ap_fst::Compiled;
+use ap_live::compiled_has_a_lexicon;
 use ap_stream::{Dialect, Finish, Pipe, Stage, StageFault, Staged};
 use ap_symbol::Memory;
 use std::alloc::Global;
@@ -38,7 +41,7 @@ impl Model for Bilingual {
 }
 
 impl Bilingual {
-    /// A new stage by this dictionary.
+    /// A new stage by this dictionary, whose lexicon is that of what its sections relate.
     pub fn new(alloc: Global, compiled: Compiled, sensitive: bool) -> Result<Bilingual, Memory>
         ensures rest { IfOk result (λ made. (x : List ℕ) (e : Ending) →
             rest_of bilingual_work made x e
@@ -46,7 +49,10 @@ impl Bilingual {
         ensures pending { IfOk result (λ made. made.pending ≡ []) }
         ensures ended { IfOk result (λ made. made.ended ≡ false) }
         ensures fault { IfOk result (λ made. made.fault ≡ None) }
+        ensures lexicon { IsLexiconOf (lexicon_of compiled sensitive) sensitive
+            (has_letter compiled.alphabet) (relation_of compiled) }
     {
+        compiled_has_a_lexicon(&compiled);
         let work = BilingualWork::new(alloc, compiled, sensitive)?;
         Ok(Bilingual {
             stage: Staged::new(alloc, Dialect::Lexical, work),

@@ -2,12 +2,15 @@ ghost use Rattle.std.specs.Prelude.{◌≡◌, ℕ, List, [], false, None, IfOk}
 ghost use Rattle.ap_stream.specs.Each.{held_size};
 ghost use Rattle.ap_stream.specs.Told.{Ending};
 ghost use Rattle.ap_stream.specs.Rest.{rest_of, held_of, rest_at_fault, rest_at_cut, rest_pending_first};
-ghost use Rattle.ap_live.specs.Lexicon.{lexicon_of};
+ghost use Rattle.ap_symbol.specs.Alphabet.{has_letter};
+ghost use Rattle.ap_live.specs.Lexicon.{lexicon_of, IsLexiconOf};
+ghost use Rattle.ap_live.specs.Relations.{relation_of};
 ghost use Rattle.ap_lookup.specs.Works.{generated_text, generation_work};
 
 use crate::generation_work::GenerationWork;
 use crate::generation_writer::Marks;
 use ap_fst::Compiled;
+use ap_live::compiled_has_a_lexicon;
 use ap_stream::{Dialect, Finish, Pipe, Stage, StageFault, Staged};
 use ap_symbol::Memory;
 use std::alloc::Global;
@@ -38,7 +41,7 @@ impl Model for Generation {
 }
 
 impl Generation {
-    /// A new stage by this dictionary.
+    /// A new stage by this dictionary, whose lexicon is that of what its sections relate.
     pub fn new(
         alloc: Global,
         compiled: Compiled,
@@ -51,7 +54,10 @@ impl Generation {
         ensures pending { IfOk result (λ made. made.pending ≡ []) }
         ensures ended { IfOk result (λ made. made.ended ≡ false) }
         ensures fault { IfOk result (λ made. made.fault ≡ None) }
+        ensures lexicon { IsLexiconOf (lexicon_of compiled sensitive) sensitive
+            (has_letter compiled.alphabet) (relation_of compiled) }
     {
+        compiled_has_a_lexicon(&compiled);
         let work = GenerationWork::new(alloc, compiled, marks, sensitive)?;
         Ok(Generation {
             stage: Staged::new(alloc, Dialect::Lexical, work),

@@ -4,7 +4,10 @@ ghost use Rattle.ap_symbol.specs.Rendering.{word_cmp};
 ghost use Rattle.ap_symbol.specs.declared.symbol.Symbol.{Symbol};
 ghost use Rattle.ap_live.specs.Lexicon.{Lexicon};
 ghost use Rattle.ap_lookup.specs.Laws.{IsLongest, HasNone, BilingualKeeps, GenerationKeeps, PostGenerationKeeps, BilingualIsRead, GenerationIsRead, PostGenerationIsRead};
+ghost use Rattle.ap_lookup.specs.Exactly.{FormsAreExact, FormsAreWritten, HeadsAreExact, GreatestIsTaken, AlarmIsLeftOut, LeastIsWritten};
 ghost use Rattle.ap_lookup.specs.Translation.{is_marked, taken, untaken, translation};
+
+use ap_symbol::one_rendering;
 
 /// The law of translation, whatever the lexicon: of the prefixes that hold the whole lemma and fit
 /// a left word the longest is taken. Where there is none, and for a word that begins with `*` or
@@ -21,6 +24,48 @@ pub fn longest_prefix_is_taken()
     ensures order { (lexicon : Lexicon) (sensitive : Bool) (word : List Symbol) →
         IsStrictlySortedBy word_cmp (translation lexicon sensitive word).heads }
 {}
+
+/// The law of translation by a compiled dictionary. Of the fronts of a word that hold its whole
+/// lemma and fit a left word of some kind the longest is taken: a word is a head exactly where some
+/// pair of any kind has a left word that fits that front, and the head is its right word with the
+/// case of the lemma; heads stand in the order of words, each once, and what follows the front is
+/// left. A word that begins with `*` or `@`, and one without such a front, has no head and is left
+/// whole.
+pub fn heads_are_exact()
+    ensures { HeadsAreExact }
+{
+    one_rendering();
+}
+
+/// The law of generation by a compiled dictionary. A word is a form of a unit's word exactly where
+/// some pair of any kind has a left word that fits the whole of it, and the form is its right word
+/// with the case of the lemma. Forms stand in the order of words, each once, and they are written
+/// for each word that begins with neither `*` nor `@`.
+pub fn forms_are_exact()
+    ensures exact { FormsAreExact }
+    ensures written { FormsAreWritten }
+{
+    one_rendering();
+}
+
+/// The law of matches of post-generation by a compiled dictionary. Where items begin with an alarm,
+/// and those that must be seen together are within the limit, the greatest number of symbols that
+/// fit a left word of some kind is taken, and the least of its right words is written; and where
+/// none fit, the alarm alone is left out.
+pub fn greatest_match_is_taken()
+    ensures taken { GreatestIsTaken }
+    ensures none { AlarmIsLeftOut }
+{
+    one_rendering();
+}
+
+/// The law of the word that post-generation writes by a compiled dictionary: it is a right word of
+/// what was matched, with its case, and none such stands before it in the order of words.
+pub fn least_word_is_written()
+    ensures { LeastIsWritten }
+{
+    one_rendering();
+}
 
 /// The law that bilingual lookup keeps superblanks, by a lexicon whose right words can be written:
 /// where it gives a text without a fault, the superblanks of that text are those of the input, in

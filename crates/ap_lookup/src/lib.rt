@@ -26,9 +26,9 @@ pub use generation::Generation;
 pub use generation_work::GenerationWork;
 pub use generation_writer::{GenerationWriter, Marks};
 pub use laws::{
-    bilingual_is_read, bilingual_keeps_superblanks, generation_is_read,
-    generation_keeps_superblanks, longest_prefix_is_taken, post_generation_is_read,
-    post_generation_keeps_superblanks,
+    bilingual_is_read, bilingual_keeps_superblanks, forms_are_exact, generation_is_read,
+    generation_keeps_superblanks, greatest_match_is_taken, heads_are_exact, least_word_is_written,
+    longest_prefix_is_taken, post_generation_is_read, post_generation_keeps_superblanks,
 };
 pub use post_generation::PostGeneration;
 pub use post_generation_work::PostGenerationWork;

@@ -2,11 +2,14 @@ ghost use Rattle.std.specs.Prelude.{◌≡◌, ℕ, List, [], false, None, IfOk}
 ghost use Rattle.ap_stream.specs.Steps.{bytes_of};
 ghost use Rattle.ap_stream.specs.Told.{Ending};
 ghost use Rattle.ap_stream.specs.Rest.{rest_of, held_of, rest_at_fault, rest_at_cut, rest_pending_first};
-ghost use Rattle.ap_live.specs.Lexicon.{lexicon_of};
+ghost use Rattle.ap_symbol.specs.Alphabet.{has_letter};
+ghost use Rattle.ap_live.specs.Lexicon.{lexicon_of, IsLexiconOf};
+ghost use Rattle.ap_live.specs.Relations.{relation_of};
 ghost use Rattle.ap_lookup.specs.PostWorks.{post_generated_text, post_work};
 
 use crate::post_generation_work::PostGenerationWork;
 use ap_fst::Compiled;
+use ap_live::compiled_has_a_lexicon;
 use ap_stream::{Dialect, Finish, Pipe, Stage, StageFault, Staged};
 use ap_symbol::Memory;
 use std::alloc::Global;
@@ -42,14 +45,17 @@ impl Model for PostGeneration {
 }
 
 impl PostGeneration {
-    /// A new stage by this dictionary. The error means want of memory.
+    /// A new stage by this dictionary, whose lexicon is that of what its sections relate. The error means want of memory.
     pub fn new(alloc: Global, compiled: Compiled, sensitive: bool) -> Result<PostGeneration, Memory>
         ensures rest { IfOk result (λ made. (x : List ℕ) (e : Ending) → rest_of post_work made x e
             ≡ post_generated_text (lexicon_of compiled sensitive) sensitive x e) }
         ensures pending { IfOk result (λ made. made.pending ≡ []) }
         ensures ended { IfOk result (λ made. made.ended ≡ false) }
         ensures fault { IfOk result (λ made. made.fault ≡ None) }
+        ensures lexicon { IsLexiconOf (lexicon_of compiled sensitive) sensitive
+            (has_letter compiled.alphabet) (relation_of compiled) }
     {
+        compiled_has_a_lexicon(&compiled);
         let work = PostGenerationWork::new(alloc, compiled, sensitive)?;
         Ok(PostGeneration {
             stage: Staged::new(alloc, Dialect::Generated, work),

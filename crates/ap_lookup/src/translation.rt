@@ -1,14 +1,16 @@
 ghost use Rattle.std.specs.Prelude.{◌≡◌, ℕ, ◌<◌, ◌≤◌, Bool, true, false, Ok, List, [], ◌∷◌, ◌++◌, length, take, IfOk, OnOk, OnErr};
+ghost use Rattle.ap_symbol.specs.Alphabet.{has_letter};
 ghost use Rattle.ap_symbol.specs.declared.symbol.Symbol.{Symbol};
 ghost use Rattle.ap_live.specs.Greatest.{greatest};
-ghost use Rattle.ap_live.specs.Lexicon.{lexicon_of};
+ghost use Rattle.ap_live.specs.Lexicon.{lexicon_of, IsLexiconOf};
+ghost use Rattle.ap_live.specs.Relations.{relation_of};
 ghost use Rattle.ap_live.specs.SectionLives.{AreLive};
 ghost use Rattle.ap_lookup.specs.Matching.{is_match};
 ghost use Rattle.ap_lookup.specs.Translation.{is_tag as tag_test, lemma_length, is_marked as marked_test, untaken, translation};
 ghost use Rattle.ap_lookup.specs.Translating.{translated};
 
 use ap_fst::Compiled;
-use ap_live::{LiveSections, any_readings};
+use ap_live::{LiveSections, any_readings, compiled_has_a_lexicon};
 use ap_symbol::{Memory, Symbol, Word, Words};
 use std::alloc::Global;
 
@@ -187,16 +189,20 @@ pub(crate) fn translate_from(
 /// or `@`, there is no head, and the whole word is left. Where case counts, a symbol fits itself
 /// alone and heads keep their case. The error means want of memory.
 ///
-/// Where many words are translated, a `Translator` costs less.
+/// The lexicon is that of what the sections of the dictionary relate; which words are heads is said
+/// by `heads_are_exact`. Where many words are translated, a `Translator` costs less.
 pub fn translate(
     alloc: Global,
     compiled: &Compiled,
     word: &Word,
     sensitive: bool,
 ) -> Result<Translation, Memory>
-    ensures { IfOk result (λ made. translated made
+    ensures value { IfOk result (λ made. translated made
         ≡ translation (lexicon_of compiled.now sensitive) sensitive word.now) }
+    ensures lexicon { IsLexiconOf (lexicon_of compiled.now sensitive) sensitive
+        (has_letter compiled.now.alphabet) (relation_of compiled.now) }
 {
+    compiled_has_a_lexicon(compiled);
     let mut lives = LiveSections::start(alloc, compiled)?;
     translate_from(alloc, compiled, word, sensitive, &mut lives)
 }

@@ -1,12 +1,14 @@
 ghost use Rattle.std.specs.Prelude.{◌≡◌, [], None, Bool, IfOk, IfSome};
-ghost use Rattle.ap_live.specs.Lexicon.{lexicon_of};
+ghost use Rattle.ap_symbol.specs.Alphabet.{has_letter};
+ghost use Rattle.ap_live.specs.Lexicon.{lexicon_of, IsLexiconOf};
+ghost use Rattle.ap_live.specs.Relations.{relation_of};
 ghost use Rattle.ap_live.specs.SectionLives.{AreLive};
 ghost use Rattle.ap_lookup.specs.Translation.{translation};
 ghost use Rattle.ap_lookup.specs.Translating.{translated};
 
 use crate::translation::{Translation, translate_from};
 use ap_fst::Compiled;
-use ap_live::LiveSections;
+use ap_live::{LiveSections, compiled_has_a_lexicon};
 use ap_symbol::{Memory, Word};
 use std::alloc::Global;
 use std::marker::Model;
@@ -75,12 +77,15 @@ fn translate_kept(
 }
 
 impl Translator {
-    /// A translator by this dictionary. Where case counts, a symbol fits itself alone and heads
-    /// keep their case. It takes no memory.
+    /// A translator by this dictionary, whose lexicon is that of what its sections relate. Where
+    /// case counts, a symbol fits itself alone and heads keep their case. It takes no memory.
     pub fn new(alloc: Global, compiled: Compiled, sensitive: bool) -> Translator
         ensures compiled { result.compiled ≡ compiled }
         ensures sensitive { result.sensitive ≡ sensitive }
+        ensures lexicon { IsLexiconOf (lexicon_of compiled sensitive) sensitive
+            (has_letter compiled.alphabet) (relation_of compiled) }
     {
+        compiled_has_a_lexicon(&compiled);
         Translator {
             alloc,
             compiled,

@@ -9,7 +9,7 @@ use Rattle.ap_expand.proofs.Entering.{met-steps}
 use Rattle.ap_expand.proofs.search.advance.Goals as goal
 
 pub returns-in-Some-clause-advanced : goal.returns-in-Some-clause-advanced
-returns-in-Some-clause-advanced c =
+returns-in-Some-clause-advanced c = λ uses.
     let frame : Frame = record {
       entries = c.entries_of.result;
       rest = c.in-Some.met.rest;
@@ -38,7 +38,7 @@ returns-in-Some-clause-advanced c =
     let lower : c.in-Some.met.parent ≤ length (reverse c.args.frames.now) = comes.0 in
     let left_is : c.len.result ≡ length c.walk.new.left.items = omega arith in
     let right_is : c.len-in-Some.result ≡ length c.walk.new.right.items = omega arith in (
-      met-steps c.args.pardefs.now (reverse c.args.frames.now) c.args.entry.now.parts
+      met-steps uses c.args.pardefs.now (reverse c.args.frames.now) c.args.entry.now.parts
           (length c.args.frames.now) c.args.left.now.items c.args.right.now.items
           c.walk.new.left.items c.walk.new.right.items c.args.lr c.args.rl c.in-Some.met.number
           frame c.requires.sound steps_of c.entries_of.ensures left_is right_is refl refl,

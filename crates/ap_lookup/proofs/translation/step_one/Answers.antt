@@ -1,5 +1,4 @@
-use Rattle.std.proofs.Common.{◌≡◌, ◌∙◌, sym, ◌++◌, ◌∷◌, [], List}
-use Rattle.ap_symbol.specs.declared.symbol.Symbol.{Symbol}
+use Rattle.std.proofs.Common.{◌∙◌, sym}
 use Rattle.ap_lookup.proofs.Translations.{live_back, true_not, false_not}
 use Rattle.ap_lookup.proofs.translation.step_one.Goals as goal
 

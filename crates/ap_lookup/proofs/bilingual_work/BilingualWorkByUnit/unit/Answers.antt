@@ -1,4 +1,3 @@
-use Rattle.ap_stream.specs.Copying.{GivesUnit}
 use Rattle.ap_lookup.proofs.bilingual_work.BilingualWorkByUnit.unit.Goals as goal
 
 pub returns-clause-wrote : goal.returns-clause-wrote

@@ -1,4 +1,4 @@
-use Rattle.std.proofs.Common.{◌≡◌, ◌∙◌, ap, sym, Bool, true, Ok, None, List}
+use Rattle.std.proofs.Common.{◌≡◌, ◌∙◌, ap, sym, true, Ok}
 use Rattle.ap_live.specs.Lexicon.{lexicon_of}
 use Rattle.ap_lookup.specs.PostGenerating.{begins_alarm}
 use Rattle.ap_lookup.specs.PostWorks.{Posting}

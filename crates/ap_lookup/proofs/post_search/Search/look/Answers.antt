@@ -1,4 +1,4 @@
-use Rattle.std.proofs.Common.{arith, ◌≡◌, ◌∙◌, ap, refl, Ok, length}
+use Rattle.std.proofs.Common.{arith, ◌∙◌, ap, Ok, length}
 use Rattle.ap_live.specs.Lexicon.{lexicon_of}
 use Rattle.ap_live.proofs.Coherence.{coherent}
 use Rattle.ap_lookup.proofs.PostSearches.{end_is, search_back, back_is, found_is, settled_by}

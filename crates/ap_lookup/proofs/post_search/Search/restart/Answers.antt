@@ -1,4 +1,4 @@
-use Rattle.std.proofs.Common.{arith, ◌≡◌, [], sym, subst}
+use Rattle.std.proofs.Common.{arith}
 use Rattle.ap_lookup.proofs.PostSearches.{none_seen, nothing_seen}
 use Rattle.ap_lookup.proofs.post_search.Search.restart.Goals as goal
 

@@ -1,4 +1,4 @@
-use Rattle.std.proofs.Common.{◌≡◌, ap, refl, Ok, length, arith}
+use Rattle.std.proofs.Common.{ap, refl, Ok, arith}
 use Rattle.ap_lookup.proofs.PostSearches.{stops_here, dead_here, goes_on, search_same}
 use Rattle.ap_lookup.proofs.post_search.Search.step.Goals as goal
 

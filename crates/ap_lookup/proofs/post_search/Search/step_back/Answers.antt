@@ -1,6 +1,3 @@
-use Rattle.std.proofs.Common.{List, sym, subst}
-use Rattle.ap_symbol.specs.declared.symbol.Symbol.{Symbol}
-use Rattle.ap_live.specs.SectionLives.{AreLive}
 use Rattle.ap_lookup.proofs.PostSearches.{lives_back}
 use Rattle.ap_lookup.proofs.post_search.Search.step_back.Goals as goal
 
