@@ -67,6 +67,12 @@ def is_content(token):
     return not isinstance(token, str) and token.get("part") in ("content", "chcontent", "whole")
 
 
+def is_blank(token):
+    """Whether a token is a blank between units."""
+    return not isinstance(token, str) and (
+        token.tag == "b" or (token.tag == "lit" and token.get("v").isspace()))
+
+
 def tokens_of(chunk):
     """What a chunk holds, in order: its elements, and each sign of the stream in its literals as
     a text. A literal with signs becomes literals without."""
@@ -87,16 +93,16 @@ def tokens_of(chunk):
 def gather(chunk, tokens, telling):
     """Writes a chunk that holds the contents of others within braces as one with those
     contents."""
-    lost = "blanks between the contents"
-    open_, kept = False, []
-    for token in tokens:
-        if isinstance(token, str):
-            open_ = open_ != (token in "^$")
-        elif open_ and "{" in tokens[:tokens.index(token)]:
-            lost = "blanks between the contents, and units of literals"
-        elif not (token.tag == "b" or (token.tag == "lit" and token.get("v").isspace())):
-            kept.append(token)
-    telling.change(line_of(chunk), "contents within braces", "the same contents", lost)
+    brace = tokens.index("{") if "{" in tokens else len(tokens)
+    inside = tokens[brace:]
+    contents = [token for token in inside if is_content(token)]
+    blanks = [token for token in inside if is_blank(token)]
+    others = [token for token in inside if not isinstance(token, str)
+              and not is_content(token) and not is_blank(token)]
+    lost = ["blanks between the contents"] * bool(blanks) + ["units of literals"] * bool(others)
+    telling.change(line_of(chunk), "contents within braces", "the same contents",
+                   ", ".join(lost) or "nothing")
+    kept = [token for token in tokens[:brace] if not isinstance(token, str)] + contents
     for child in elements(chunk):
         chunk.remove(child)
     chunk.extend(kept)
@@ -164,7 +170,7 @@ def parse(tokens):
             raise Fault(f"the sign {token} where none can stand")
         elif here is not None:
             here.append(token)
-        elif not (token.tag == "b" or (token.tag == "lit" and token.get("v").isspace())):
+        elif not is_blank(token):
             raise Fault("a value between its units")
     if here is not None:
         raise Fault("a unit without an end")
@@ -175,8 +181,9 @@ def spell_chunk(chunk, tokens, known, before):
     """Writes a chunk of literals as one without content, and keeps its postchunk rule in
     `known`; gives the name of the chunk. `before` is the number of rules made before."""
     name_values, unit_values = parse(tokens)
-    name_values = [value for value in name_values
-                   if isinstance(value, str) or value.tag != "b"]
+    if not name_values or any(isinstance(value, str) for value in name_values):
+        raise Fault("a name with signs, or none")
+    name_values = [value for value in name_values if value.tag != "b"]
     name_tags = single_tags(name_values[1:])
     words = [Word(values, name_tags) for values in unit_values]
     told = [word.is_told() for word in words]

@@ -17,6 +17,7 @@ NO_COUNTERPART = {
     "apertium-anaphora": "no antecedent is found",
     "apertium-posttransfer": "blanks stay as they are",
 }
+OTHER_MODES = "lmostx"
 MARKS = {"automorf": ("", "+#"), "autobil": ("+#", "+#"), "autogen": ("+#", "~"),
          "autopgen": ("~", "")}
 
@@ -64,17 +65,20 @@ class Folder:
     def dictionary_stage(self, options, files):
         """The command for a stage of lt-proc."""
         letters = set("".join(option[1:] for option in options if re.match(r"-[a-z]", option)))
-        for spare in sorted(letters - set("abcdgnp")):
+        if letters & set(OTHER_MODES):
+            self.tell(f"lt-proc {' '.join(options + files)}: left out; that mode isn't there")
+            return None
+        for spare in sorted(letters - set("abcdegnp")):
             self.tell(f"lt-proc -{spare}: the option is left out")
-        mode = next((letter for letter in "bgndp" if letter in letters), "")
+        mode = next((letter for letter in "bgndp" if letter in letters), "a")
         if "$1" in options:
             mode = "g"
         path = self.dictionary(files[0])
         if mode == "b":
             self.bilingual = path
             return None
-        return ["lt-proc", "-" + (mode or "a"), path] if "c" not in letters else [
-            "lt-proc", "-" + (mode or "a"), "-c", path]
+        command = ["compound"] if "e" in letters else ["lt-proc", "-" + mode]
+        return command + (["-c"] if "c" in letters else []) + [path]
 
     def transfer_stage(self, options, files):
         """The command for a stage of transfer; behind bilingual lookup it takes that
@@ -164,7 +168,10 @@ class Folder:
     def rewritten(self, path, base, way):
         """Rewrites a compiled dictionary of Apertium as one of the program."""
         kind = base.rpartition(".")[2].partition("-")[0]
-        lines, left_out = binary.compiled(path, way, MARKS.get(kind, ("", "")))
+        try:
+            lines, left_out = binary.compiled(path, way, MARKS.get(kind, ("", "")))
+        except (binary.Fault, IndexError) as fault:
+            raise Fault(f"{path}: no compiled dictionary that is read here ({fault})") from fault
         self.tell(f"{os.path.basename(path)} became {base}.ltc; lost: "
                   + (f"{left_out} edges with white space" if left_out else "nothing"))
         into = os.path.join(self.out, base + ".ltc")
@@ -177,9 +184,10 @@ class Folder:
         kinds = [command[0] for command in row]
         whole = ["lt-proc", "first", "pretransfer", "transfer", "interchunk", "postchunk",
                  "lt-proc"]
-        if kinds[:7] == whole and kinds[7:] in ([], ["lt-proc"]):
-            post = row[7][2] if len(row) > 7 else self.empty_dictionary()
-            files = [row[0][2], row[3][2], row[3][1], row[4][1], row[5][1], row[6][2], post]
+        plain = all("-c" not in command for command in row)
+        if plain and kinds[:7] == whole and kinds[7:] in ([], ["lt-proc"]):
+            post = row[7][-1] if len(row) > 7 else self.empty_dictionary()
+            files = [row[0][-1], row[3][2], row[3][1], row[4][1], row[5][1], row[6][-1], post]
             commands = [["text"] + files]
         else:
             commands = [["destxt"]] + row + [["retxt"]]

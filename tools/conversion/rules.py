@@ -117,6 +117,9 @@ def clean_attributes(element, form, telling):
     if element.tag == "cat-item" and form != "postchunk" and "tags" not in element.attrib:
         telling.change(line_of(element), "a cat-item without tags", "one with tags of nothing")
         element.set("tags", "")
+    if form == "transfer" and element.tag in ("clip", "case-of") and "side" not in element.attrib:
+        telling.change(line_of(element), f"{element.tag} without side", "side=tl")
+        element.set("side", "tl")
     if element.get("caseless", "no") not in ("yes", "no"):
         telling.change(line_of(element), f"caseless={element.get('caseless')}", "caseless=no")
         element.set("caseless", "no")
@@ -131,6 +134,10 @@ def clean_tags(element, telling):
     text = element.get(attribute, "") if attribute else ""
     parts = text.split(".")
     wrong = [part for part in parts if part == "" or FORBIDDEN.search(part)]
+    if element.tag == "attr-item" and "*" in parts:
+        telling.change(line_of(element), f"the tags {text}", "one item less", "what * stands for")
+        remove(element)
+        return
     if not text or not wrong:
         return
     if element.tag != "lit-tag":
@@ -234,9 +241,12 @@ def leave_out_position(element, position, telling):
 def tell_of_meaning(root, telling):
     """Tells what is read here, but means something else."""
     for literal in all_elements(root, "lit", "list-item", "def-var"):
-        if re.search(r"[\^${}\[\]]", literal.get("v", "")):
-            telling.change(line_of(literal), f"the text {literal.get('v')!r} with signs of the "
-                           "stream", "the same signs, escaped", "the units or blanks that it means")
+        if not re.search(r"[\^${}\[\]]", literal.get("v", "")):
+            continue
+        compared = literal.tag == "list-item" or any(literal.iterancestors("test"))
+        telling.change(line_of(literal), f"the text {literal.get('v')!r} with signs of the "
+                       "stream", "letters", "nothing: it is compared alone" if compared
+                       else "the units or blanks that it means: they are escaped")
     if root.tag == "postchunk":
         for clip in all_elements(root, "clip"):
             if clip.get("part") == "lemq":

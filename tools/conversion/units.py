@@ -152,7 +152,10 @@ def part(name, number):
 
 def spell_units(root, telling):
     """Makes variables that hold units into variables that hold a unit each, in the whole file."""
+    for unit in all_elements(root, "lu"):
+        split_literals(unit, telling)
     units = Units(root, telling)
+    tell_of_first_units(root, units)
     for name in sorted(units.many):
         variables = section_of(root, "def-var")
         for number in range(2, MOST_UNITS + 1):
@@ -171,6 +174,36 @@ def spell_units(root, telling):
         spell_out(out, units)
     for var in all_elements(root, "var"):
         var.attrib.pop("done", None)
+
+
+def split_literals(unit, telling):
+    """Writes a unit with an end and a begin of units among its values as several."""
+    atoms = atoms_of(elements(unit))
+    if unit.getparent().tag == "mlu" or not any(is_break(atom) for atom in atoms):
+        return
+    pieces = [made("lu")]
+    for atom in atoms:
+        if is_break(atom):
+            pieces += [made("b"), made("lu")]
+        elif not isinstance(atom, tuple):
+            pieces[-1].append(copy_of(atom))
+    telling.change(line_of(unit), "an end and a begin of units in a unit", "units")
+    replace(unit, pieces)
+
+
+def tell_of_first_units(root, units):
+    """Tells where a variable of several units is read for its first one alone."""
+    for var in all_elements(root, "var"):
+        parent = var.getparent()
+        if var.get("n") not in units.many or parent.tag in ("lu", "chunk", "out", "equal"):
+            continue
+        holder = parent
+        while holder.tag in ("concat", "get-case-from"):
+            holder = holder.getparent()
+        written = name_written(holder) if holder.tag in ("let", "append") else None
+        if written is None and (parent.tag != "get-case-from" or holder.tag != "lu"):
+            units.telling.change(line_of(var), f"the variable {var.get('n')} in {parent.tag}",
+                                 "its first unit", "its later units, where it holds any")
 
 
 def leave_out_among_chunks(root, units):

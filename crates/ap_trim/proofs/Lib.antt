@@ -12,3 +12,4 @@ pub mod Unions
 pub mod Keeping
 pub mod Sectioning
 pub mod Uniqueness
+pub mod Sameness

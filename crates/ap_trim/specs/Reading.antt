@@ -1,4 +1,4 @@
--- What of a word a transducer reads, where letters fit without regard to case.
+-- What of a word a transducer reads, where a small letter fits its capital too.
 use Rattle.std.specs.Prelude.{◌≡◌, ◌↔◌, ℕ, false, IsTrue, List, Option, Some, None}
 use Rattle.ap_symbol.specs.Fitting.{fits_lem, lists_fit}
 use Rattle.ap_symbol.specs.declared.symbol.Symbol.{Symbol}

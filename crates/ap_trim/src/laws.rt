@@ -1,9 +1,10 @@
 ghost use Rattle.std.specs.Prelude.{◌≡◌};
 ghost use Rattle.ap_fst.specs.Sections.{Parts, section_of};
 ghost use Rattle.ap_fst.specs.declared.compiled.Kind2.{Kind2};
-ghost use Rattle.ap_trim.specs.Trimming.{IsTrimmedBy, IsLeastFor};
+ghost use Rattle.ap_trim.specs.Trimming.{IsTrimmedBy, IsLeastFor, SameLeaveSame};
 
 use ap_min::{canonical_is_least, canonical_is_one};
+use ap_symbol::one_rendering;
 
 /// What is left of an analyser is one value.
 pub fn trimmed_is_one()
@@ -11,6 +12,16 @@ pub fn trimmed_is_one()
         IsTrimmedBy mono bilingual b → a ≡ b }
 {
     canonical_is_one();
+}
+
+/// Of two analysers that have the same letters and one direction, and whose sections accept the same
+/// label strings in each kind, the same is left, by bilingual dictionaries that relate the same
+/// words: it is one value.
+pub fn same_is_left_of_the_same()
+    ensures { SameLeaveSame }
+{
+    canonical_is_one();
+    one_rendering();
 }
 
 /// No transducer with at most one edge per state and label that accepts what is left of a kind of

@@ -13,5 +13,5 @@ mod trimming;
 mod union;
 mod watch;
 
-pub use laws::{trimmed_is_least, trimmed_is_one};
+pub use laws::{same_is_left_of_the_same, trimmed_is_least, trimmed_is_one};
 pub use trimming::trim_by;

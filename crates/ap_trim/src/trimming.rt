@@ -50,10 +50,10 @@ pub(crate) fn trimmed_section(alloc: Global, section: &Fst, bilingual: &Fst) -> 
 
 /// What of an analyser a bilingual dictionary can translate. An analysis stays where its right word
 /// holds a join or a queue, or where translation by the bilingual dictionary takes a prefix of it:
-/// one that holds its whole lemma and that upper and lower case fit as in bilingual lookup without
-/// regard to case. Each section of the result is the canonical transducer of the label strings that
-/// stay; the alphabet and the direction are the analyser's. The rule is this program's own. The
-/// error means want of memory.
+/// one that holds its whole lemma and that a left word fits as in bilingual lookup, where a small
+/// letter of the dictionary fits its capital too, and a capital itself alone. Each section of the
+/// result is the canonical transducer of the label strings that stay; the alphabet and the direction
+/// are the analyser's. The rule is this program's own. The error means want of memory.
 pub fn trim_by(alloc: Global, mono: &Compiled, bilingual: &Compiled) -> Result<Compiled, Memory>
     ensures { IfOk result (λ made. IsTrimmedBy mono.now bilingual.now made) }
 {
