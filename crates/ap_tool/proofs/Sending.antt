@@ -31,7 +31,7 @@ use Rattle.ap_tool.specs.Reading.{HasText, Flaw, TooLong, OfDictionary, OfCompil
 use Rattle.ap_tool.specs.Stream.{status_at, status_of_outcome, FlowsOrStops}
 use Rattle.ap_tool.specs.Compiling.{StoresOrStops}
 use Rattle.ap_tool.specs.Answer.{AllOpen, Reaches, IsUnloaded, IsRefusal, IsUntouched, IsRun, IsStreamAnswer, Opens}
-use Rattle.ap_tool.specs.Account.{IsFlawed, StreamsAll, StreamsToFault, GivesAll, GivesFault, OnAccepted, Reason, IsKeptBut, IsSpared}
+use Rattle.ap_tool.specs.Account.{IsFlawed, StreamsAll, StreamsToFault, GivesAll, GivesFault, FailsToStore, OnAccepted, Reason, IsKeptBut, IsSpared}
 use Rattle.ap_tool.proofs.Fitting.{streams-out, streams-stream, lists-out, stores-out}
 use Rattle.ap_tool.proofs.Flowing.{no-more, went-stage}
 
@@ -243,12 +243,8 @@ module _ (words : List (List ℕ)) (command : Command) (before after : Outside) 
     ]
     store-reason out making status g same (inr (inl s)) =
         because status (FileFault out) s.status_is (
-          inr (record {
-            file_is = stores-out command said out making g;
-            rose = s.rose;
-            held =
-                s.held;
-          }),
+          inr (accepted (λ given. FailsToStore words given out before.files after.files)
+              (Stores out making) g (refl, s.rose, s.held)),
           same,
           s.unwritten,
         )

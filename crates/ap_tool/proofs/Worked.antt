@@ -21,7 +21,7 @@ use Rattle.ap_tool.specs.Listing.{IsListed}
 use Rattle.ap_tool.specs.Reading.{Flaw, TooLong, OfDictionary, OfCompiled, OfRules}
 use Rattle.ap_tool.specs.Working.{built_in, run_words, work_run, before_work, work_lines, of_built_in, limit_place}
 use Rattle.ap_tool.specs.Answer.{AllOpen, Reaches, IsUnloaded, IsStreamAnswer, bytes_of, IsReported, IsWorked}
-use Rattle.ap_tool.specs.Account.{IsFlawed, IsBuiltInRow, IsTranslated, lines_at, StreamsAll, StreamsToFault, GivesAll, GivesFault, GivesFlaw, FlawReason, OnAccepted, Reason}
+use Rattle.ap_tool.specs.Account.{IsFlawed, IsBuiltInRow, IsTranslated, lines_at, StreamsAll, StreamsToFault, GivesAll, GivesFault, GivesFlaw, FailsToStore, FlawReason, OnAccepted, Reason}
 use Rattle.ap_tool.proofs.Fitting.{run-gives, works-out}
 use Rattle.ap_tool.proofs.Sending.{none-out, because, accepted, sent-reason}
 use Rattle.ap_tool.proofs.Told.{puts-none}
@@ -219,7 +219,8 @@ module _ (words : List (List ℕ)) (command : Command) (before after : Outside) 
     stopped-reason Usage n r e s = absurd r
     stopped-reason (FileFault file) n r e s = elim r.0 [
       | inl f ↦ absurd (never-unloaded (files_of work_run) inside.files file e f.reached)
-      | inr f ↦ absurd (let x : None ≡ Some file = f.file_is in cc)
+      | inr f ↦ absurd ((on-row sentences
+          (λ given. FailsToStore run_words given file built_in inside.files) f (λ x. x)).2)
     ]
     stopped-reason ReadFault n r e s =
         because words command before after status ReadFault s (all-given Failed refl r)
