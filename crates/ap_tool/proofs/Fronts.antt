@@ -21,7 +21,6 @@ use Rattle.ap_tool.specs.Listing.{IsListed}
 use Rattle.ap_tool.specs.Reading.{Flaw, TooLong, OfDictionary, OfCompiled, OfRules, status_of_flaw}
 use Rattle.ap_tool.specs.Stream.{Always, Flows, FlowsOrStops}
 use Rattle.ap_tool.specs.Compiling.{StoresOrStops}
-use Rattle.ap_pipe.specs.Standing.{Standing}
 use Rattle.ap_tool.specs.Working.{work_lines}
 use Rattle.ap_tool.specs.Answer.{IsRun, IsWorked, IsCommandAnswer, IsAnswer}
 use Rattle.ap_tool.specs.Account.{GivesFront, StoresWhole, StreamsFront, OnAccepted}
@@ -29,7 +28,7 @@ use Rattle.ap_tool.proofs.Listings.{take-front}
 use Rattle.ap_tool.proofs.Leaving.{same-outside, unloaded-or-same}
 use Rattle.ap_tool.proofs.Sending.{Refused, Unloaded, Flawed, Starved, refused-so}
 use Rattle.ap_tool.proofs.Reasons.{by-command}
-use Rattle.ap_tool.proofs.Worked.{Wrote, Stopped, went, never-write}
+use Rattle.ap_tool.proofs.Worked.{Wrote, went, never-write}
 
 -- a text that was put is a front of it
 whole-front : (old new : Option (List ℕ)) (text : List ℕ) → Puts old new text →

@@ -1,6 +1,5 @@
 -- What a run leaves as it was: for every command at once.
-use Rattle.std.proofs.Common.{◌≡◌, ℕ, zero, suc, ◌+◌, ◌≤◌, ◌==◌, ◌⊎◌, Bool, true, false, List, [], ◌∷◌, arith, sym, ap, ◌∙◌, refl, inl, inr, Ok, Err, Result}
-use Rattle.ap_stream.specs.Told.{Ending as TextEnding}
+use Rattle.std.proofs.Common.{◌≡◌, ℕ, zero, suc, ◌≤◌, ◌==◌, ◌⊎◌, Bool, true, false, List, [], ◌∷◌, arith, sym, ap, ◌∙◌, refl, inl, inr, Ok, Err, Result}
 use Rattle.ap_stream.specs.declared.fault.StreamFault.{StreamFault}
 use Rattle.ap_stream.specs.declared.fault.StreamFault.TheVariants as fault
 use Rattle.ap_pipe.specs.declared.round.Intake.{Intake}
@@ -23,7 +22,7 @@ use Rattle.ap_tool.specs.Listing.{IsListed}
 use Rattle.ap_tool.specs.Reading.{Flaw, TooLong, OfDictionary, OfCompiled, OfRules, status_of_flaw}
 use Rattle.ap_tool.specs.Stream.{status_at, status_of_outcome, FlowsOrStops}
 use Rattle.ap_tool.specs.Compiling.{StoresOrStops}
-use Rattle.ap_tool.specs.Answer.{Reaches, IsRefusal, IsRun, IsWorked, IsCommandAnswer, IsAnswerTo, IsAnswer}
+use Rattle.ap_tool.specs.Answer.{Reaches, IsRefusal, IsRun, IsCommandAnswer, IsAnswerTo, IsAnswer}
 use Rattle.ap_tool.specs.Account.{HasSameFaults}
 use Rattle.ap_tool.proofs.Flowing.{went-stage}
 use Rattle.ap_tool.proofs.Worked.{went}
