@@ -21,14 +21,14 @@ use Rattle.ap_tool.specs.Listing.{IsListed}
 use Rattle.ap_tool.specs.Reading.{Flaw, TooLong, OfDictionary, OfCompiled, OfRules, status_of_flaw}
 use Rattle.ap_tool.specs.Stream.{Always, Flows, FlowsOrStops}
 use Rattle.ap_tool.specs.Compiling.{StoresOrStops}
-use Rattle.ap_pipe.specs.Standing.{Standing}
 use Rattle.ap_tool.specs.Working.{work_lines}
 use Rattle.ap_tool.specs.Answer.{IsRun, IsWorked, IsCommandAnswer, IsAnswer}
 use Rattle.ap_tool.specs.Account.{GivesFront, StoresWhole, StreamsFront, OnAccepted}
 use Rattle.ap_tool.proofs.Listings.{take-front}
+use Rattle.ap_tool.proofs.Leaving.{same-outside, unloaded-or-same}
 use Rattle.ap_tool.proofs.Sending.{Refused, Unloaded, Flawed, Starved, refused-so}
 use Rattle.ap_tool.proofs.Reasons.{by-command}
-use Rattle.ap_tool.proofs.Worked.{Wrote, Stopped, went, never-write}
+use Rattle.ap_tool.proofs.Worked.{Wrote, went, never-write}
 
 -- a text that was put is a front of it
 whole-front : (old new : Option (List ℕ)) (text : List ℕ) → Puts old new text →
@@ -182,9 +182,10 @@ module _ (words : List (List ℕ)) (command : Command) (before after : Outside) 
 
   -- where memory ran out
   store-starved : (out : ℕ) (making : Making) (status : Status) → status ≡ Memory →
+      after.source ≡ before.source →
       StoresOrStops making out (name_at words out) before.files after.files before.sink after.sink
-      status → (after.sink ≡ before.sink) ⊎ GivesFront (Stores out making) before after
-  store-starved out making status e (inl s) = elim s.summed [
+      status → (after ≡ before) ⊎ GivesFront (Stores out making) before after
+  store-starved out making status e f (inl s) = elim s.summed [
     | inl w ↦ inr (
       s.made,
       s.stored.is_made,
@@ -192,44 +193,51 @@ module _ (words : List (List ℕ)) (command : Command) (before after : Outside) 
     )
     | inr w ↦ inr (s.made, s.stored.is_made, w.0.put)
   ]
-  store-starved out making status e (inr (inl s)) = inl s.unwritten
-  store-starved out making status e (inr (inr m)) = inl m.unwritten
+  store-starved out making status e f (inr (inl s)) =
+      absurd (let x : Memory ≡ FileFault out = sym e ∙ s.status_is in cc)
+  store-starved out making status e f (inr (inr m)) =
+      inl (same-outside before after m.unstored f m.unwritten)
 
-  stream-starved : (stages : List Stage) (status : Status) →
+  stream-starved : (stages : List Stage) (status : Status) → after.files ≡ before.files →
       FlowsOrStops stages before.source after.source before.sink after.sink status →
-      (after.sink ≡ before.sink) ⊎ StreamsFront stages before after
-  stream-starved stages status (inl f) = inr (stream-front stages status f)
-  stream-starved stages status (inr u) = inl u.unwritten
+      (after ≡ before) ⊎ StreamsFront stages before after
+  stream-starved stages status e (inl f) = inr (stream-front stages status f)
+  stream-starved stages status e (inr u) =
+      inl (same-outside before after e u.untaken u.unwritten)
 
-  work-starved : (sentences : ℕ) (status : Status) →
-      IsWorked sentences before.sink after.sink status →
-      (after.sink ≡ before.sink) ⊎ GivesFront (Works sentences) before after
-  work-starved sentences status w = elim (went sentences before.sink after.sink status w) [
+  work-starved : (sentences : ℕ) (status : Status) → after.files ≡ before.files →
+      after.source ≡ before.source → IsWorked sentences before.sink after.sink status →
+      (after ≡ before) ⊎ GivesFront (Works sentences) before after
+  work-starved sentences status e f w = elim (went sentences before.sink after.sink status w) [
     | inl o ↦ inr (wrote-front sentences status o)
-    | inr s ↦ inl s.same
+    | inr s ↦ inl (same-outside before after e f s.same)
   ]
 
   run-starved : (g : Gives) (status : Status) → status ≡ Memory → IsRun words g before after status
-      → (after.sink ≡ before.sink) ⊎ GivesFront g before after
-  run-starved (Streams stages) status e r = stream-starved stages status r.1
+      → (after ≡ before) ⊎ GivesFront g before after
+  run-starved (Streams stages) status e r = stream-starved stages status r.0 r.1
   run-starved (Lists text) status e r = inr (list-front text status r.2)
-  run-starved (Stores out making) status e r = store-starved out making status e r.1
-  run-starved (Works sentences) status e r = work-starved sentences status r.2
+  run-starved (Stores out making) status e r = store-starved out making status e r.0 r.1
+  run-starved (Works sentences) status e r = work-starved sentences status r.0 r.1 r.2
   run-starved Nothing status e r = absurd r
 
   abbrev Starves : Type 0
-  Starves = (after.sink ≡ before.sink)
+  Starves = (after ≡ before)
       ⊎ OnAccepted words command before (λ given. GivesFront given before after)
 
   answer-starved : (status : Status) → status ≡ Memory →
       IsCommandAnswer words before after status command → Starves
-  answer-starved status e (inl r) = inl r.untouched.sink
+  answer-starved status e (inl r) =
+      elim (unloaded-or-same words before.files after.files (files_of command) status r.refused) [
+        | inl same ↦ inl (same-outside before after same r.untouched.source r.untouched.sink)
+        | inr f ↦ absurd (let x : Memory ≡ FileFault f.0 = sym e ∙ f.1 in cc)
+      ]
   answer-starved status e (inr (inl p)) =
       elim (run-starved (gives_of command p.said) status e p.ran) [
         | inl same ↦ inl same
         | inr front ↦ inr (record { said = p.said; opened = p.opened; given = front })
       ]
-  answer-starved status e (inr (inr i)) = inl (ap (λ (x : Outside). x.sink) i.same)
+  answer-starved status e (inr (inr i)) = inl i.same
 
 abbrev IsBroken : List (List ℕ) → Command → Outside → Outside → Type 0
 IsBroken words command before after =
@@ -257,8 +265,7 @@ stored-from words before after status a command c e =
 
 pub starved-from : (words : List (List ℕ)) (before after : Outside) (status : Status) →
     IsAnswer words before after status → (command : Command) → command_of words ≡ Ok command →
-    status ≡ Memory
-    → (after.sink ≡ before.sink)
+    status ≡ Memory → (after ≡ before)
     ⊎ OnAccepted words command before (λ given. GivesFront given before after)
 starved-from words before after status a command c e =
     answer-starved words command before after status e

@@ -1,22 +1,17 @@
 -- Why a command answers as it does: a file is refused, or what is read goes through its row, or is
 -- listed or stored.
-use Rattle.std.proofs.Common.{◌≡◌, ◌≢◌, ℕ, zero, suc, ◌≤◌, true, false, List, [], ◌∷◌, arith, subst, sym, ap, ◌∙◌, refl, inl, inr, Option, Some, None, Result, Ok, Err, append-nil}
-use Rattle.std.specs.Prelude.{◌↔◌}
-use Rattle.ap_outside.specs.Told.{StoresSome}
-use Rattle.ap_stream.specs.Told.{Ending as TextEnding}
+use Rattle.std.proofs.Common.{◌≡◌, ◌≢◌, ℕ, zero, suc, ◌≤◌, List, [], ◌∷◌, arith, subst, sym, ap, ◌∙◌, refl, inl, inr, Option, Some, None, append-nil}
 use Rattle.ap_stream.specs.declared.fault.StreamFault.{StreamFault}
 use Rattle.ap_stream.specs.declared.fault.StreamFault.TheVariants as fault
 use Rattle.ap_tool.specs.Said.{Said}
 use Rattle.ap_tool.specs.declared.reading.Reading.{Reading}
 use Rattle.ap_tool.specs.declared.status.Status.{Status}
-use Rattle.ap_tool.specs.declared.status.Status.TheVariants.{Done, Usage, FileFault, ReadFault, WriteFault, Memory}
+use Rattle.ap_tool.specs.declared.status.Status.TheVariants.{Done, FileFault, ReadFault, WriteFault, Memory}
 use Rattle.ap_pipe.specs.declared.round.Intake.{Intake}
 use Rattle.ap_pipe.specs.declared.round.Intake.TheVariants.{Clean, Failed, TooLong as TooMuch}
 use Rattle.ap_tool.specs.declared.words.Command.{Command}
-use Rattle.ap_tool.specs.declared.words.UsageFault.{UsageFault}
-use Rattle.ap_tool.specs.Words.{command_of, files_of, out_of, has_stream, usage}
+use Rattle.ap_tool.specs.Words.{files_of, out_of}
 use Rattle.ap_tool.specs.Messages.{name_at}
-use Rattle.ap_pipe.specs.Standing.{Standing}
 use Rattle.ap_tool.specs.Standing.{PutsAll}
 use Rattle.ap_tool.specs.Outside.{FilesStanding, Outside}
 use Rattle.ap_pipe.specs.declared.round.Outcome.{Outcome}
@@ -25,14 +20,14 @@ use Rattle.ap_pipe.specs.Row.{RowTold, meaning}
 use Rattle.ap_pipe.specs.Answers.{ending_of as text_ending, outcome_fault}
 use Rattle.ap_pipe.specs.Flow.{IsTaken, WentThrough, Came}
 use Rattle.ap_tool.specs.Rows.{Stage, Meaning, AreMeanings}
-use Rattle.ap_tool.specs.Gives.{Gives, Streams, Lists, Stores, Nothing, gives_of, Making}
+use Rattle.ap_tool.specs.Gives.{Gives, Streams, Lists, Stores, gives_of, Making}
 use Rattle.ap_tool.specs.Listing.{IsListed}
 use Rattle.ap_tool.specs.Reading.{HasText, Flaw, TooLong, OfDictionary, OfCompiled, OfRules, status_of_flaw, IsFlawOf}
 use Rattle.ap_tool.specs.Stream.{status_at, status_of_outcome, FlowsOrStops}
 use Rattle.ap_tool.specs.Compiling.{StoresOrStops}
-use Rattle.ap_tool.specs.Answer.{AllOpen, Reaches, IsUnloaded, IsRefusal, IsUntouched, IsRun, IsStreamAnswer, Opens}
-use Rattle.ap_tool.specs.Account.{IsFlawed, StreamsAll, StreamsToFault, GivesAll, GivesFault, OnAccepted, Reason, IsKeptBut, IsSpared}
-use Rattle.ap_tool.proofs.Fitting.{streams-out, streams-stream, lists-out, stores-out}
+use Rattle.ap_tool.specs.Answer.{AllOpen, Reaches, IsUnloaded, IsRefusal, IsUntouched, IsStreamAnswer, Opens}
+use Rattle.ap_tool.specs.Account.{IsFlawed, StreamsAll, StreamsToFault, GivesAll, GivesFault, FailsToStore, OnAccepted, Reason}
+use Rattle.ap_tool.proofs.Fitting.{streams-out, lists-out}
 use Rattle.ap_tool.proofs.Flowing.{no-more, went-stage}
 
 pub none-out : {A : Type 0} (o : Option ℕ) (out : ℕ) → o ≡ None → o ≡ Some out → A
@@ -243,12 +238,8 @@ module _ (words : List (List ℕ)) (command : Command) (before after : Outside) 
     ]
     store-reason out making status g same (inr (inl s)) =
         because status (FileFault out) s.status_is (
-          inr (record {
-            file_is = stores-out command said out making g;
-            rose = s.rose;
-            held =
-                s.held;
-          }),
+          inr (accepted (λ given. FailsToStore words given out before.files after.files)
+              (Stores out making) g (refl, s.rose, s.held)),
           same,
           s.unwritten,
         )

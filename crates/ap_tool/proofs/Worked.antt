@@ -1,10 +1,7 @@
 -- Why `work` answers as it does: by the answer of the translation that it runs.
-use Rattle.std.proofs.Common.{◌≡◌, ℕ, zero, suc, List, [], ◌∷◌, ◌++◌, arith, subst, sym, ap, ◌∙◌, refl, inl, inr, ◌⊎◌, Option, Some, None, length, take}
-use Rattle.std.proofs.lemmas.List.{take_all}
+use Rattle.std.proofs.Common.{◌≡◌, ℕ, zero, suc, List, [], ◌∷◌, arith, subst, sym, ap, ◌∙◌, refl, inl, inr, ◌⊎◌, Option, Some}
 use Rattle.ap_outside.specs.Causes.{Rose}
-use Rattle.ap_outside.specs.Told.{Puts, PutsFront}
 use Rattle.ap_pipe.specs.Standing.{Standing}
-use Rattle.ap_pipe.specs.declared.TheConstants.{INPUT_MAX}
 use Rattle.ap_pipe.specs.declared.round.Intake.{Intake}
 use Rattle.ap_pipe.specs.declared.round.Intake.TheVariants.{Clean, Failed, TooLong as TooMuch}
 use Rattle.ap_tool.specs.Said.{Said}
@@ -16,12 +13,12 @@ use Rattle.ap_tool.specs.Words.{files_of, out_of, room_lem}
 use Rattle.ap_tool.specs.Standing.{PutsAll}
 use Rattle.ap_tool.specs.Outside.{FilesStanding, Outside}
 use Rattle.ap_tool.specs.Rows.{Stage}
-use Rattle.ap_tool.specs.Gives.{Gives, Streams, Lists, Stores, Works, Nothing, gives_of}
+use Rattle.ap_tool.specs.Gives.{Gives, Streams, Works, Nothing, gives_of}
 use Rattle.ap_tool.specs.Listing.{IsListed}
 use Rattle.ap_tool.specs.Reading.{Flaw, TooLong, OfDictionary, OfCompiled, OfRules}
 use Rattle.ap_tool.specs.Working.{built_in, run_words, work_run, before_work, work_lines, of_built_in, limit_place}
-use Rattle.ap_tool.specs.Answer.{AllOpen, Reaches, IsUnloaded, IsStreamAnswer, bytes_of, IsReported, IsWorked}
-use Rattle.ap_tool.specs.Account.{IsFlawed, IsBuiltInRow, IsTranslated, lines_at, StreamsAll, StreamsToFault, GivesAll, GivesFault, GivesFlaw, FlawReason, OnAccepted, Reason}
+use Rattle.ap_tool.specs.Answer.{AllOpen, Reaches, IsUnloaded, bytes_of, IsReported, IsWorked}
+use Rattle.ap_tool.specs.Account.{IsFlawed, IsBuiltInRow, IsTranslated, lines_at, GivesAll, GivesFault, GivesFlaw, FailsToStore, FlawReason, OnAccepted, Reason}
 use Rattle.ap_tool.proofs.Fitting.{run-gives, works-out}
 use Rattle.ap_tool.proofs.Sending.{none-out, because, accepted, sent-reason}
 use Rattle.ap_tool.proofs.Told.{puts-none}
@@ -219,7 +216,8 @@ module _ (words : List (List ℕ)) (command : Command) (before after : Outside) 
     stopped-reason Usage n r e s = absurd r
     stopped-reason (FileFault file) n r e s = elim r.0 [
       | inl f ↦ absurd (never-unloaded (files_of work_run) inside.files file e f.reached)
-      | inr f ↦ absurd (let x : None ≡ Some file = f.file_is in cc)
+      | inr f ↦ absurd ((on-row sentences
+          (λ given. FailsToStore run_words given file built_in inside.files) f (λ x. x)).2)
     ]
     stopped-reason ReadFault n r e s =
         because words command before after status ReadFault s (all-given Failed refl r)
