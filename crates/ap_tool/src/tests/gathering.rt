@@ -39,10 +39,10 @@ impl Source for Watching<'_> {
 
 /// A sink that counts the bytes put, or fails.
 #[derive(Drop)]
-struct Counting<'a> {
-    put: &'a Cell<usize>,
-    fails: bool,
-    faults: u64,
+pub(super) struct Counting<'a> {
+    pub(super) put: &'a Cell<usize>,
+    pub(super) fails: bool,
+    pub(super) faults: u64,
 }
 
 impl Sink for Counting<'_> {
