@@ -1,10 +1,12 @@
-ghost use Rattle.std.specs.Prelude.{◌≡◌, ◌-◌, ◌∷◌, ◌++◌, ◌⊎◌, ◌≤◌, [], List, length, take, true, IsTrue, IfOk, slice_get};
+ghost use Rattle.std.specs.Prelude.{◌≡◌, ◌-◌, ◌∷◌, ◌++◌, ◌⊎◌, ◌↔◌, ◌≤◌, [], List, length, take, true, IsTrue, IfOk, slice_get};
 ghost use Rattle.std.specs.List.{list_all};
 ghost use Rattle.std.specs.Option.{option_copied};
 ghost use Rattle.ap_dix.specs.Derivation.{Label as EntryLabel, Derives};
 ghost use Rattle.ap_dix.specs.Soundness.{is_sound_entry, is_sound_part};
 ghost use Rattle.ap_dix.specs.declared.dictionary.Dictionary.{Dictionary as Lexicon};
 ghost use Rattle.ap_dix.specs.declared.dictionary.EntryPart.{EntryPart as LexiconPart};
+ghost use Rattle.ap_fst.specs.Paths.{Accepts, IsEither};
+ghost use Rattle.ap_fst.specs.declared.label.Label.{Label};
 ghost use Rattle.ap_compile.specs.Drafts.{IsCut, IsDraftOf, Any, Spells, AreDrafts};
 ghost use Rattle.ap_compile.specs.Gatherings.{Tells, IsGrown, endings, shared, Gathers, IsPlainDraft, IsPlainGathering, IsGatheringOf, AreSoundParts, SpellsFrom};
 
@@ -16,11 +18,12 @@ use ap_symbol::{Memory, Word, one_rendering};
 use std::alloc::Global;
 
 /// A part that entries share at their end, and the draft of what stands before it in those that are
-/// gathered.
+/// gathered. A level in which no entry is gathered yet is new.
 #[derive(Drop)]
 struct Level<'a> {
     ending: &'a EntryPart,
     fronts: Draft,
+    is_new: bool,
 }
 
 /// Entries that are gathered by the parts that they end with: the draft of those that are done
@@ -85,6 +88,19 @@ fn agreed(levels: &[Level<'_>], parts: &[EntryPart]) -> usize
     levels.len()
 }
 
+/// Accepts the strings of both. Into a new level's draft, which has no moves, the other is not
+/// copied: it takes that one's place.
+fn with_fronts(fronts: Draft, more: Draft, is_new: bool) -> Result<Draft, Memory>
+    ensures { IfOk result (λ made. (w : List Label) → Accepts made w ↔ IsEither fronts more w) }
+{
+    if is_new {
+        let made = more.either(fronts)?;
+        return Ok(made);
+    }
+    let made = fronts.either(more)?;
+    Ok(made)
+}
+
 /// Labels more, before the shared parts of the innermost level; where there is no level, among
 /// those that are done with.
 fn with_more<'a>(gathering: Gathering<'a>, more: Draft) -> Result<Gathering<'a>, Memory>
@@ -95,9 +111,17 @@ fn with_more<'a>(gathering: Gathering<'a>, more: Draft) -> Result<Gathering<'a>,
         let made = made.either(more)?;
         return Ok(Gathering { made, levels });
     };
-    let Level { ending, fronts } = level;
-    let fronts = fronts.either(more)?;
-    levels.push(Level { ending, fronts })?;
+    let Level {
+        ending,
+        fronts,
+        is_new,
+    } = level;
+    let fronts = with_fronts(fronts, more, is_new)?;
+    levels.push(Level {
+        ending,
+        fronts,
+        is_new: false,
+    })?;
     Ok(Gathering { made, levels })
 }
 
@@ -114,7 +138,11 @@ fn closed(
         IsDraftOf (IsCut (Tells level.entry.fronts)
         (Derives d direction (level.entry.ending.now ∷ []))) made) }
 {
-    let Level { ending, fronts } = level;
+    let Level {
+        ending,
+        fronts,
+        is_new: _,
+    } = level;
     let part = part_draft(alloc, direction, drafts, ending)?;
     let made = fronts.join(part)?;
     Ok(made)
@@ -181,7 +209,11 @@ fn with_level<'a>(
 {
     let Gathering { made, mut levels } = gathering;
     let fronts = Draft::nothing(alloc)?;
-    levels.push(Level { ending, fronts })?;
+    levels.push(Level {
+        ending,
+        fronts,
+        is_new: true,
+    })?;
     Ok(Gathering { made, levels })
 }
 
