@@ -3,7 +3,7 @@
 #![tactic(auto)]
 
 use ap_outside::{DiskFiles, StdSink, StdSource, words_of};
-use ap_tool::{Status, apertium, message};
+use ap_tool::{Status, apertium, exit_code, message};
 use std::process::ExitCode;
 use std::{env, io};
 
@@ -12,7 +12,7 @@ fn main(rt: HostRuntime) -> ExitCode {
     let Ok(words) = words_of(rt.alloc(), env::args(&rt)) else {
         let status = Status::Memory;
         let _ = message(&status, &[], &mut err);
-        return status.code();
+        return exit_code(&status);
     };
     let mut files = DiskFiles::new(&rt);
     let mut source = StdSource::new(rt.reader());
@@ -25,5 +25,5 @@ fn main(rt: HostRuntime) -> ExitCode {
         &mut sink,
         &mut err,
     );
-    status.code()
+    exit_code(&status)
 }

@@ -1,4 +1,4 @@
-use crate::status::Status;
+use crate::Status;
 use crate::tests::rows::{NONE, Row, case, check_over, done, files_of};
 use std::alloc::Global;
 use std::process::Abort;

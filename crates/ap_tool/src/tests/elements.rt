@@ -1,6 +1,6 @@
 //! Rows in which every element and every attribute of rule files occurs: `bench/elements` lists
 //! those that don't.
-use crate::status::Status;
+use crate::Status;
 use crate::tests::rows::{NONE, Row, case, check_over, done, files_of};
 use std::alloc::Global;
 use std::process::Abort;

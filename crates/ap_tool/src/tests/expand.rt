@@ -1,4 +1,4 @@
-use crate::status::Status;
+use crate::Status;
 use crate::tests::rows::{NONE, case, check};
 use std::test::Fail;
 

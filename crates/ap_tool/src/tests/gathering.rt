@@ -1,8 +1,7 @@
 ghost use Rattle.std.specs.Prelude.{None};
 
-use crate::status::Status;
 use crate::tests::rows::{files_of, words_of};
-use crate::top::apertium;
+use crate::{Status, apertium};
 use ap_outside::{Failed, MemSink, MemSource, Sink, Source};
 use std::alloc::{AllocError, Global};
 use std::cell::Cell;

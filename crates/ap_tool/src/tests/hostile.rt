@@ -1,6 +1,5 @@
-use crate::status::Status;
 use crate::tests::rows::{E, NONE, case, check, files_of, words_of};
-use crate::top::apertium;
+use crate::{Status, apertium};
 use ap_outside::{MemFiles, MemSink, MemSource};
 use std::alloc::Global;
 use std::process::Abort;

@@ -1,6 +1,6 @@
 //! Files of a size or a shape that would take a slow reader hours: each is answered well within the
 //! time of a test.
-use crate::status::Status;
+use crate::Status;
 use crate::tests::hostile::{bad_dictionary, check_file};
 use std::alloc::Global;
 use std::test::Fail;

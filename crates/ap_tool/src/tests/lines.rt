@@ -1,11 +1,9 @@
 //! A line goes through as it comes: what was taken is answered before more is taken.
 ghost use Rattle.std.specs.Prelude.{None};
 
-use crate::made::WorkSource;
-use crate::status::Status;
 use crate::tests::gathering::Counting;
 use crate::tests::rows::{files_of, words_of};
-use crate::top::apertium;
+use crate::{Status, WorkSource, apertium};
 use ap_outside::{Failed, MemSink, MemSource, Sink, Source};
 use std::alloc::Global;
 use std::cell::Cell;

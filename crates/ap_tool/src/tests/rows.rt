@@ -1,5 +1,4 @@
-use crate::status::Status;
-use crate::top::apertium;
+use crate::{Status, apertium};
 use ap_outside::{MemFiles, MemSink, MemSource};
 use std::alloc::Global;
 use std::process::Abort;

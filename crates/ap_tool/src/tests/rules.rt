@@ -1,4 +1,4 @@
-use crate::status::Status;
+use crate::Status;
 use crate::tests::rows::{NONE, Row, case, check};
 use std::test::Fail;
 

@@ -1,4 +1,4 @@
-use crate::status::Status;
+use crate::Status;
 use crate::tests::rows::{NONE, case, check, done};
 use std::alloc::{AllocError, Global};
 use std::test::Fail;

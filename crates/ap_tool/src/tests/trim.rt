@@ -1,4 +1,4 @@
-use crate::status::Status;
+use crate::Status;
 use crate::tests::rows::{NONE, case, check_over, done, files_of};
 use std::test::Fail;
 

@@ -1,4 +1,4 @@
-use crate::made::WorkSource;
+use crate::WorkSource;
 use crate::tests::rows::{check, done};
 use ap_outside::Source;
 use std::test::Fail;

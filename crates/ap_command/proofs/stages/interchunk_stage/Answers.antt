@@ -1,0 +1,14 @@
+use Rattle.std.proofs.Common.{refl}
+use Rattle.ap_rules.specs.Views.{plain_rules}
+use Rattle.ap_chunk.specs.Stages.{interchunked_text}
+use Rattle.ap_command.specs.Rows.{Interchunks}
+use Rattle.ap_command.proofs.Flowing.{stage-by}
+use Rattle.ap_command.proofs.stages.interchunk_stage.Goals as goal
+
+pub returns-clause-stage : goal.returns-clause-stage
+returns-clause-stage c =
+    stage-by (Interchunks (plain_rules c.args.rules)) _ (interchunked_text c.args.rules)
+    c.in_ok-stage.ensures.rest (λ n e. (c.args.rules, refl, e))
+    (λ text none. c.sound_interchunk_keeps_superblanks.ensures c.args.rules text c.requires.0
+    c.requires.1 c.requires.2 none)
+    (c.interchunk_is_read.ensures c.args.rules c.requires.0 c.requires.1 c.requires.2)

@@ -1,0 +1,17 @@
+pub mod Words
+pub mod Said
+pub mod Standing
+pub mod Outside
+pub mod Statuses
+pub mod Messages
+pub mod Output
+pub mod Listing
+pub mod Reading
+pub mod Rows
+pub mod Gives
+pub mod BuiltInTexts
+pub mod Working
+pub mod Stream
+pub mod Compiling
+pub mod Answer
+pub mod Account

@@ -1,7 +1,0 @@
-use Rattle.std.proofs.Common.{ap, Some, ◌-◌, arith}
-use Rattle.ap_tool.proofs.Making.{all-made}
-use Rattle.ap_tool.proofs.made.WorkSource.new.Goals as goal
-
-pub returns-clause-left : goal.returns-clause-left
-returns-clause-left c =
-    ap Some (all-made c.args.sentences (c.args.sentences - 0) (omega arith))
