@@ -1,10 +1,9 @@
 -- States from which no cycle is reached, grouped from the ends inwards.
-use Rattle.std.proofs.Common.{◌≡◌, ℕ, ◌+◌, ◌<◌, ◌≤◌, zero, suc, List, [], ◌∷◌, ◌++◌, Some, length, get_or, set, take, refl, sym, ap, subst, ◌∙◌, arith, inl, inr, slice_get, All, option_map, cond, replicate}
-use Rattle.std.proofs.lemmas.Bool.{cases_lt, cases_eq}
+use Rattle.std.proofs.Common.{◌≡◌, ℕ, ◌+◌, ◌<◌, ◌≤◌, zero, suc, List, [], ◌∷◌, Some, length, get_or, set, take, refl, sym, ap, subst, ◌∙◌, arith, inl, inr, slice_get, All, option_map, cond, replicate}
+use Rattle.std.proofs.lemmas.Bool.{cases_eq}
 use Rattle.std.proofs.lemmas.Option.{none-some, same_Some, slice_get_within, slice_get-get_or}
 use Rattle.std.proofs.lemmas.List.{take_all, length_push, length-set, get_or-set_same, get_or-set_other, length-replicate}
 use Rattle.std.proofs.lemmas.List.Elements.{All-head, All-tail, All-weaker, All-nil, All-cons, All-more}
-use Rattle.ap_fst.specs.Lists.{IsIn}
 use Rattle.ap_fst.proofs.Listing.{in_from_place}
 use Rattle.ap_min.specs.declared.rows.Arc.{Arc}
 use Rattle.ap_min.specs.declared.rows.Row.{Row}
