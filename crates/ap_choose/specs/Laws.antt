@@ -44,7 +44,7 @@ IsChoice [] (one ∷ row) = ⊥
 IsChoice (unit ∷ units) [] = ⊥
 IsChoice (unit ∷ units) (one ∷ row) = IsOneOf one unit × IsChoice units row
 
--- compared as lists of numbers, the places of the one are those of the other or come before them
+-- the one has the places of the other, or the lesser place at the first unit where they differ
 abbrev pub IsNoLater : List Reading → List Reading → Type 0
 IsNoLater [] row = Unit {0}
 IsNoLater (one ∷ row) [] = ⊥
@@ -52,8 +52,7 @@ IsNoLater (one ∷ row) (other ∷ others) = (one.place < other.place)
     ⊎ ((one.place ≡ other.place) × IsNoLater row others)
 
 -- It is a choice without a forbidden pair, and no later than any other such choice; or there is
--- none, and it is the first
--- reading of each unit.
+-- none, and it is the first reading of each unit.
 abbrev pub IsLeast : List Pair → List (List Reading) → List Reading → Type 0
 IsLeast pairs units row =
     (IsChoice units row × (is_allowed (bars pairs) row ≡ true) × ((other : List Reading) →

@@ -17,11 +17,11 @@ use std::marker::Model;
 ///
 /// A sentence begins at a unit, and holds all items up to and including its first unit whose
 /// first reading holds the tag `sent`, its 1,000th unit, or the end, whichever comes first. Of
-/// the choices of one reading of each of its units those are allowed in which no first tags of
-/// two neighbours are a forbidden pair; a reading without a tag is in none. The first reading in
-/// which they differ decides which of the allowed choices is the least, and that one is written;
-/// where none is allowed, it is the first reading of every unit. A chosen reading that is empty
-/// isn't written. Any other item is copied.
+/// the choices of one reading of each of its units those are allowed in which no first tags of two
+/// neighbours are a forbidden pair; a reading without a tag is in none. Of two choices that one is
+/// the lesser which has the earlier reading at the first unit where they differ. The least of the
+/// allowed choices is written, and where none is allowed, the first reading of every unit. A chosen
+/// reading that is empty isn't written. Any other item is copied.
 ///
 /// A sentence of more than `SPAN_MAX` bytes is answered by the limit `SpanTooLong` at its first
 /// byte.

@@ -27,9 +27,9 @@ pub fn readings_are_words()
 {}
 
 /// The law that the choice of a sentence is the least: it is a choice of one reading of each unit
-/// without a forbidden pair, and its places, compared as lists of numbers, come no later than
-/// those of any other such choice; and where there is none, it is the first reading of each unit.
-/// It is a statement alone and does nothing.
+/// without a forbidden pair, and of any other such choice the first unit where the two differ has a
+/// later reading; and where there is none, it is the first reading of each unit. It is a statement
+/// alone and does nothing.
 pub fn the_least_choice_is_taken()
     ensures { LeastIsChosen }
 {}
