@@ -1,4 +1,5 @@
 use crate::tests::rows::{Row, check, check_over, done, files_of};
+use ap_outside::MemFiles;
 use std::test::Fail;
 
 /// Units with a form, with none, and such as aren't looked up.
@@ -91,6 +92,52 @@ fn compiled_files_are_looked_up(rt: HostRuntime) -> Result<(), Fail> {
         done("lt-proc -b OUT", "^can<n><sg>$", "^can<n><sg>/dog<n><sg>$"),
     ] {
         check_over(&rt, alloc, &mut files, &row, 7)?;
+    }
+    Ok(())
+}
+
+/// One word with twelve others, and twelve words with one.
+const MANY: &str =
+    "<dictionary>\n<alphabet>abcdefghijklm</alphabet>\n<section id=\"m\" type=\"standard\">\n<e><p><l>a</l><r>ab</r></p></e><e><p><l>a</l><r>ac</r></p></e><e><p><l>a</l><r>ad</r></p></e><e><p><l>a</l><r>ae</r></p></e><e><p><l>a</l><r>af</r></p></e><e><p><l>a</l><r>ag</r></p></e><e><p><l>a</l><r>ah</r></p></e><e><p><l>a</l><r>ai</r></p></e><e><p><l>a</l><r>aj</r></p></e><e><p><l>a</l><r>ak</r></p></e><e><p><l>a</l><r>al</r></p></e><e><p><l>a</l><r>am</r></p></e>\n</section>\n</dictionary>\n";
+
+const FORMS: &str =
+    "<dictionary>\n<alphabet>abcdefghijklm</alphabet>\n<section id=\"m\" type=\"standard\">\n<e><p><l>ab</l><r>a</r></p></e><e><p><l>ac</l><r>a</r></p></e><e><p><l>ad</l><r>a</r></p></e><e><p><l>ae</l><r>a</r></p></e><e><p><l>af</l><r>a</r></p></e><e><p><l>ag</l><r>a</r></p></e><e><p><l>ah</l><r>a</r></p></e><e><p><l>ai</l><r>a</r></p></e><e><p><l>aj</l><r>a</r></p></e><e><p><l>ak</l><r>a</r></p></e><e><p><l>al</l><r>a</r></p></e><e><p><l>am</l><r>a</r></p></e>\n</section>\n</dictionary>\n";
+
+#[test]
+fn words_with_many_others_get_each(rt: HostRuntime) -> Result<(), Fail> {
+    let alloc = rt.alloc();
+    for (name, text, row) in [
+        (
+            "MANY",
+            MANY,
+            done(
+                "lt-proc -a MANY",
+                "a",
+                "^a/ab/ac/ad/ae/af/ag/ah/ai/aj/ak/al/am$",
+            ),
+        ),
+        (
+            "MANY",
+            MANY,
+            done(
+                "lt-proc -b MANY",
+                "^a$",
+                "^a/ab/ac/ad/ae/af/ag/ah/ai/aj/ak/al/am$",
+            ),
+        ),
+        (
+            "FORMS",
+            FORMS,
+            done(
+                "lt-proc -g FORMS",
+                "^a$",
+                "ab/ac/ad/ae/af/ag/ah/ai/aj/ak/al/am",
+            ),
+        ),
+    ] {
+        let mut files = MemFiles::new(alloc, Vec::new(alloc));
+        files.add(name, text.as_bytes())?;
+        check_over(&rt, alloc, &mut files, &row, 3)?;
     }
     Ok(())
 }
