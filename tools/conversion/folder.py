@@ -19,7 +19,7 @@ NO_COUNTERPART = {
 }
 OTHER_MODES = "lmostx"
 MARKS = {"automorf": ("", "+#"), "autobil": ("+#", "+#"), "autogen": ("+#", "~"),
-         "autopgen": ("~", "")}
+         "autopgen": ("~", "~")}
 
 
 class Fault(Exception):
@@ -34,7 +34,7 @@ class Folder:
         says that lttoolbox's compiler is used."""
         self.folder, self.out, self.mode = folder, out, mode
         self.variant, self.program, self.peer = variant, program, peer
-        self.sound, self.bilingual = True, None
+        self.sound, self.bilingual, self.again = True, None, False
         self.made_file = os.path.join(out, "made.xml")
         if os.path.exists(self.made_file):
             os.remove(self.made_file)
@@ -77,6 +77,9 @@ class Folder:
         if mode == "b":
             self.bilingual = path
             return None
+        if mode == "p" and wakes(path):
+            self.again = True
+            self.tell(f"{os.path.basename(path)} writes ~ again: it is run twice")
         command = ["compound"] if "e" in letters else ["lt-proc", "-" + mode]
         return command + (["-c"] if "c" in letters else []) + [path]
 
@@ -181,6 +184,8 @@ class Folder:
 
     def script(self, row):
         """Writes the script that translates by the row of commands, and gives its path."""
+        if self.again:
+            row = [each for command in row for each in [command] * (1 + ("-p" in command))]
         kinds = [command[0] for command in row]
         whole = ["lt-proc", "first", "pretransfer", "transfer", "interchunk", "postchunk",
                  "lt-proc"]
@@ -203,6 +208,16 @@ class Folder:
         with open(path, "w", encoding="utf-8") as file:
             file.write("<dictionary></dictionary>\n")
         return path
+
+
+def wakes(path):
+    """Whether a dictionary of post-generation, compiled or not, writes an alarm, which wakes
+    post-generation again."""
+    with open(path, encoding="utf-8") as file:
+        text = file.read()
+    if text.startswith("LTC"):
+        return re.search(r"^\d+ \S+ A \d+$", text, re.MULTILINE) is not None
+    return re.search(r"<(r|i)>[^/]*(<b/>[^/]*)*<a/>", text) is not None
 
 
 def script_text(mode, program, commands):
