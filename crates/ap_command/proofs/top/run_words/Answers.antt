@@ -7,7 +7,7 @@ use Rattle.ap_command.proofs.Reasons.{usage-from, reason-from, calm-from, spared
 use Rattle.ap_command.proofs.Behind.{behind-from}
 use Rattle.ap_command.proofs.Fronts.{broken-from, stored-from, starved-from}
 use Rattle.ap_command.proofs.Kept.{superblanks-from}
-use Rattle.ap_command.proofs.top.apertium.Goals as goal
+use Rattle.ap_command.proofs.top.run_words.Goals as goal
 
 pub returns-clause-account : goal.returns-clause-account
 returns-clause-account g c =
