@@ -84,7 +84,7 @@ one-misfit (Either way) (Sections s) e f p q = p.1 ∙ sym q.1
 one-misfit Chunking (Rules r) e f p q = p.1 ∙ sym q.1
 one-misfit manner content e f p q = absurd p
 
-says-one : Laws → (manner : Manner) (text : List ℕ) (c d : Said) → IsAccepted manner text c →
+pub says-one : Laws → (manner : Manner) (text : List ℕ) (c d : Said) → IsAccepted manner text c →
     IsAccepted manner text d → c ≡ d
 says-one laws manner text c d p q =
     laws.one (notation_of manner text) text c d p.says.spelled q.says.spelled
@@ -128,7 +128,7 @@ one-flaw-in laws manner text e f (inr p) (inl q) =
     in omega arith)
 one-flaw-in laws manner text e f (inr p) (inr q) = one-fault-of laws manner text e f p.1 q.1
 
-one-flaw-of : Laws → (manner : Manner) (text : List ℕ) (e f : Flaw) → IsFlawOf manner text e →
+pub one-flaw-of : Laws → (manner : Manner) (text : List ℕ) (e f : Flaw) → IsFlawOf manner text e →
     IsFlawOf manner text f → e ≡ f
 one-flaw-of laws manner text e f p q =
     one-flaw-in laws manner text e f (flaw-in manner text e p) (flaw-in manner text f q)
@@ -148,7 +148,7 @@ no-flaw-in laws manner text c f a (inl p) = let s : length text ≤ file_max = a
     let l : file_max < length text = p.1 in omega arith
 no-flaw-in laws manner text c f a (inr p) = no-fault-of laws manner text c f a p.1
 
-no-flaw-of : Laws → (manner : Manner) (text : List ℕ) (c : Said) (f : Flaw) →
+pub no-flaw-of : Laws → (manner : Manner) (text : List ℕ) (c : Said) (f : Flaw) →
     IsAccepted manner text c → IsFlawOf manner text f → ⊥
 no-flaw-of laws manner text c f a p = no-flaw-in laws manner text c f a (flaw-in manner text f p)
 

@@ -15,3 +15,4 @@ pub mod Stream
 pub mod Compiling
 pub mod Answer
 pub mod Account
+pub mod Trims

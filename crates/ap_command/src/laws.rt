@@ -24,7 +24,8 @@ ghost use Rattle.ap_command.specs.Rows.{Stage, ByFile, Meaning, IsMeaning, AreMe
 ghost use Rattle.ap_command.specs.Reading.{made_way, Notation, Flaw, SpellsAs, IsFlawAs};
 ghost use Rattle.ap_command.specs.Words.{way_of};
 ghost use Rattle.ap_pipe.specs.declared.round.Intake.{Intake};
-ghost use Rattle.ap_command.specs.Gives.{Streams, Stores, Compiles, Trims};
+ghost use Rattle.ap_command.specs.Gives.{Streams, Stores, Compiles, Trims, Works};
+ghost use Rattle.ap_command.specs.Trims.{SayOneAnalyser, SayOneRelation, IsLeastLeftOf};
 ghost use Rattle.ap_command.specs.Account.{Outcome, IsOutcome, stored_outcome};
 
 use ap_analysis::{analysis_is_read, analysis_keeps_superblanks};
@@ -35,7 +36,7 @@ use ap_lookup::{
     bilingual_is_read, bilingual_keeps_superblanks, generation_is_read,
     generation_keeps_superblanks, post_generation_is_read, post_generation_keeps_superblanks,
 };
-use ap_trim::trimmed_is_one;
+use ap_trim::{same_is_left_of_the_same, trimmed_is_least, trimmed_is_one};
 
 /// A text spells one dictionary at most, by the grammar, or has one first fault, and not both.
 fn one_dictionary()
@@ -185,4 +186,32 @@ pub fn one_stored_outcome()
     same_strings_same_compiled();
     compiled_is_least();
     trimmed_is_one();
+}
+
+/// What `trim` stores and writes is one outcome for all files that say the same: analysers with the
+/// same label strings in each kind of section, whose alphabets have one closure under case partners
+/// and which tell one direction, and bilingual dictionaries that relate the same words, be they
+/// compiled or not. And no transducer with at most one edge per state and label that accepts what is
+/// left of a kind of section has fewer states than are stored.
+pub fn one_trimmed_outcome()
+    ensures same { (mono other bilingual second : Said) (out : ℕ) (input : List ℕ) (ending : Intake)
+        (a b : Outcome) → SayOneAnalyser mono other → SayOneRelation bilingual second →
+        IsOutcome (Stores out (Trims mono bilingual)) input ending a →
+        IsOutcome (Stores out (Trims other second)) input ending b → a ≡ b }
+    ensures least { (mono bilingual : Said) (out : ℕ) (input : List ℕ) (ending : Intake)
+        (o : Outcome) → IsOutcome (Stores out (Trims mono bilingual)) input ending o →
+        (made : Parts) × IsLeastLeftOf mono bilingual made × (o ≡ stored_outcome out made) }
+{
+    same_is_left_of_the_same();
+    trimmed_is_least();
+}
+
+/// What `work` gives for so many sentences is one outcome.
+pub fn one_work_outcome()
+    ensures { (sentences : ℕ) (input : List ℕ) (ending : Intake) (a b : Outcome) →
+        IsOutcome (Works sentences) input ending a →
+        IsOutcome (Works sentences) input ending b → a ≡ b }
+{
+    one_reading();
+    one_meaning();
 }

@@ -22,7 +22,7 @@ mod working;
 
 pub use laws::{
     dictionary_has_its_lexicon, modes_are_read, modes_keep_superblanks, one_meaning, one_outcome,
-    one_reading, one_stored_outcome, some_meaning,
+    one_reading, one_stored_outcome, one_trimmed_outcome, one_work_outcome, some_meaning,
 };
 pub use made::{WORK_MAX, WorkSource};
 pub use messages::message;
