@@ -4,7 +4,8 @@
 //! It may stand in the place of `first`, as a small tagger by rules: a file says which two tags
 //! never stand in a row. A sentence ends with its first unit whose first reading holds the tag
 //! `sent`, with its 1,000th unit, or with the text. Of all choices of one reading of each of its
-//! units the least without a forbidden pair is written, by the places of its readings.
+//! units the least without a forbidden pair is written: that with the earlier reading at the first
+//! unit where two differ.
 //!
 //! ```text
 //! # a comment; an empty line says nothing either
@@ -24,10 +25,10 @@
 //!
 //! - A text is read as forbidden pairs exactly where each line has a form, as the pairs that it
 //!   says, and is refused exactly at its first line without one (`read_pairs`).
-//! - The choice of a sentence is the least: a choice without a forbidden pair, whose places,
-//!   compared as lists of numbers, come no later than those of any other such choice; and where
-//!   there is none, the first reading of each unit (`the_least_choice_is_taken`). This holds for
-//!   every cut, with the limit on a sentence (`Choose`).
+//! - The choice of a sentence is the least: it has no forbidden pair, and of any other such choice
+//!   the first unit where the two differ has a later reading; and where there is none, it is the
+//!   first reading of each unit (`the_least_choice_is_taken`). This holds for every cut, with the
+//!   limit on a sentence (`Choose`).
 //! - Without pairs `choose` writes what `first` writes, where neither has a fault
 //!   (`without_pairs_the_first_readings`).
 //! - A reading can be the word of a lexical unit, where it isn't empty (`readings_are_words`).
