@@ -1,5 +1,71 @@
 //! The stream between the stages: its items, a reader for each dialect, pipes, and stages over
 //! bytes.
+//!
+//! A text of the stream comes in pieces of any size, and what a stage writes must not depend on
+//! where it was cut. That is proved here once, for every tool: a tool states what it gives for a
+//! list of whole items, as a `Handler`, and `Staged` does everything with bytes. docs/HANDLERS.md
+//! says how a handler is made.
+//!
+//! ```text
+//! text     saw [<b>]^it/it<prn>$.        dialect Analysed
+//! items    s  a  w  blank  unit  .       the blank is ` [<b>]`: white space and superblanks
+//! bytes    1  1  1  6      12    1       side by side are one blank
+//!
+//! pieces --take--> Reader --items--> Handler (Queue) --turn--> pending --give--> Pipe
+//!        \------ known by the bytes in front, no item made ---/
+//!
+//! Where a reader stands (`Level`, `Mode`), and what one byte or character more shows:
+//!
+//! Start    white space -> Blank    [ -> Inside    \ -> Escape, then any character: plain, escaped
+//!          ^ -> Word, where the dialect has units or chunks
+//!          another character: plain, or Stray where the dialect refuses it
+//! Blank    white space -> Blank    [ -> Inside
+//!          anything else: the blank is whole, and that byte begins the next item
+//! Inside   of a superblank: ] -> Blank    \ -> InsideEscape -> Inside    else -> Inside
+//! Word     \ -> WordEscape -> Word    < -> Tag, but not in a surface    symbol -> Word
+//!          / -> the next Word, in dialects whose units have several    $ : the unit is whole
+//!          { : the chunk's name is whole -> Part    EmptyWord or Stray where these may not stand
+//! Tag      of the name -> Tag    > behind a name -> Word    else BadTag
+//! Part     in a chunk: blanks and Lexical units, as above    } -> Closed, then $ : it is whole
+//! ```
+//!
+//! # Calls
+//!
+//! - Texts: `Dialect`; `Item`, which is a `Character`, a `Blank`, a `Unit` or a `Chunk` with its
+//!   `Content` of `Inner` parts; `Read`, an item with its place and its size.
+//! - Reading: `Reader` with its `Fed`; `decode`, the character in front; `Names`, the tags that
+//!   were read last. Writing: `write_item`, `append_item`, `push_superblanks`.
+//! - Faults: `StreamFault` or `StageFault`: `MalformedKind`, `LimitKind`, memory.
+//! - Stages: `Stage` with its `Finish`; `Staged`, a stage made of a handler; `Pipe`.
+//! - Handlers: `Handler` with its `Turn`; `Queue`, the items that one holds; `Each` with a
+//!   `UnitWriter`, which takes each item by itself. `Copies`, `ByUnit`, `ByRun` and `ByFront` with
+//!   its `Front` need not take item by item; `is_bare`, bytes of which each is an item.
+//! - Limits: `UNIT_MAX`, `SPAN_MAX`, `FRONT_MAX`, `ROOM_MAX`.
+//!
+//! # What is promised
+//!
+//! - A text in pieces of any size is read as exactly the items of the whole text, with its faults
+//!   and their places (`Reader`); and a stage gives its handler's meaning of the whole text for
+//!   every cut, within bounds (`Staged`).
+//! - What is written of a unit or a chunk is read back, and what is read of one can be written
+//!   (`units_read_back`, `units_are_words`, `chunks_read_back`, `chunks_can_be_written`,
+//!   `words_are_spelt`).
+//! - A text has one list of superblanks, those in chunks too (`one_list_of_superblanks`,
+//!   `superblanks_of_texts_joined`, `read_texts_have_superblanks`, `superblanks_are_scanned`).
+//! - A tool that takes each item by itself and makes no superblank of a unit keeps those of the
+//!   text, and two such tools do (`each_item_keeps_superblanks`, `superblanks_are_kept_twice`).
+//! - A text of whole pieces is read to its end, or to an item over the limit, and such a tool
+//!   writes one (`pieces_are_read`, `each_gives_pieces`). The limits are these numbers (`limits`).
+//!
+//! # Definitions to read first
+//!
+//! - `specs/Reading.antt`: `reads`, `first`, `last`: the items of a text, and what stops it.
+//! - `specs/Units.antt`: `form_of`, and `specs/Chunks.antt`: `body`: the words of a unit, and the
+//!   content of a chunk.
+//! - `specs/Pieces.antt`: `IsPiece`, `HasSuperblanks`: a text as a row of pieces, and its
+//!   superblanks.
+//! - `specs/Told.antt`: `Told`, and `specs/Rest.antt`: `rest_of`: what is still to come of a stage.
+//! - `specs/ReadOn.antt`: `IsReadOn`, `Links`: a stage whose text the next one reads.
 #![tactic(auto)]
 
 mod blank;
