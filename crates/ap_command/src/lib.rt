@@ -29,7 +29,8 @@
 //! - A text says one thing at most in a notation, or has one first fault, and not both
 //!   (`one_reading`).
 //! - What is given by a dictionary exists (`some_meaning`) and is one (`one_meaning`,
-//!   `one_outcome`); what `lt-comp` and `trim` store is one outcome (`one_stored_outcome`).
+//!   `one_outcome`); what `lt-comp` and `trim` store is one outcome (`one_stored_outcome`,
+//!   `one_trimmed_outcome`), and so is what `work` writes (`one_work_outcome`).
 //! - The lexicon of a compiled dictionary is that of what its entries relate
 //!   (`dictionary_has_its_lexicon`).
 //! - Each mode of `lt-proc` keeps superblanks, and what it writes is read on
