@@ -1,7 +1,7 @@
 use Rattle.std.proofs.Common.{◌≡◌, sym, ap, None}
 use Rattle.ap_stream.specs.Told.{Told}
 use Rattle.ap_tool.specs.Copying.{Copying, copied_give}
-use Rattle.ap_pipe.proofs.tests.copied.CopiedStage.give.Goals as goal
+use Rattle.ap_tool.proofs.tests.copied.CopiedStage.give.Goals as goal
 
 pub returns-clause-rest : goal.returns-clause-rest
 returns-clause-rest c = λ x e.
