@@ -54,6 +54,7 @@ def convert(root, variants, telling):
         clean_attributes(element, telling)
     declare_symbols(root, telling)
     join_paradigms(root, telling)
+    find_paradigms(root, telling)
     judge(root, DICTIONARY, telling)
     for section in all_elements(root, "section"):
         if section.get("type") not in TYPES:
@@ -179,6 +180,20 @@ def join_paradigms(root, telling):
             first.set("n", own)
             paradigm.insert(0, made("e", made("par", n=own)))
         seen[name] = paradigm
+
+
+def find_paradigms(root, telling):
+    """Leaves out the ignored entries with a paradigm that isn't defined, which is a fault in them
+    too; in other entries it has no form here."""
+    defined = {paradigm.get("n") for paradigm in all_elements(root, "pardef")}
+    for entry in all_elements(root, "e"):
+        missing = [use.get("n") for use in entry.iter("par") if use.get("n") not in defined]
+        if missing and entry.get("i") == "yes":
+            telling.change(line_of(entry), f"an ignored entry with the paradigm {missing[0]}, "
+                           "which isn't defined", "nothing")
+            remove(entry)
+        elif missing:
+            telling.cannot(line_of(entry), f"the paradigm {missing[0]}, which isn't defined")
 
 
 def uses_before(root, paradigm, name):
