@@ -52,7 +52,9 @@ impl Model for Compounds {
 }
 
 impl Compounds {
-    /// A new stage by this dictionary, of which it keeps a copy. The error means want of memory.
+    /// A new stage by this dictionary, of which it keeps a copy. Its lexicon is that of what the
+    /// sections of the dictionary relate: the rule of `lexicon_of` is `IsLexiconOf`, by the law
+    /// `compiled_have_lexicons`. The error means want of memory.
     pub fn new(alloc: Global, compiled: &Compiled, sensitive: bool) -> Result<Compounds, Memory>
         ensures compiled { IfOk result (λ made. made.compiled ≡ compiled.now) }
         ensures sensitive { IfOk result (λ made. made.sensitive ≡ sensitive) }

@@ -77,7 +77,9 @@ viable_in p sensitive symbols = is_viable p.standard (inputs_of sensitive symbol
     || is_viable p.postblank (inputs_of sensitive symbols)
     || is_viable p.preblank (inputs_of sensitive symbols)
 
--- the lexicon of a compiled dictionary
+-- The lexicon of a compiled dictionary, found along its edges. Its rule is `IsLexiconOf`: it is
+-- that of what the sections relate and of the alphabet, by the law `compiled_have_lexicons`, and a
+-- relation has no other, by `one_lexicon`.
 abbrev pub lexicon_of : Parts → Bool → Lexicon
 lexicon_of p sensitive =
     record {
