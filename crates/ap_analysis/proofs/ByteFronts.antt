@@ -66,10 +66,10 @@ module _ (p : Parts) (sensitive finished : Bool) (whole : IsCoherent (lexicon_of
     gives = λ place counts x e.
         let more = reads Raw (counted (place + length front)) x in
         let within = is.within in
-        ap (λ r. worked work_of held r e) (bare_reads Raw front is.bare place counts x)
+        ap (λ r. worked (work_of held) r e) (bare_reads Raw front is.bare place counts x)
         ∙ ap (λ (t : Told). record { text = t.text; fault = or_else t.fault (stop_at e more.stop) })
         (one_turn place more.items)
-        ∙ ap (λ r. behind is.text (worked work_of held r e))
+        ∙ ap (λ r. behind is.text (worked (work_of held) r e))
         (sym (rest_reads Raw front used is.bare (omega (arith, size, within)) place counts x));
   }
 

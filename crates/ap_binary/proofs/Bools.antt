@@ -6,14 +6,6 @@ pub or_cases : (a b : Bool) → (a || b) ≡ true → (a ≡ true) ⊎ (b ≡ tr
 or_cases true b h = inl refl
 or_cases false b h = inr h
 
-pub or_left : (a b : Bool) → a ≡ true → (a || b) ≡ true
-or_left true b h = refl
-or_left false b h = cc
-
-pub or_right : (a b : Bool) → b ≡ true → (a || b) ≡ true
-or_right true b h = refl
-or_right false b h = h
-
 pub both_true : (a b : Bool) → a ≡ true → b ≡ true → (a && b) ≡ true
 both_true a b e f = rw (e, f) refl
 
@@ -32,6 +24,3 @@ same_bool false false f g = refl
 
 pub eqb_is : (x y : ℕ) → eqb x y ≡ true → x ≡ y
 eqb_is x y h = grind (arith, nat_tests, h)
-
-pub is_eqb : (x y : ℕ) → x ≡ y → eqb x y ≡ true
-is_eqb x y h = grind (arith, nat_tests)

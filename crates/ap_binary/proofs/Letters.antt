@@ -1,5 +1,5 @@
 -- The letters of an alphabet's line.
-use Rattle.std.proofs.Common.{◌≡◌, inl, inr, ℕ, suc, zero, ◌+◌, ◌<◌, ◌≤◌, eqb, Bool, true, false, not, ◌&&◌, nat_le, List, [], ◌∷◌, ◌++◌, length, get_or, refl, sym, ◌∙◌, ap, subst, append_assoc, append-nil, arith, Option, Some, None}
+use Rattle.std.proofs.Common.{◌≡◌, inl, inr, ℕ, suc, zero, ◌+◌, ◌<◌, ◌≤◌, Bool, true, false, not, ◌&&◌, nat_le, List, [], ◌∷◌, ◌++◌, length, get_or, refl, sym, ◌∙◌, ap, subst, append_assoc, append-nil, arith, Option, Some, None}
 use Rattle.std.specs.Prelude.{◌↔◌, IsTrue, if◌then◌else◌, codes, IfSome}
 use Rattle.std.specs.List.{list_all}
 use Rattle.std.specs.Ordering.{nat_cmp}
@@ -8,6 +8,7 @@ use Rattle.std.proofs.lemmas.Bool.Decides.{nat_tests}
 use Rattle.ap_symbol.specs.Alphabet.{has_letter, is_closed}
 use Rattle.ap_symbol.specs.Lists.{IsIn}
 use Rattle.ap_symbol.specs.Words.{is_white}
+use Rattle.ap_symbol.proofs.Alphabets.{has_in, in_has}
 use Rattle.ap_fst.specs.Lists.{Ascends}
 use Rattle.ap_fst.specs.Sections.{IsAlphabet}
 use Rattle.ap_fst.proofs.PlaceLaws.{cmp_less}
@@ -15,7 +16,7 @@ use Rattle.ap_binary.specs.Reading.{◌>>=◌, Fails}
 use Rattle.ap_binary.specs.Pieces.{is_character, scalar_of, unless_white, character_of, number_at, character_at, byte_at, word_at, begins_with, next_letter_at, with_letters, letters_in, alphabet_at}
 use Rattle.ap_binary.specs.declared.refusal.CutError.{CutError}
 use Rattle.ap_binary.specs.declared.refusal.CutError.TheVariants.{Bad, Memory}
-use Rattle.ap_binary.proofs.Bools.{or_cases, or_left, or_right, and_false, same_bool, eqb_is, is_eqb}
+use Rattle.ap_binary.proofs.Bools.{and_false, same_bool}
 use Rattle.ap_binary.proofs.Options.{bound, IsBound, some_if, some_unless, bind_some, chosen_if}
 
 -- ---- reading goes on
@@ -165,19 +166,6 @@ letters_are (suc n) least bytes letters rest h = elim (cases_Bool (begins_with 3
 ]
 
 -- ---- partners
-
-has_in : (xs : List ℕ) (c : ℕ) → has_letter xs c ≡ true → IsIn c xs
-has_in [] c h = cc
-has_in (x ∷ xs) c h = elim (or_cases (eqb x c) (has_letter xs c) h) [
-  | inl e ↦
-      inl (sym (eqb_is x c e))
-  | inr k ↦ inr (has_in xs c k)
-]
-
-in_has : (xs : List ℕ) (c : ℕ) → IsIn c xs → has_letter xs c ≡ true
-in_has [] c h = elim h [ ]
-in_has (x ∷ xs) c (inl e) = or_left (eqb x c) (has_letter xs c) (is_eqb x c (sym e))
-in_has (x ∷ xs) c (inr h) = or_right (eqb x c) (has_letter xs c) (in_has xs c h)
 
 pub listed_is : (xs : List ℕ) (c : ℕ) (b : Bool) → (IsTrue b ↔ IsIn c xs) → b ≡ has_letter xs c
 listed_is xs c b h = same_bool b (has_letter xs c) (λ t. in_has xs c (h.0 t))

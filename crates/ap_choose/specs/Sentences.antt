@@ -5,10 +5,11 @@ use Rattle.std.specs.Str.{bytes_eq}
 use Rattle.ap_symbol.specs.declared.symbol.Symbol.{Symbol}
 use Rattle.ap_symbol.specs.declared.symbol.Symbol.TheVariants.{Tag}
 use Rattle.ap_stream.specs.Limits.{span_max}
-use Rattle.ap_stream.specs.Reading.{Reads, reads}
+use Rattle.ap_stream.specs.Reading.{reads}
+use Rattle.ap_stream.specs.Rest.{worked}
 use Rattle.ap_stream.specs.Spelling.{spelled}
 use Rattle.ap_stream.specs.Steps.{Step, Gives, Stops, steps, bytes_of}
-use Rattle.ap_stream.specs.Told.{Told, Ending, or_else, stop_at}
+use Rattle.ap_stream.specs.Told.{Told, Ending}
 use Rattle.ap_stream.specs.declared.dialect.Dialect.TheVariants.{Analysed}
 use Rattle.ap_stream.specs.declared.fault.LimitKind.TheVariants.{SpanTooLong}
 use Rattle.ap_stream.specs.declared.item.Item.{Item}
@@ -122,13 +123,5 @@ choose_step pairs items = if begins_unit items then sentence_step pairs items
 abbrev pub chosen : List Pair → List Read → Told
 chosen pairs items = steps (choose_step pairs) 0 items
 
--- a limit that it meets is the fault; otherwise what stops reading is
-abbrev pub chosen_by : List Pair → Reads → Ending → Told
-chosen_by pairs read ending = record {
-  text = (chosen pairs read.items).text;
-  fault =
-      or_else (chosen pairs read.items).fault (stop_at ending read.stop);
-}
-
 abbrev pub chosen_text : List Pair → List ℕ → Ending → Told
-chosen_text pairs text ending = chosen_by pairs (reads Analysed 0 text) ending
+chosen_text pairs text ending = worked (chosen pairs) (reads Analysed 0 text) ending

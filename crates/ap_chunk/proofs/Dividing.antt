@@ -3,9 +3,9 @@ use Rattle.std.proofs.Common.{◌≡◌, ℕ, suc, ◌+◌, ◌<◌, ◌≤◌, 
 use Rattle.std.specs.List.{list_all, list_any}
 use Rattle.std.proofs.lemmas.Bool.{false≢true, and_parts, or_parts, or_from}
 use Rattle.std.proofs.lemmas.List.{at_drop_more, at_drop_all}
+use Rattle.ap_symbol.specs.Kinds.{is_tag}
 use Rattle.ap_symbol.specs.declared.symbol.Symbol.{Symbol}
 use Rattle.ap_symbol.specs.Fitting.{fits_lem, lists_fit}
-use Rattle.ap_chunk.specs.Categories.{is_tag}
 use Rattle.ap_chunk.specs.Tests.{first_tag}
 
 pub first_tag_more : (word : List Symbol) (at : ℕ) (x : Symbol) → at < length word →

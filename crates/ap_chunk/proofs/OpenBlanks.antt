@@ -3,13 +3,14 @@ use Rattle.std.specs.Prelude.{◌≡◌, ℕ, zero, suc, pred, Bool, true, false
 use Rattle.std.specs.List.{AllByRecursion}
 use Rattle.std.proofs.Common.{ap, sym, subst, ◌∙◌}
 use Rattle.std.proofs.lemmas.List.{append-nil}
+use Rattle.ap_symbol.specs.Kinds.{first_word}
 use Rattle.ap_symbol.specs.declared.symbol.Symbol.{Symbol}
 use Rattle.ap_stream.specs.Blanks.{Run, Open, Inside, BadChar, Done, further, blank, begins_blank}
 use Rattle.ap_stream.specs.Chars.{Front, Part, NotChar, Char, char_at}
 use Rattle.ap_stream.specs.Chunks.{Body, Opens, Fails, Closes, body}
 use Rattle.ap_stream.specs.Dialects.{has_chunks, is_refused}
 use Rattle.ap_stream.specs.Limits.{item_max}
-use Rattle.ap_stream.specs.Reading.{First, Needs, Whole, Faulty, Last, Complete, Broken, of_run, of_escaped, of_char, of_body, of_caret, first, last, last_run, at_limit, past, limited, walked, at_end, counted, walk, reads, begins_unit, name_in}
+use Rattle.ap_stream.specs.Reading.{First, Needs, Whole, Faulty, Last, Complete, Broken, of_run, of_escaped, of_char, of_body, of_caret, first, last, last_run, at_limit, past, limited, walked, at_end, counted, walk, reads, begins_unit}
 use Rattle.ap_stream.specs.Units.{Rest, Lacks, Wrong, Ends, rest, form_of}
 use Rattle.ap_stream.specs.declared.dialect.Dialect.{Dialect}
 use Rattle.ap_stream.specs.declared.item.Item.{Item}
@@ -77,8 +78,8 @@ caret_open : (dialect : Dialect) (bs : List ℕ) (r : Rest) → FirstOpen (of_ca
 caret_open dialect bs Lacks = either (has_chunks dialect) _ _ tt tt
 caret_open dialect bs (Wrong kind) = either (has_chunks dialect) _ _ tt tt
 caret_open dialect bs (Ends words n) =
-    either (has_chunks dialect) (of_body (name_in words) [] (1 + n) (body n bs)) _
-    (body_open (name_in words) [] (1 + n) (body n bs)) tt
+    either (has_chunks dialect) (of_body (first_word words) [] (1 + n) (body n bs)) _
+    (body_open (first_word words) [] (1 + n) (body n bs)) tt
 
 first_open : (dialect : Dialect) (bs : List ℕ) → FirstOpen (first dialect bs)
 unfolding first

@@ -3,6 +3,7 @@ use Rattle.std.proofs.Common.{◌≡◌, ℕ, zero, suc, ◌<◌, Bool, true, fa
 use Rattle.std.specs.List.{list_all, list_any}
 use Rattle.std.proofs.lemmas.Bool.{false≢true, and_parts, and_from, or_cases, or_left, or_right}
 use Rattle.std.proofs.lemmas.List.{take_at, drop_at}
+use Rattle.ap_symbol.specs.Kinds.{is_tag, is_marked}
 use Rattle.ap_symbol.specs.declared.symbol.Symbol.{Symbol}
 use Rattle.ap_symbol.specs.declared.symbol.Symbol.TheVariants.{Star}
 use Rattle.ap_symbol.specs.Fitting.{fits_lem}
@@ -12,7 +13,7 @@ use Rattle.ap_rules.specs.declared.rules.CatItem.{CatItem}
 use Rattle.ap_rules.specs.declared.rules.DefCat.{DefCat}
 use Rattle.ap_rules.specs.declared.rules.Form.{Form}
 use Rattle.ap_rules.specs.declared.rules.Form.TheVariants.{Transfer, Interchunk, Postchunk}
-use Rattle.ap_chunk.specs.Categories.{is_tag, is_marked, IsDivided, TakeTags, FitsLemma, TakesTagged, ItemTakes, Takes}
+use Rattle.ap_chunk.specs.Categories.{IsDivided, TakeTags, FitsLemma, TakesTagged, ItemTakes, Takes}
 use Rattle.ap_chunk.specs.Tests.{first_tag, division, some_later, one_and, is_none, take_tags, fits_lemma, takes_tagged, item_takes, takes_at, takes}
 use Rattle.ap_chunk.proofs.Dividing.{none_before, first_behind}
 

@@ -5,6 +5,7 @@ use Rattle.std.specs.List.{filter, list_all}
 use Rattle.std.proofs.Common.{subst, sym}
 use Rattle.std.proofs.lemmas.List.Concat.{flat_map-cons}
 use Rattle.ap_symbol.specs.Coded.{AreCoded}
+use Rattle.ap_symbol.specs.Kinds.{is_tag}
 use Rattle.ap_symbol.specs.Recasing.{carry_lem}
 use Rattle.ap_symbol.specs.declared.recasing.Case.{Case}
 use Rattle.ap_symbol.specs.declared.recasing.Case.TheVariants.{Low, First, All}
@@ -21,7 +22,6 @@ use Rattle.ap_stream.proofs.Spelt.{words_are_spelt}
 use Rattle.ap_stream.proofs.Written.{spelt_append}
 use Rattle.ap_rules.specs.Soundness.{Each}
 use Rattle.ap_rules.specs.Worded.{IsWorded}
-use Rattle.ap_chunk.specs.Categories.{is_tag}
 use Rattle.ap_chunk.specs.Chunks.{is_digit, number_from, alone, tag_of, fill_symbol, fill_word, content_words, carry_words, chunk_words}
 use Rattle.ap_chunk.specs.Parts.{word_of}
 

@@ -1,28 +1,15 @@
 -- Which words a category takes (the Apertium transfer format).
-use Rattle.std.specs.Prelude.{◌≡◌, ◌<◌, Bool, true, false, List, [], ◌∷◌, ◌++◌, length, Option, Some, None, IsTrue}
+use Rattle.std.specs.Prelude.{◌≡◌, ◌<◌, true, false, List, [], ◌∷◌, ◌++◌, length, Option, Some, None, IsTrue}
 use Rattle.std.specs.List.{list_all, list_any}
 use Rattle.ap_symbol.specs.declared.symbol.Symbol.{Symbol}
-use Rattle.ap_symbol.specs.declared.symbol.Symbol.TheVariants.{Tag, Star, At}
+use Rattle.ap_symbol.specs.declared.symbol.Symbol.TheVariants.{Star}
 use Rattle.ap_symbol.specs.Fitting.{lists_fit}
+use Rattle.ap_symbol.specs.Kinds.{is_tag, is_marked}
 use Rattle.ap_symbol.specs.Lists.{IsIn}
 use Rattle.ap_rules.specs.declared.rules.CatItem.{CatItem}
 use Rattle.ap_rules.specs.declared.rules.DefCat.{DefCat}
 use Rattle.ap_rules.specs.declared.rules.Form.{Form}
 use Rattle.ap_rules.specs.declared.rules.Form.TheVariants.{Transfer, Interchunk, Postchunk}
-
-abbrev pub is_tag : Symbol → Bool
-is_tag (Tag name) = true
-is_tag _ = false
-
-abbrev pub is_mark : Symbol → Bool
-is_mark Star = true
-is_mark At = true
-is_mark _ = false
-
--- the word begins with `*` or `@`
-abbrev pub is_marked : List Symbol → Bool
-is_marked [] = false
-is_marked (x ∷ word) = is_mark x
 
 -- a word is its lemma, which is what stands before its first tag, and then tags alone
 pub record IsDivided (word lemma tags : List Symbol) : Type 0 where

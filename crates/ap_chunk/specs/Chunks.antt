@@ -1,6 +1,7 @@
 -- The words of a chunk as postchunk reads them, and what is written for its content.
 use Rattle.std.specs.Prelude.{ℕ, zero, suc, ◌+◌, ◌-◌, ◌*◌, nat_le, Bool, true, false, ◌&&◌, List, [], ◌∷◌, ◌++◌, map, take, Option, Some, None, slice_get, if◌then◌else◌}
 use Rattle.std.specs.List.{filter, flat_map, list_all}
+use Rattle.ap_symbol.specs.Kinds.{is_tag}
 use Rattle.ap_symbol.specs.Recasing.{case_of_lem, carry_lem}
 use Rattle.ap_symbol.specs.Rendering.{rendering}
 use Rattle.ap_symbol.specs.declared.recasing.Case.{Case}
@@ -14,7 +15,6 @@ use Rattle.ap_stream.specs.declared.item.Item.TheVariants.{Chunk}
 use Rattle.ap_stream.specs.declared.item.Read.{Read}
 use Rattle.ap_rules.specs.declared.rules.Form.{Form}
 use Rattle.ap_rules.specs.declared.rules.Form.TheVariants.{Postchunk}
-use Rattle.ap_chunk.specs.Categories.{is_tag}
 use Rattle.ap_chunk.specs.Tests.{first_tag}
 use Rattle.ap_chunk.specs.Parts.{word_of}
 

@@ -2,8 +2,9 @@
 use Rattle.std.specs.Prelude.{ℕ, nat_lt, Bool, false, List, [], ◌∷◌, length, take, Option, Some, None, Ok, Err, if◌then◌else◌}
 use Rattle.ap_stream.specs.Limits.{span_max, unit_max}
 use Rattle.ap_stream.specs.Reading.{Reads, reads}
+use Rattle.ap_stream.specs.Rest.{worked}
 use Rattle.ap_stream.specs.Steps.{bytes_of}
-use Rattle.ap_stream.specs.Told.{Told, Ending, or_else, stop_at}
+use Rattle.ap_stream.specs.Told.{Told, Ending}
 use Rattle.ap_stream.specs.declared.dialect.Dialect.{Dialect}
 use Rattle.ap_stream.specs.declared.dialect.Dialect.TheVariants.{Bilingual, Chunked}
 use Rattle.ap_stream.specs.declared.fault.LimitKind.{LimitKind}
@@ -91,14 +92,9 @@ chunk_step rules vars items =
 abbrev pub chunked : Rules → Held → List Read → Told
 chunked rules vars items = carried (chunk_step rules) vars 0 items
 
--- a limit that it meets is the fault; otherwise what stops reading is
+-- by rules, on what is read of a text
 abbrev pub chunked_by : Rules → Reads → Ending → Told
-chunked_by rules read ending =
-    record {
-      text = (chunked rules (start_of rules) read.items).text;
-      fault =
-          or_else (chunked rules (start_of rules) read.items).fault (stop_at ending read.stop);
-    }
+chunked_by rules read ending = worked (chunked rules (start_of rules)) read ending
 
 -- transfer of a bilingual text
 abbrev pub transferred_text : Rules → List ℕ → Ending → Told

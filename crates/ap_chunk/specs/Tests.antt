@@ -1,6 +1,7 @@
 -- Which words a category takes, as a test. Places are counted from 0.
 use Rattle.std.specs.Prelude.{ℕ, suc, Bool, true, false, ◌&&◌, ◌||◌, List, [], ◌∷◌, take, drop, map, Option, Some, None, if◌then◌else◌}
 use Rattle.std.specs.List.{list_all, list_any}
+use Rattle.ap_symbol.specs.Kinds.{is_tag, is_marked}
 use Rattle.ap_symbol.specs.declared.symbol.Symbol.{Symbol}
 use Rattle.ap_symbol.specs.declared.symbol.Symbol.TheVariants.{Star}
 use Rattle.ap_symbol.specs.Fitting.{fits_lem, lists_fit}
@@ -9,7 +10,6 @@ use Rattle.ap_rules.specs.declared.rules.DefCat.{DefCat}
 use Rattle.ap_rules.specs.declared.rules.Rules.{Rules}
 use Rattle.ap_rules.specs.declared.rules.Form.{Form}
 use Rattle.ap_rules.specs.declared.rules.Form.TheVariants.{Transfer, Interchunk, Postchunk}
-use Rattle.ap_chunk.specs.Categories.{is_tag, is_marked}
 
 -- the place of the first tag; the word's length where there is none
 abbrev pub first_tag : List Symbol → ℕ

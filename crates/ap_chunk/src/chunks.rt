@@ -1,20 +1,22 @@
 //! The words of a chunk as postchunk reads them.
 ghost use Rattle.std.specs.Prelude.{◌≡◌, ◌<◌, ◌≤◌, ◌++◌, ◌∷◌, ◌==◌, List, [], length, map, take, drop, nat_lt, None, IfOk, IfSome, IsTrue, OnOk};
 ghost use Rattle.std.specs.List.{filter, list_all};
+ghost use Rattle.ap_symbol.specs.Kinds.{is_tag as tag_test};
 ghost use Rattle.ap_symbol.specs.Recasing.{case_of_lem};
 ghost use Rattle.ap_symbol.specs.Words.{is_word_symbol};
 ghost use Rattle.ap_symbol.specs.declared.symbol.Symbol.TheVariants.{Tag};
 ghost use Rattle.ap_stream.specs.declared.item.Inner.{Inner};
 ghost use Rattle.ap_stream.specs.declared.TheConstants.{UNIT_MAX};
-ghost use Rattle.ap_chunk.specs.Categories.{is_tag as tag_test};
 ghost use Rattle.ap_chunk.specs.Tests.{first_tag};
 ghost use Rattle.ap_chunk.specs.Chunks.{lone_unit, is_digit as digit_test, number_from, tag_of, fill_symbol, fill_word, carry_one, part_words, content_words, carry_words, chunk_words, content_text, item_words, first_words, item_text, first_text};
 
 use crate::parts::{Room, put_word};
-use crate::words::{first_tag, is_tag};
+use crate::words::first_tag;
 use ap_rules::Form;
 use ap_stream::{Chunk, Inner, Item, Read, UNIT_MAX};
-use ap_symbol::{Bytes, Case, Memory, Symbol, TagName, Word, Words, carry, case_of_symbols};
+use ap_symbol::{
+    Bytes, Case, Memory, Symbol, TagName, Word, Words, carry, case_of_symbols, is_tag,
+};
 use std::alloc::Global;
 
 /// Appends a word as a unit; nothing where it is empty.

@@ -1,26 +1,10 @@
 ghost use Rattle.std.specs.Prelude.{◌≡◌, ◌≤◌, length, IfSome, false};
 ghost use Rattle.std.specs.List.{list_all};
 ghost use Rattle.ap_symbol.specs.Fitting.{lists_fit};
-ghost use Rattle.ap_chunk.specs.Categories.{is_tag, is_marked};
+ghost use Rattle.ap_symbol.specs.Kinds.{is_tag, is_marked};
 ghost use Rattle.ap_chunk.specs.Tests.{first_tag, division};
 
-use ap_symbol::{Symbol, fits};
-
-pub(crate) fn is_tag(symbol: &Symbol) -> bool
-    ensures { result ≡ is_tag symbol.now }
-{
-    matches!(symbol, Symbol::Tag(_))
-}
-
-/// Whether the word begins with `*` or `@`.
-fn is_marked(word: &[Symbol]) -> bool
-    ensures { result ≡ is_marked word.now }
-{
-    match word {
-        [] => false,
-        [first, ..] => matches!(first, Symbol::Star | Symbol::At),
-    }
-}
+use ap_symbol::{Symbol, fits, is_marked, is_tag};
 
 /// The place of the first tag, counted from 0; the number of symbols where there is none.
 pub(crate) fn first_tag(word: &[Symbol]) -> usize

@@ -1,24 +1,19 @@
 -- Sections that are canonical for the strings of a dictionary: one, and least.
-use Rattle.std.proofs.Common.{◌≡◌, ◌≤◌, ℕ, List, sym, ◌∙◌}
+use Rattle.std.proofs.Common.{◌≡◌, ◌≤◌, List, sym, ◌∙◌}
 use Rattle.std.specs.Prelude.{◌↔◌}
-use Rattle.std.specs.Ordering.{nat_cmp}
-use Rattle.std.proofs.lemmas.Cmp.{nat_cmp_total}
-use Rattle.ap_symbol.specs.Alphabet.{has_letter}
 use Rattle.ap_dix.specs.declared.dictionary.Dictionary.{Dictionary}
 use Rattle.ap_dix.specs.declared.dictionary.Direction.{Direction}
 use Rattle.ap_dix.specs.declared.dictionary.Kind.{Kind}
 use Rattle.ap_dix.specs.declared.dictionary.Kind.TheVariants.{Standard, Inconditional, Postblank, Preblank}
-use Rattle.ap_fst.specs.Lists.{Ascends}
 use Rattle.ap_fst.specs.Machines.{Machine, IsMachine}
 use Rattle.ap_fst.specs.Sections.{Parts}
 use Rattle.ap_fst.specs.Walks.{AcceptsLabels}
 use Rattle.ap_fst.specs.declared.label.Label.{Label}
 use Rattle.ap_det.specs.Determinism.{IsDeterministic}
 use Rattle.ap_min.specs.Canonical.{IsCanonical}
-use Rattle.ap_min.proofs.MachineLaws.{ascends_same}
+use Rattle.ap_min.proofs.MachineLaws.{same_letters}
 use Rattle.ap_compile.specs.Labels.{derived_labels}
 use Rattle.ap_compile.specs.Compiling.{AcceptsStrings, IsCompiledFrom, HaveSameStrings, HaveOneClosure, IsLeast, AreLeast}
-use Rattle.ap_compile.proofs.Lettering.{has_in, in_has}
 
 abbrev One : Type 0
 One = (a b : Machine) → IsCanonical a → IsCanonical b →
@@ -27,12 +22,6 @@ One = (a b : Machine) → IsCanonical a → IsCanonical b →
 abbrev Least : Type 0
 Least = (a b : Machine) → IsCanonical a → IsMachine b → IsDeterministic b →
     ((labels : List Label) → AcceptsLabels a labels ↔ AcceptsLabels b labels) → a.states ≤ b.states
-
-same_letters : (a b : List ℕ) → Ascends nat_cmp a → Ascends nat_cmp b →
-    ((c : ℕ) → has_letter a c ≡ has_letter b c) → a ≡ b
-same_letters a b up up' h =
-    ascends_same nat_cmp nat_cmp_total a b up up' (λ c i. has_in b c (sym (h c) ∙ in_has a c i))
-    (λ c i. has_in a c (h c ∙ in_has b c i))
 
 same_section : One → (d e : Dictionary) (direction : Direction) (kind : Kind) (m n : Machine) →
     IsCanonical m → IsCanonical n → AcceptsStrings d direction kind m →

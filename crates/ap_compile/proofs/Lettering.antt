@@ -17,6 +17,7 @@ use Rattle.ap_symbol.specs.Case.{partner_lem, is_upper_lem, lower_lem, upper_lem
 use Rattle.ap_symbol.specs.CaseLaws.{PartnerOfPartner, WhiteSpaceStays}
 use Rattle.ap_symbol.specs.Lists.{IsIn}
 use Rattle.ap_symbol.specs.Words.{is_white}
+use Rattle.ap_symbol.proofs.Alphabets.{has_in, in_has}
 use Rattle.ap_fst.specs.Lists.{Ascends}
 use Rattle.ap_fst.specs.Sections.{IsAlphabet}
 use Rattle.ap_compile.specs.Partners.{IsPartnered}
@@ -140,25 +141,6 @@ same_bool : (a b : Bool) → (a ≡ true → b ≡ true) → (b ≡ true → a �
 same_bool true b f g = sym (f refl)
 same_bool false true f g = g refl
 same_bool false false f g = refl
-
-eqb_is : (x y : ℕ) → eqb x y ≡ true → x ≡ y
-eqb_is x y h = grind (arith, nat_tests)
-
-is_eqb : (x y : ℕ) → x ≡ y → eqb x y ≡ true
-is_eqb x y h = grind (arith, nat_tests)
-
-pub has_in : (xs : List ℕ) (c : ℕ) → has_letter xs c ≡ true → IsIn c xs
-has_in [] c h = cc
-has_in (x ∷ xs) c h = elim (or_cases (eqb x c) (has_letter xs c) h) [
-  | inl e ↦
-      inl (sym (eqb_is x c e))
-  | inr k ↦ inr (has_in xs c k)
-]
-
-pub in_has : (xs : List ℕ) (c : ℕ) → IsIn c xs → has_letter xs c ≡ true
-in_has [] c h = elim h [ ]
-in_has (x ∷ xs) c (inl e) = or_left (eqb x c) (has_letter xs c) (is_eqb x c (sym e))
-in_has (x ∷ xs) c (inr h) = or_right (eqb x c) (has_letter xs c) (in_has xs c h)
 
 pub closure_from : (alphabet closed : List ℕ) → ((c : ℕ) → IsIn c closed ↔ IsPartnered alphabet c) →
     IsClosure alphabet closed

@@ -1,5 +1,5 @@
 -- The readings of a surface are those of its splits into parts of the dictionary, and each of these.
-use Rattle.std.proofs.Common.{◌≡◌, inl, inr, ◌<◌, Bool, true, false, List, [], ◌∷◌, ◌++◌, map, length, refl, sym, ap, subst, ◌∙◌, arith}
+use Rattle.std.proofs.Common.{◌≡◌, inr, ◌<◌, Bool, true, false, List, [], ◌∷◌, ◌++◌, map, length, refl, sym, ap, subst, ◌∙◌, arith}
 use Rattle.std.specs.Prelude.{◌↔◌, IsTrue, not, ◌&&◌, if◌then◌else◌}
 use Rattle.std.specs.List.{filter, list_all}
 use Rattle.std.specs.List.Sorted.{IsStrictlySortedBy}
@@ -12,14 +12,12 @@ use Rattle.ap_symbol.specs.declared.symbol.Symbol.{Symbol}
 use Rattle.ap_symbol.specs.declared.symbol.Symbol.TheVariants.{Join}
 use Rattle.ap_symbol.proofs.RecasedWords.{stays_proper}
 use Rattle.ap_fst.specs.Sections.{Parts, IsCompiled, section_of}
-use Rattle.ap_fst.specs.declared.compiled.Kind2.{Kind2}
-use Rattle.ap_fst.specs.declared.compiled.Kind2.TheVariants.{Standard, Inconditional, Postblank, Preblank}
-use Rattle.ap_fst.proofs.Listing.{in_front, in_back, in_either, in_map, in_mapped, IsImage, in_filter, filter_in, IsKept}
+use Rattle.ap_fst.proofs.Listing.{in_map, in_mapped, IsImage, in_filter, filter_in, IsKept}
 use Rattle.ap_live.specs.Found.{in_order}
 use Rattle.ap_live.specs.Lexicon.{Lexicon, Reads, lexicon_of, Spelled}
 use Rattle.ap_live.specs.Readings.{carried, any_words}
 use Rattle.ap_live.specs.Relations.{relation_of}
-use Rattle.ap_live.proofs.AnyWords.{any_proper, carried_proper}
+use Rattle.ap_live.proofs.AnyWords.{IsAny, any_is, any_of, any_proper, carried_proper}
 use Rattle.ap_live.proofs.Coherence.{section_is, sections_proper, lexicon_is}
 use Rattle.ap_live.proofs.Finding.{OneRendering}
 use Rattle.ap_live.proofs.WordOrder.{in_order_sound, in_order_there, in_order_sorted}
@@ -80,64 +78,6 @@ module _ (law : OneRendering) (p : Parts) (sensitive : Bool) (compiled : IsCompi
   abbrev lexicon : Lexicon
   lexicon = lexicon_of p sensitive
 
-  -- a right word of any kind
-  record IsAny (symbols w : List Symbol) : Type 0 where
-    pub kind : Kind2
-    pub listed : IsIn w ((lexicon_of p sensitive).readings kind symbols)
-
-  any_is : (symbols w : List Symbol) → IsIn w (any_words (lexicon_of p sensitive) symbols) →
-      IsAny symbols w
-  any_is symbols w i =
-      let b : List (List Symbol) = (lexicon_of p sensitive).readings Inconditional symbols in
-      let c : List (List Symbol) = (lexicon_of p sensitive).readings Postblank symbols in
-      let d : List (List Symbol) = (lexicon_of p sensitive).readings Preblank symbols in
-      elim (in_either w ((lexicon_of p sensitive).readings Standard symbols) (b ++ (c ++ d)) i) [
-        | inl k ↦ record { kind = Standard; listed = k }
-        | inr k ↦ elim (in_either w b (c ++ d) k) [
-          | inl j ↦ record { kind = Inconditional; listed = j }
-          | inr j ↦ elim (in_either w c d j) [
-            | inl h ↦ record { kind = Postblank; listed = h }
-            | inr h ↦ record { kind = Preblank; listed = h }
-          ]
-        ]
-      ]
-
-  any_of : (kind : Kind2) (symbols w : List Symbol) →
-      IsIn w ((lexicon_of p sensitive).readings kind symbols) →
-      IsIn w (any_words (lexicon_of p sensitive) symbols)
-  any_of Standard symbols w i = in_front w ((lexicon_of p sensitive).readings Standard symbols)
-      ((lexicon_of p sensitive).readings Inconditional symbols
-      ++ ((lexicon_of p sensitive).readings Postblank symbols
-      ++ (lexicon_of p sensitive).readings Preblank symbols)) i
-  any_of Inconditional symbols w i =
-      in_back w ((lexicon_of p sensitive).readings Standard symbols)
-      ((lexicon_of p sensitive).readings Inconditional symbols
-      ++ ((lexicon_of p sensitive).readings Postblank symbols
-      ++ (lexicon_of p sensitive).readings Preblank symbols))
-      (in_front w ((lexicon_of p sensitive).readings Inconditional symbols)
-      ((lexicon_of p sensitive).readings Postblank symbols
-      ++ (lexicon_of p sensitive).readings Preblank symbols) i)
-  any_of Postblank symbols w i =
-      in_back w ((lexicon_of p sensitive).readings Standard symbols)
-      ((lexicon_of p sensitive).readings Inconditional symbols
-      ++ ((lexicon_of p sensitive).readings Postblank symbols
-      ++ (lexicon_of p sensitive).readings Preblank symbols))
-      (in_back w ((lexicon_of p sensitive).readings Inconditional symbols)
-      ((lexicon_of p sensitive).readings Postblank symbols
-      ++ (lexicon_of p sensitive).readings Preblank symbols)
-      (in_front w ((lexicon_of p sensitive).readings Postblank symbols)
-      ((lexicon_of p sensitive).readings Preblank symbols) i))
-  any_of Preblank symbols w i =
-      in_back w ((lexicon_of p sensitive).readings Standard symbols)
-      ((lexicon_of p sensitive).readings Inconditional symbols
-      ++ ((lexicon_of p sensitive).readings Postblank symbols
-      ++ (lexicon_of p sensitive).readings Preblank symbols))
-      (in_back w ((lexicon_of p sensitive).readings Inconditional symbols)
-      ((lexicon_of p sensitive).readings Postblank symbols
-      ++ (lexicon_of p sensitive).readings Preblank symbols)
-      (in_back w ((lexicon_of p sensitive).readings Postblank symbols)
-      ((lexicon_of p sensitive).readings Preblank symbols) i))
-
   part_to : (part : Part) (symbols w : List Symbol) →
       IsIn w (map bare (filter (holds (tag_of part)) (any_words (lexicon_of p sensitive) symbols))) →
       IsPart p sensitive part symbols w
@@ -147,7 +87,8 @@ module _ (law : OneRendering) (p : Parts) (sensitive : Bool) (compiled : IsCompi
       in_mapped bare w (filter (holds (tag_of part)) (any_words (lexicon_of p sensitive) symbols)) i in
       let k : IsKept (holds (tag_of part)) m.source (any_words (lexicon_of p sensitive) symbols) =
       filter_in (holds (tag_of part)) m.source (any_words (lexicon_of p sensitive) symbols) m.listed in
-      let a : IsAny symbols m.source = any_is symbols m.source k.listed in
+      let a : IsAny (lexicon_of p sensitive) symbols m.source =
+      any_is (lexicon_of p sensitive) symbols m.source k.listed in
       let r : Reads sensitive (relation_of p) a.kind symbols m.source =
       ((lexicon_is law p sensitive compiled (sections_proper p compiled)).exactly a.kind symbols
       m.source).0 a.listed in
@@ -174,7 +115,7 @@ module _ (law : OneRendering) (p : Parts) (sensitive : Bool) (compiled : IsCompi
       (in_map bare h.right
       (filter (holds (tag_of part)) (any_words (lexicon_of p sensitive) symbols))
       (in_filter (holds (tag_of part)) h.right (any_words (lexicon_of p sensitive) symbols)
-      (any_of h.kind symbols h.right listed) h.marked))
+      (any_of (lexicon_of p sensitive) h.kind symbols h.right listed) h.marked))
 
   -- no left word is empty
   part_some : (part : Part) (symbols w : List Symbol) → IsPart p sensitive part symbols w →

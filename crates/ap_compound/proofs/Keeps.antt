@@ -3,6 +3,7 @@ use Rattle.std.proofs.Common.{◌≡◌, inl, inr, ℕ, Bool, true, false, List,
 use Rattle.std.specs.Prelude.{IsTrue, not, ◌&&◌, if◌then◌else◌}
 use Rattle.std.specs.List.{list_all}
 use Rattle.ap_symbol.specs.Coded.{IsCoded}
+use Rattle.ap_symbol.specs.Kinds.{first_word}
 use Rattle.ap_symbol.specs.Lists.{IsIn}
 use Rattle.ap_symbol.specs.Words.{is_proper}
 use Rattle.ap_symbol.specs.declared.symbol.Symbol.{Symbol}
@@ -26,7 +27,7 @@ use Rattle.ap_stream.proofs.Faults.{fault_fine, each_fine}
 use Rattle.ap_stream.proofs.Written.{each_spelt}
 use Rattle.ap_compound.specs.Splits.{compounds, fewest, joined_word, may_split, compound_readings}
 use Rattle.ap_compound.specs.Tags.{is_part_tag, bare}
-use Rattle.ap_compound.specs.Works.{is_unknown, surface_of, words_by, explained, compound_unit, compounds_text}
+use Rattle.ap_compound.specs.Works.{is_unknown, words_by, explained, compound_unit, compounds_text}
 use Rattle.ap_compound.proofs.PartWords.{joined_words}
 
 all_first : (a b : Bool) → IsTrue (a && b) → IsTrue a
@@ -105,11 +106,11 @@ module _ (lexicon : Lexicon) (gives : GivesReadable lexicon) where
 
   explained_by : (b sensitive : Bool) (words : List (List Symbol)) → AreWords Analysed words →
       AreWords Analysed (if b then words_by words
-      (compound_readings lexicon sensitive (surface_of words)) else words)
+      (compound_readings lexicon sensitive (first_word words)) else words)
   explained_by true sensitive words h =
-      words_stay words (compound_readings lexicon sensitive (surface_of words)) h
-      (each_spelt (compound_readings lexicon sensitive (surface_of words))
-      (readings_readable sensitive (surface_of words)))
+      words_stay words (compound_readings lexicon sensitive (first_word words)) h
+      (each_spelt (compound_readings lexicon sensitive (first_word words))
+      (readings_readable sensitive (first_word words)))
   explained_by false sensitive words h = h
 
   -- the words of a unit that is explained are words of a unit

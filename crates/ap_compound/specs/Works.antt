@@ -1,14 +1,16 @@
 -- Unknown words explained as compounds: units, a whole text, and the work on it.
 use Rattle.std.specs.Prelude.{ℕ, Bool, true, false, List, [], ◌∷◌, ◌++◌, if◌then◌else◌}
 use Rattle.ap_symbol.specs.Fitting.{lists_fit}
+use Rattle.ap_symbol.specs.Kinds.{first_word}
 use Rattle.ap_symbol.specs.declared.symbol.Symbol.{Symbol}
 use Rattle.ap_symbol.specs.declared.symbol.Symbol.TheVariants.{Star}
 use Rattle.ap_fst.specs.Sections.{Parts}
 use Rattle.ap_stream.specs.Each.{Single, each, held_items}
-use Rattle.ap_stream.specs.Reading.{Reads, reads}
+use Rattle.ap_stream.specs.Reading.{reads}
+use Rattle.ap_stream.specs.Rest.{worked}
 use Rattle.ap_stream.specs.Seat.{Seat}
 use Rattle.ap_stream.specs.Spelling.{unit_bytes}
-use Rattle.ap_stream.specs.Told.{Told, Ending, or_else, stop_at}
+use Rattle.ap_stream.specs.Told.{Told, Ending}
 use Rattle.ap_stream.specs.declared.dialect.Dialect.TheVariants.{Analysed}
 use Rattle.ap_stream.specs.declared.item.Read.{Read}
 use Rattle.ap_live.specs.Lexicon.{Lexicon, lexicon_of}
@@ -24,37 +26,24 @@ abbrev pub is_unknown : List (List Symbol) → Bool
 is_unknown (surface ∷ reading ∷ []) = is_starred reading surface
 is_unknown _ = false
 
-abbrev pub surface_of : List (List Symbol) → List Symbol
-surface_of [] = []
-surface_of (surface ∷ readings) = surface
-
 -- where there are readings the surface and these, and else the words as they are
 abbrev pub words_by : List (List Symbol) → List (List Symbol) → List (List Symbol)
 words_by words [] = words
-words_by words (reading ∷ readings) = surface_of words ∷ reading ∷ readings
+words_by words (reading ∷ readings) = first_word words ∷ reading ∷ readings
 
 -- an unknown word is explained, where it has readings as a compound; any other unit stays as it is
 abbrev pub explained : Lexicon → Bool → List (List Symbol) → List (List Symbol)
 explained lexicon sensitive words = if is_unknown words
-    then words_by words (compound_readings lexicon sensitive (surface_of words)) else words
+    then words_by words (compound_readings lexicon sensitive (first_word words)) else words
 
 -- what a unit gives
 abbrev pub compound_unit : Lexicon → Bool → List (List Symbol) → List ℕ
 compound_unit lexicon sensitive words = unit_bytes (explained lexicon sensitive words)
 
--- Each item by itself, and then what stops reading. Where the text was cut, it is no fault that an
--- item is unfinished.
-abbrev pub compounds_of : Lexicon → Bool → Reads → Ending → Told
-compounds_of lexicon sensitive read ending = record {
-  text = (each (compound_unit lexicon sensitive) read.items).text;
-  fault =
-      or_else (each (compound_unit lexicon sensitive) read.items).fault (stop_at ending read.stop);
-}
-
 -- an analysed text whose unknown words are explained as compounds
 abbrev pub compounds_text : Lexicon → Bool → List ℕ → Ending → Told
 compounds_text lexicon sensitive text ending =
-    compounds_of lexicon sensitive (reads Analysed 0 text) ending
+    worked (each (compound_unit lexicon sensitive)) (reads Analysed 0 text) ending
 
 -- what is seen of what explains: the dictionary, and whether case counts
 pub record Explaining : Type 0 where

@@ -1,9 +1,10 @@
 ghost use Rattle.std.specs.Prelude.{◌≡◌, ◌<◌, ◌++◌, [], length, Bool, IfOk, OnOk, IfSome, None};
+ghost use Rattle.ap_symbol.specs.Kinds.{first_word};
 ghost use Rattle.ap_stream.specs.Spelling.{unit_bytes};
 ghost use Rattle.ap_live.specs.Lexicon.{lexicon_of};
 ghost use Rattle.ap_live.specs.SectionLives.{AreLive};
 ghost use Rattle.ap_compound.specs.Splits.{compound_readings};
-ghost use Rattle.ap_compound.specs.Works.{compound_unit, surface_of};
+ghost use Rattle.ap_compound.specs.Works.{compound_unit};
 
 use crate::reading::readings_from;
 use crate::unknown::{is_unknown, may_be_unknown, write_copy, write_explained};
@@ -83,7 +84,7 @@ fn readings_kept(
 /// The surface of a unit of these words.
 fn surface_of(words: &[Word]) -> &[Symbol]
     requires { 0 < length words.now }
-    ensures { result.now ≡ surface_of words.now }
+    ensures { result.now ≡ first_word words.now }
 {
     words[0].symbols()
 }

@@ -1,6 +1,7 @@
 -- Running a rule keeps words what they are.
 use Rattle.std.proofs.Common.{◌≡◌, ℕ, zero, suc, ◌+◌, ◌-◌, ◌==◌, nat_le, Bool, true, false, if◌then◌else◌, List, [], ◌∷◌, ◌++◌, length, take, drop, subst, Option, Some, None, Ok, Err}
 use Rattle.std.specs.Prelude.{slice_get}
+use Rattle.ap_symbol.specs.Kinds.{first_word}
 use Rattle.ap_symbol.specs.Recasing.{case_of_lem, recase_lem}
 use Rattle.ap_symbol.specs.Rendering.{rendering}
 use Rattle.ap_symbol.specs.declared.symbol.Symbol.{Symbol}
@@ -27,7 +28,7 @@ use Rattle.ap_exec.specs.Acting.{Outcome, outcome, body_of, still_of, action_in,
 use Rattle.ap_exec.specs.Conditions.{holds}
 use Rattle.ap_exec.specs.FillingLaws.{IsWordedAtom}
 use Rattle.ap_exec.specs.Parts.{Span, span_of, cut, side_in, word_on, word_of, word_at, part_at, linked, clip_of, case_at}
-use Rattle.ap_exec.specs.Pieces.{unit_of, units_of, compound, blank_atom, chunk_piece_of, chunk_pieces_of, tags_of, held_by, stated, cased, name_of, first_word, atom_in, gives_content, content_in, content_of, contents_of, piece_of, piece_size}
+use Rattle.ap_exec.specs.Pieces.{unit_of, units_of, compound, blank_atom, chunk_piece_of, chunk_pieces_of, tags_of, held_by, stated, cased, name_of, atom_in, gives_content, content_in, content_of, contents_of, piece_of, piece_size}
 use Rattle.ap_exec.specs.Results.{Ran, ◌>>=◌, seen}
 use Rattle.ap_exec.specs.Running.{Still, Now, sight_of, with_var, unit_set, with_place, held_at, recased_at, placed, outs, places_of, either_of, Calls, run, run_all, run_choice, body_in, body_at, called}
 use Rattle.ap_exec.specs.RunningLaws.{IsWordedInner, IsWordedMatched, IsWordedOutput, RunningKeepsWords, StartingKeepsWords}

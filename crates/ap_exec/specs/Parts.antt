@@ -2,10 +2,10 @@
 use Rattle.std.specs.Prelude.{ℕ, ◌+◌, ◌-◌, Bool, true, false, not, ◌||◌, ◌&&◌, List, [], ◌∷◌, length, take, drop, map, if◌then◌else◌, nat_lt, slice_get, Option, Some, None}
 use Rattle.std.specs.List.{prefix_len}
 use Rattle.ap_symbol.specs.Fitting.{fits_lem}
+use Rattle.ap_symbol.specs.Kinds.{is_tag, is_queue}
 use Rattle.ap_symbol.specs.Recasing.{case_of_lem}
 use Rattle.ap_symbol.specs.declared.recasing.Case.{Case}
 use Rattle.ap_symbol.specs.declared.symbol.Symbol.{Symbol}
-use Rattle.ap_symbol.specs.declared.symbol.Symbol.TheVariants.{Tag, Queue}
 use Rattle.ap_rules.specs.declared.attribute.AttrItem.{AttrItem}
 use Rattle.ap_rules.specs.declared.rules.Form.{Form}
 use Rattle.ap_rules.specs.declared.rules.Form.TheVariants.{Transfer, Interchunk, Postchunk}
@@ -20,14 +20,6 @@ use Rattle.ap_exec.specs.Units.{Shown, Sight, unit_at}
 pub record Span : Type 0 where
   pub start : ℕ
   pub count : ℕ
-
-abbrev pub is_tag : Symbol → Bool
-is_tag (Tag name) = true
-is_tag _ = false
-
-abbrev pub is_queue : Symbol → Bool
-is_queue Queue = true
-is_queue _ = false
 
 -- no tag
 abbrev pub is_lemma : Symbol → Bool

@@ -1,6 +1,7 @@
 -- The pieces that an output adds.
 use Rattle.std.specs.Prelude.{ℕ, ◌+◌, List, [], ◌∷◌, ◌++◌, length, map, Bool, true, false, if◌then◌else◌, Ok, Option, Some, None, slice_get}
 use Rattle.std.specs.List.{flat_map}
+use Rattle.ap_symbol.specs.Kinds.{first_word}
 use Rattle.ap_symbol.specs.Recasing.{case_of_lem, recase_lem}
 use Rattle.ap_symbol.specs.Rendering.{rendering}
 use Rattle.ap_symbol.specs.declared.symbol.Symbol.{Symbol}
@@ -82,10 +83,6 @@ abbrev pub name_of : List (List Symbol) → PlainChunk → List Symbol
 name_of vars c = cased vars c.case (stated vars c.name c.namefrom)
 
 -- of a unit inside of a chunk its word, and a slot for a blank
-abbrev pub first_word : List (List Symbol) → List Symbol
-first_word [] = []
-first_word (word ∷ words) = word
-
 abbrev pub atom_in : Inner → Atom
 atom_in (inner.Unit words) = The_unit (first_word words)
 atom_in (inner.Blank bytes) = Slot

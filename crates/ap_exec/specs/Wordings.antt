@@ -1,10 +1,10 @@
 -- The word that a lent word stands for.
 use Rattle.std.specs.Prelude.{◌≡◌, ◌<◌, List, length}
+use Rattle.ap_symbol.specs.Kinds.{first_word}
 use Rattle.ap_symbol.specs.Rendering.{rendering}
 use Rattle.ap_symbol.specs.declared.symbol.Symbol.{Symbol}
 use Rattle.ap_exec.specs.declared.lent_template.Wording.{Wording}
 use Rattle.ap_exec.specs.declared.lent_template.Wording.TheVariants.{Made, Lent, First}
-use Rattle.ap_exec.specs.Pieces.{first_word}
 
 abbrev pub wording_in : Wording → List Symbol
 wording_in (Made word) = word

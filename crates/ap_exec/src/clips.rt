@@ -3,11 +3,12 @@ ghost use Rattle.std.specs.Prelude.{◌≡◌, ◌≢◌, ◌+◌, ◌≤◌, �
 ghost use Rattle.std.specs.List.{prefix_len};
 ghost use Rattle.std.specs.Option.{option_copied};
 ghost use Rattle.ap_symbol.specs.Fitting.{fits_lem};
+ghost use Rattle.ap_symbol.specs.Kinds.{is_tag, is_queue};
 ghost use Rattle.ap_symbol.specs.Rendering.{rendering, tag_bytes};
 ghost use Rattle.ap_symbol.specs.Words.{AreProper};
 ghost use Rattle.ap_exec.specs.Attributes.{BeginsWithTag};
 ghost use Rattle.ap_exec.specs.Divided.{IsDivision};
-ghost use Rattle.ap_exec.specs.Parts.{is_tag, is_queue, is_lemma, is_head, begins_with, item_fits, longer, longest, sought, tags_in, items_of, span_of, cut, side_in, word_on, part_at, linked, clip_of, case_at};
+ghost use Rattle.ap_exec.specs.Parts.{is_lemma, is_head, begins_with, item_fits, longer, longest, sought, tags_in, items_of, span_of, cut, side_in, word_on, part_at, linked, clip_of, case_at};
 ghost use Rattle.ap_exec.specs.Ranges.{span};
 ghost use Rattle.ap_exec.specs.States.{sight};
 ghost use Rattle.ap_exec.specs.Units.{number_at, unit_at};
@@ -16,19 +17,13 @@ use crate::divided::Division;
 use crate::lent::Lent;
 use crate::state::View;
 use ap_rules::{AttrItem, Clip, ClipPart, DefAttr, Form, Side};
-use ap_symbol::{Case, Symbol, Word, case_of_symbols, fits};
+use ap_symbol::{Case, Symbol, Word, case_of_symbols, fits, is_tag};
 
 /// A part of a word: where it begins and how many symbols it has.
 #[derive(Clone, Copy)]
 pub(crate) struct Range {
     pub(crate) start: usize,
     pub(crate) count: usize,
-}
-
-fn is_tag(symbol: &Symbol) -> bool
-    ensures { result ≡ is_tag symbol.now }
-{
-    matches!(symbol, Symbol::Tag(_))
 }
 
 fn is_queue(symbol: &Symbol) -> bool

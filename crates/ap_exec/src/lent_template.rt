@@ -1,8 +1,8 @@
 //! What a rule writes, before its slots are filled, with the words of the match as they stand
 //! there.
 ghost use Rattle.std.specs.Prelude.{◌≡◌, ◌↔◌, [], IsTrue, IfOk, IfSome};
+ghost use Rattle.ap_symbol.specs.Kinds.{first_word};
 ghost use Rattle.ap_symbol.specs.Rendering.{rendering};
-ghost use Rattle.ap_exec.specs.Pieces.{first_word};
 ghost use Rattle.ap_exec.specs.declared.template.Atom.TheVariants as atom;
 ghost use Rattle.ap_exec.specs.declared.template.Piece.TheVariants as piece;
 

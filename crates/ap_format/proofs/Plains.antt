@@ -19,12 +19,13 @@ use Rattle.ap_stream.specs.Limited.{limited_decided}
 use Rattle.ap_stream.specs.Reading.{Whole, plain, Reads, reads, reads_whole, read_at, followed, counted}
 use Rattle.ap_stream.specs.Stands.{InBlank, Within, begin_white, begin_bracket, blank_first, escaped_whole, within_char}
 use Rattle.ap_stream.specs.Step.{nothing_part}
+use Rattle.ap_stream.specs.Rest.{worked}
 use Rattle.ap_stream.specs.Told.{Ending, behind}
 use Rattle.ap_stream.proofs.Cut.{char_size, char_bytes, char_code, char_cut}
 use Rattle.ap_stream.proofs.Fronts.{IsFree, IsLow, same_test, alone, alone_some, free_blank, free_whole}
 use Rattle.ap_format.specs.declared.blanks.Spot.TheVariants as spot
 use Rattle.ap_format.specs.Pieces.{white_size}
-use Rattle.ap_format.specs.Reformatted.{bare_blank, bare_item, ret_of}
+use Rattle.ap_format.specs.Reformatted.{bare_blank, bare_item, bare_items}
 use Rattle.ap_format.specs.Giving.{ret_from, stands_bare, unescaped, IsPlain, GiveText, Wrote}
 use Rattle.ap_format.specs.Standing.{IsWhite}
 use Rattle.ap_format.proofs.BareBlanks.{bare_same}
@@ -123,7 +124,7 @@ pub gives_read : (bytes rest : List ℕ) (place at : ℕ) (thing : Item) (size :
     reads Generated place bytes
     ≡ followed (Some (read_at place thing size)) (reads Generated at rest) →
     ret_from place bytes e ≡ behind (bare_item thing) (ret_from at rest e)
-gives_read bytes rest place at thing size e h = ap (λ (q : Reads). ret_of q e) h
+gives_read bytes rest place at thing size e h = ap (λ (q : Reads). worked bare_items q e) h
 
 plain_read : (bytes text : List ℕ) (h : IsPlain bytes text) (place : ℕ) (x : List ℕ) →
     reads Generated place (bytes ++ x)

@@ -4,17 +4,18 @@ use Rattle.ap_stream.specs.Blanks.{begins_blank}
 use Rattle.ap_stream.specs.Dialects.{is_reserved_generated}
 use Rattle.ap_stream.specs.Limits.{item_max}
 use Rattle.ap_stream.specs.Reading.{Whole, reads, counted, plain}
+use Rattle.ap_stream.specs.Rest.{worked}
 use Rattle.ap_stream.specs.Stands.{Always, blank_first}
 use Rattle.ap_stream.specs.Told.{Told, Ending, Clean, behind, ends_in}
 use Rattle.ap_stream.specs.declared.dialect.Dialect.TheVariants.{Generated}
 use Rattle.ap_stream.specs.declared.fault.StreamFault.{StreamFault}
 use Rattle.ap_stream.specs.declared.fault.StreamFault.TheVariants.{Malformed, Limit, Memory}
 use Rattle.ap_stream.specs.declared.fault.MalformedKind.TheVariants.{Unfinished}
-use Rattle.ap_format.specs.Reformatted.{ret_of}
+use Rattle.ap_format.specs.Reformatted.{bare_items}
 
 -- a generated text whose first byte has this place
 abbrev pub ret_from : ℕ → List ℕ → Ending → Told
-ret_from place text ending = ret_of (reads Generated place text) ending
+ret_from place text ending = worked bare_items (reads Generated place text) ending
 
 -- the characters that stand for themselves: all but white space, [, a backslash and those that are
 -- refused

@@ -2,8 +2,9 @@
 -- without the brackets of their superblanks.
 use Rattle.std.specs.Prelude.{ℕ, eqb, Bool, true, not, ◌||◌, if◌then◌else◌, List, [], ◌∷◌, ◌++◌, Option, encode_utf8}
 use Rattle.ap_stream.specs.Each.{held_items}
-use Rattle.ap_stream.specs.Reading.{Reads, reads}
-use Rattle.ap_stream.specs.Told.{Told, Ending, silent, behind, or_else, stop_at}
+use Rattle.ap_stream.specs.Reading.{reads}
+use Rattle.ap_stream.specs.Rest.{worked}
+use Rattle.ap_stream.specs.Told.{Told, Ending, silent, behind}
 use Rattle.ap_stream.specs.declared.dialect.Dialect.TheVariants.{Generated}
 use Rattle.ap_stream.specs.declared.item.Item.{Item}
 use Rattle.ap_stream.specs.declared.item.Item.TheVariants.{Plain, Blank, Unit, Chunk}
@@ -45,19 +46,9 @@ abbrev pub bare_items : List Read → Told
 bare_items [] = silent
 bare_items (read ∷ reads) = behind (bare_item read.item) (bare_items reads)
 
--- what is read, and then the stop; where the text was cut, it is no fault that an item is
--- unfinished
-abbrev pub ret_of : Reads → Ending → Told
-ret_of read ending =
-    record {
-      text = (bare_items read.items).text;
-      fault =
-          or_else (bare_items read.items).fault (stop_at ending read.stop);
-    }
-
 -- a generated text as a plain text
 abbrev pub ret_text : List ℕ → Ending → Told
-ret_text text ending = ret_of (reads Generated 0 text) ending
+ret_text text ending = worked bare_items (reads Generated 0 text) ending
 
 -- what is seen of the work: the item that it holds, and whether it is the last
 pub record Reformatting : Type 0 where

@@ -11,7 +11,7 @@ use Rattle.ap_symbol.specs.declared.symbol.Symbol.{Symbol}
 use Rattle.ap_fst.specs.Sections.{Parts, IsCompiled, section_of}
 use Rattle.ap_fst.specs.declared.compiled.Kind2.{Kind2}
 use Rattle.ap_fst.specs.declared.compiled.Kind2.TheVariants.{Standard, Inconditional, Postblank, Preblank}
-use Rattle.ap_fst.proofs.Listing.{in_either, in_mapped, IsImage}
+use Rattle.ap_fst.proofs.Listing.{in_front, in_back, in_either, in_mapped, IsImage}
 use Rattle.ap_live.specs.Found.{has_words}
 use Rattle.ap_live.specs.Lexicon.{Lexicon, IsCoherent, inputs_of, lexicon_of}
 use Rattle.ap_live.specs.Readings.{carried, any_words}
@@ -61,25 +61,59 @@ reading_proper p sensitive kind symbols w compiled i =
     (sections_proper p compiled kind)
     (found_is_output (section_of p kind) (inputs_of sensitive symbols) w i)
 
-pub any_proper : (p : Parts) (sensitive : Bool) (symbols w : List Symbol) → IsCompiled p →
-    IsIn w (any_words (lexicon_of p sensitive) symbols) → AreProper w
-any_proper p sensitive symbols w compiled i =
-    let lexicon : Lexicon = lexicon_of p sensitive in
+-- ---- the right words of any kind
+
+-- a right word of some kind
+pub record IsAny (lexicon : Lexicon) (symbols w : List Symbol) : Type 0 where
+  pub kind : Kind2
+  pub listed : IsIn w (lexicon.readings kind symbols)
+
+pub any_is : (lexicon : Lexicon) (symbols w : List Symbol) → IsIn w (any_words lexicon symbols) →
+    IsAny lexicon symbols w
+any_is lexicon symbols w i =
     let b : List (List Symbol) = lexicon.readings Inconditional symbols in
     let c : List (List Symbol) = lexicon.readings Postblank symbols in
     let d : List (List Symbol) = lexicon.readings Preblank symbols in
     elim (in_either w (lexicon.readings Standard symbols) (b ++ (c ++ d)) i) [
-      | inl k ↦ reading_proper p sensitive Standard symbols w compiled k
+      | inl k ↦ record { kind = Standard; listed = k }
       | inr k ↦ elim (in_either w b (c ++ d) k) [
-        | inl j ↦ reading_proper p sensitive Inconditional symbols w compiled j
+        | inl j ↦ record { kind = Inconditional; listed = j }
         | inr j ↦ elim (in_either w c d j) [
-          | inl h ↦
-              reading_proper p sensitive Postblank symbols w compiled h
-          | inr h ↦
-              reading_proper p sensitive Preblank symbols w compiled h
+          | inl h ↦ record { kind = Postblank; listed = h }
+          | inr h ↦ record { kind = Preblank; listed = h }
         ]
       ]
     ]
+
+pub any_of : (lexicon : Lexicon) (kind : Kind2) (symbols w : List Symbol) →
+    IsIn w (lexicon.readings kind symbols) → IsIn w (any_words lexicon symbols)
+any_of lexicon Standard symbols w i = in_front w (lexicon.readings Standard symbols)
+    (lexicon.readings Inconditional symbols
+    ++ (lexicon.readings Postblank symbols ++ lexicon.readings Preblank symbols)) i
+any_of lexicon Inconditional symbols w i = in_back w (lexicon.readings Standard symbols)
+    (lexicon.readings Inconditional symbols
+    ++ (lexicon.readings Postblank symbols ++ lexicon.readings Preblank symbols))
+    (in_front w (lexicon.readings Inconditional symbols)
+    (lexicon.readings Postblank symbols ++ lexicon.readings Preblank symbols) i)
+any_of lexicon Postblank symbols w i = in_back w (lexicon.readings Standard symbols)
+    (lexicon.readings Inconditional symbols
+    ++ (lexicon.readings Postblank symbols ++ lexicon.readings Preblank symbols))
+    (in_back w (lexicon.readings Inconditional symbols)
+    (lexicon.readings Postblank symbols ++ lexicon.readings Preblank symbols)
+    (in_front w (lexicon.readings Postblank symbols) (lexicon.readings Preblank symbols) i))
+any_of lexicon Preblank symbols w i = in_back w (lexicon.readings Standard symbols)
+    (lexicon.readings Inconditional symbols
+    ++ (lexicon.readings Postblank symbols ++ lexicon.readings Preblank symbols))
+    (in_back w (lexicon.readings Inconditional symbols)
+    (lexicon.readings Postblank symbols ++ lexicon.readings Preblank symbols)
+    (in_back w (lexicon.readings Postblank symbols) (lexicon.readings Preblank symbols) i))
+
+pub any_proper : (p : Parts) (sensitive : Bool) (symbols w : List Symbol) → IsCompiled p →
+    IsIn w (any_words (lexicon_of p sensitive) symbols) → AreProper w
+any_proper p sensitive symbols w compiled i =
+    let a : IsAny (lexicon_of p sensitive) symbols w =
+    any_is (lexicon_of p sensitive) symbols w i in
+    reading_proper p sensitive a.kind symbols w compiled a.listed
 
 stays : StaysProper → (sensitive : Bool) (seen word : List Symbol) → AreProper word →
     AreProper (carried sensitive seen word)

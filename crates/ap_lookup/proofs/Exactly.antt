@@ -1,6 +1,6 @@
 -- The words that are looked up by a compiled dictionary are the right words of what its sections
 -- relate, and each of these.
-use Rattle.std.proofs.Common.{◌≡◌, ◌⊎◌, inl, inr, ℕ, ◌<◌, ◌≤◌, Bool, true, false, List, [], ◌∷◌, ◌++◌, map, length, take, refl, sym, ap, subst, ◌∙◌, arith}
+use Rattle.std.proofs.Common.{◌≡◌, ◌⊎◌, inl, inr, ℕ, ◌<◌, ◌≤◌, Bool, true, false, List, [], ◌∷◌, map, length, take, refl, sym, ap, subst, ◌∙◌, arith}
 use Rattle.std.specs.Prelude.{◌↔◌, nat_le, if◌then◌else◌}
 use Rattle.std.specs.List.{AllByRecursion}
 use Rattle.std.specs.List.Sorted.{IsStrictlySortedBy}
@@ -8,6 +8,7 @@ use Rattle.std.specs.declared.cmp.Ordering.TheVariants.{Less}
 use Rattle.std.proofs.lemmas.Bool.{false_from_ne_true, and_parts, and_from, cases_lt}
 use Rattle.std.proofs.lemmas.Bool.Decides.{nat_tests}
 use Rattle.std.proofs.lemmas.Map.Lookups.{exact_bytes}
+use Rattle.ap_symbol.specs.Kinds.{is_marked}
 use Rattle.ap_symbol.specs.Lists.{IsIn}
 use Rattle.ap_symbol.specs.Rendering.{word_cmp}
 use Rattle.ap_symbol.specs.Words.{AreProper}
@@ -15,13 +16,12 @@ use Rattle.ap_symbol.specs.declared.symbol.Symbol.{Symbol}
 use Rattle.ap_symbol.proofs.RecasedWords.{stays_proper}
 use Rattle.ap_fst.specs.Sections.{Parts, IsCompiled}
 use Rattle.ap_fst.specs.declared.compiled.Kind2.{Kind2}
-use Rattle.ap_fst.specs.declared.compiled.Kind2.TheVariants.{Standard, Inconditional, Postblank, Preblank}
-use Rattle.ap_fst.proofs.Listing.{in_front, in_back, in_either, in_map, in_mapped, IsImage}
+use Rattle.ap_fst.proofs.Listing.{in_map, in_mapped, IsImage}
 use Rattle.ap_live.specs.Found.{has_words}
 use Rattle.ap_live.specs.Lexicon.{Lexicon, Reads, lexicon_of}
 use Rattle.ap_live.specs.Readings.{carried, any_words, carried_words}
 use Rattle.ap_live.specs.Relations.{relation_of}
-use Rattle.ap_live.proofs.AnyWords.{any_proper, carried_proper}
+use Rattle.ap_live.proofs.AnyWords.{IsAny, any_is, any_of, any_proper, carried_proper}
 use Rattle.ap_live.proofs.Coherence.{sections_proper, lexicon_is}
 use Rattle.ap_live.proofs.Finding.{OneRendering}
 use Rattle.ap_live.proofs.Greatest.{greatest_is}
@@ -33,7 +33,7 @@ use Rattle.ap_lookup.specs.Laws.{IsPrefix, IsLongest}
 use Rattle.ap_lookup.specs.Lookup.{generated, formed, is_star, starred, unmatched}
 use Rattle.ap_lookup.specs.Matching.{is_match, longest_match}
 use Rattle.ap_lookup.specs.PostGenerating.{symbols, least, chosen, match_step, matched, post_step}
-use Rattle.ap_lookup.specs.Translation.{lemma, is_marked, forms_of, prefix, taken, untaken, translation}
+use Rattle.ap_lookup.specs.Translation.{lemma, forms_of, prefix, taken, untaken, translation}
 use Rattle.ap_lookup.specs.declared.generation_writer.Marks.{Marks}
 use Rattle.ap_lookup.proofs.PostSteps.{matched_is, step_alarm, alarm_within, match_some}
 use Rattle.ap_lookup.proofs.Prefixes.{any_some, some_kind, found, nothing, longest, none}
@@ -58,63 +58,6 @@ module _ (law : OneRendering) (p : Parts) (sensitive : Bool) (compiled : IsCompi
   kind_is kind seen right =
       (lexicon_is law p sensitive compiled (sections_proper p compiled)).exactly kind seen right
 
-  -- a right word of any kind
-  record IsAny (seen w : List Symbol) : Type 0 where
-    pub kind : Kind2
-    pub listed : IsIn w ((lexicon_of p sensitive).readings kind seen)
-
-  any_is : (seen w : List Symbol) → IsIn w (any_words (lexicon_of p sensitive) seen) → IsAny seen w
-  any_is seen w i =
-      let b : List (List Symbol) = (lexicon_of p sensitive).readings Inconditional seen in
-      let c : List (List Symbol) = (lexicon_of p sensitive).readings Postblank seen in
-      let d : List (List Symbol) = (lexicon_of p sensitive).readings Preblank seen in
-      elim (in_either w ((lexicon_of p sensitive).readings Standard seen) (b ++ (c ++ d)) i) [
-        | inl k ↦ record { kind = Standard; listed = k }
-        | inr k ↦ elim (in_either w b (c ++ d) k) [
-          | inl j ↦ record { kind = Inconditional; listed = j }
-          | inr j ↦ elim (in_either w c d j) [
-            | inl h ↦ record { kind = Postblank; listed = h }
-            | inr h ↦ record { kind = Preblank; listed = h }
-          ]
-        ]
-      ]
-
-  any_of : (kind : Kind2) (seen w : List Symbol) →
-      IsIn w ((lexicon_of p sensitive).readings kind seen) →
-      IsIn w (any_words (lexicon_of p sensitive) seen)
-  any_of Standard seen w i = in_front w ((lexicon_of p sensitive).readings Standard seen)
-      ((lexicon_of p sensitive).readings Inconditional seen
-      ++ ((lexicon_of p sensitive).readings Postblank seen
-      ++ (lexicon_of p sensitive).readings Preblank seen)) i
-  any_of Inconditional seen w i =
-      in_back w ((lexicon_of p sensitive).readings Standard seen)
-      ((lexicon_of p sensitive).readings Inconditional seen
-      ++ ((lexicon_of p sensitive).readings Postblank seen
-      ++ (lexicon_of p sensitive).readings Preblank seen))
-      (in_front w ((lexicon_of p sensitive).readings Inconditional seen)
-      ((lexicon_of p sensitive).readings Postblank seen
-      ++ (lexicon_of p sensitive).readings Preblank seen) i)
-  any_of Postblank seen w i =
-      in_back w ((lexicon_of p sensitive).readings Standard seen)
-      ((lexicon_of p sensitive).readings Inconditional seen
-      ++ ((lexicon_of p sensitive).readings Postblank seen
-      ++ (lexicon_of p sensitive).readings Preblank seen))
-      (in_back w ((lexicon_of p sensitive).readings Inconditional seen)
-      ((lexicon_of p sensitive).readings Postblank seen
-      ++ (lexicon_of p sensitive).readings Preblank seen)
-      (in_front w ((lexicon_of p sensitive).readings Postblank seen)
-      ((lexicon_of p sensitive).readings Preblank seen) i))
-  any_of Preblank seen w i =
-      in_back w ((lexicon_of p sensitive).readings Standard seen)
-      ((lexicon_of p sensitive).readings Inconditional seen
-      ++ ((lexicon_of p sensitive).readings Postblank seen
-      ++ (lexicon_of p sensitive).readings Preblank seen))
-      (in_back w ((lexicon_of p sensitive).readings Inconditional seen)
-      ((lexicon_of p sensitive).readings Postblank seen
-      ++ (lexicon_of p sensitive).readings Preblank seen)
-      (in_back w ((lexicon_of p sensitive).readings Postblank seen)
-      ((lexicon_of p sensitive).readings Preblank seen) i))
-
   -- with a case carried to them
   abbrev all_of : List Symbol → List Symbol → List (List Symbol)
   all_of base seen = map (carried sensitive base) (any_words (lexicon_of p sensitive) seen)
@@ -129,7 +72,8 @@ module _ (law : OneRendering) (p : Parts) (sensitive : Bool) (compiled : IsCompi
   word_to base seen w i =
       let m : IsImage (carried sensitive base) w (any_words (lexicon_of p sensitive) seen) =
       in_mapped (carried sensitive base) w (any_words (lexicon_of p sensitive) seen) i in
-      let a : IsAny seen m.source = any_is seen m.source m.listed in
+      let a : IsAny (lexicon_of p sensitive) seen m.source =
+      any_is (lexicon_of p sensitive) seen m.source m.listed in
       let r : Reads sensitive (relation_of p) a.kind seen m.source =
       (kind_is a.kind seen m.source).0 a.listed in
       record {
@@ -147,7 +91,7 @@ module _ (law : OneRendering) (p : Parts) (sensitive : Bool) (compiled : IsCompi
       let reads : Reads sensitive (relation_of p) r.kind seen r.right =
       record { left = r.left; related = r.related; fit = r.fit } in
       let listed : IsIn r.right (any_words (lexicon_of p sensitive) seen) =
-      any_of r.kind seen r.right ((kind_is r.kind seen r.right).1 reads) in
+      any_of (lexicon_of p sensitive) r.kind seen r.right ((kind_is r.kind seen r.right).1 reads) in
       subst (λ (z : List Symbol). IsIn z (all_of base seen)) (sym r.word_is)
       (in_map (carried sensitive base) r.right (any_words (lexicon_of p sensitive) seen) listed)
 

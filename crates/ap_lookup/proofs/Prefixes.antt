@@ -4,6 +4,7 @@ use Rattle.std.specs.List.Sorted.{IsStrictlySortedBy}
 use Rattle.std.proofs.Common.{arith, ap, sym, subst, ◌∙◌, inl, inr}
 use Rattle.std.proofs.lemmas.Bool.{false_from_ne_true, and_parts, and_from, cases_lt}
 use Rattle.std.proofs.lemmas.Bool.Decides.{nat_tests}
+use Rattle.ap_symbol.specs.Kinds.{is_marked}
 use Rattle.ap_symbol.specs.Lists.{IsIn}
 use Rattle.ap_symbol.specs.Rendering.{word_cmp}
 use Rattle.ap_symbol.specs.declared.symbol.Symbol.{Symbol}
@@ -16,7 +17,7 @@ use Rattle.ap_live.proofs.AnyWords.{some_append}
 use Rattle.ap_live.proofs.Greatest.{greatest_is, greatest_within, greatest_passes, greatest_reaches}
 use Rattle.ap_live.proofs.WordOrder.{some_word, in_order_sorted, in_order_some}
 use Rattle.ap_lookup.specs.Laws.{IsPrefix, IsLongest, HasNone}
-use Rattle.ap_lookup.specs.Translation.{lemma_length, lemma, is_prefix, prefix, is_marked, forms_of, taken, untaken, translation}
+use Rattle.ap_lookup.specs.Translation.{lemma_length, lemma, is_prefix, prefix, forms_of, taken, untaken, translation}
 use Rattle.ap_lookup.proofs.Translations.{translation_marked, translation_none, translation_found}
 
 -- ---- some word of some kind

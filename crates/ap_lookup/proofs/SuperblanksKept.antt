@@ -1,6 +1,7 @@
 -- Look-ups keep superblanks, and what they write is read on.
 use Rattle.std.specs.Prelude.{◌≡◌, ℕ, Bool, true, false, nat_lt, List, [], ◌∷◌, ◌++◌, map, take, drop, None, refl, if◌then◌else◌}
 use Rattle.std.proofs.Common.{arith}
+use Rattle.ap_symbol.specs.Kinds.{is_marked}
 use Rattle.ap_symbol.specs.declared.symbol.Symbol.{Symbol}
 use Rattle.ap_stream.specs.Each.{each}
 use Rattle.ap_stream.specs.Laws.{AreSpelt, EachSpelt, AreAsMany}
@@ -16,7 +17,7 @@ use Rattle.ap_live.specs.Lexicon.{Lexicon}
 use Rattle.ap_live.specs.Readable.{GivesReadable}
 use Rattle.ap_live.proofs.Readables.{words_readable}
 use Rattle.ap_lookup.specs.Lookup.{translations_by, translations, is_star, formless, starred, unmatched, formed}
-use Rattle.ap_lookup.specs.Translation.{Translated, taken, untaken, translated_at, translation, prefix, is_marked, lemma, lemma_length, forms_of}
+use Rattle.ap_lookup.specs.Translation.{Translated, taken, untaken, translated_at, translation, prefix, lemma, lemma_length, forms_of}
 use Rattle.ap_lookup.specs.Works.{bilingual_unit, generated_unit, bilingual_text, generated_text}
 use Rattle.ap_lookup.specs.declared.generation_writer.Marks.{Marks}
 use Rattle.ap_lookup.specs.declared.generation_writer.Marks.TheVariants as marks

@@ -4,6 +4,7 @@ use Rattle.std.proofs.Common.{arith, ap, sym, subst, ◌∙◌, inl, get_or, len
 use Rattle.std.proofs.lemmas.Bool.{false_from_ne_true, and_parts}
 use Rattle.std.proofs.lemmas.Bool.Decides.{nat_tests}
 use Rattle.std.proofs.lemmas.List.{take_more, take-take, take-append-le, length-take, take_all}
+use Rattle.ap_symbol.specs.Kinds.{is_marked}
 use Rattle.ap_symbol.specs.declared.symbol.Symbol.{Symbol}
 use Rattle.ap_fst.specs.Sections.{Parts}
 use Rattle.ap_live.specs.Found.{has_words}
@@ -15,7 +16,7 @@ use Rattle.ap_live.specs.declared.live_sections.LiveSections.{LiveSections}
 use Rattle.ap_live.proofs.AnyWords.{any_viable, viable_front}
 use Rattle.ap_live.proofs.Greatest.{greatest_is, greatest_cut}
 use Rattle.ap_lookup.specs.Matching.{is_match}
-use Rattle.ap_lookup.specs.Translation.{lemma_length, is_prefix, prefix, is_marked, taken, untaken, translation}
+use Rattle.ap_lookup.specs.Translation.{lemma_length, is_prefix, prefix, taken, untaken, translation}
 
 pub match_short : (lexicon : Lexicon) (least : ℕ) (word : List Symbol) (m : ℕ) → m < least →
     is_match lexicon least word m ≡ false

@@ -3,6 +3,7 @@ use Rattle.std.specs.Prelude.{◌≡◌, ◌⊎◌, ◌↔◌, ℕ, ◌<◌, ◌
 use Rattle.std.specs.List.Sorted.{IsStrictlySortedBy}
 use Rattle.std.specs.declared.cmp.Ordering.TheVariants.{Less}
 use Rattle.ap_symbol.specs.Fitting.{lists_fit}
+use Rattle.ap_symbol.specs.Kinds.{is_marked}
 use Rattle.ap_symbol.specs.Lists.{IsIn}
 use Rattle.ap_symbol.specs.Rendering.{word_cmp}
 use Rattle.ap_symbol.specs.declared.symbol.Symbol.{Symbol}
@@ -16,7 +17,7 @@ use Rattle.ap_stream.specs.Steps.{Step, Gives, bytes_of}
 use Rattle.ap_stream.specs.declared.item.Read.{Read}
 use Rattle.ap_lookup.specs.Lookup.{generated, formed}
 use Rattle.ap_lookup.specs.PostGenerating.{symbols, begins_alarm, span, chosen, blanks, word_step, post_step}
-use Rattle.ap_lookup.specs.Translation.{Translated, lemma, lemma_length, is_marked, forms_of, translation}
+use Rattle.ap_lookup.specs.Translation.{Translated, lemma, lemma_length, forms_of, translation}
 use Rattle.ap_lookup.specs.declared.generation_writer.Marks.{Marks}
 
 -- some pair, of any kind, has a left word that fits these symbols

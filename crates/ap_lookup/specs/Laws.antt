@@ -1,5 +1,6 @@
 -- What the laws of look-ups say.
 use Rattle.std.specs.Prelude.{◌≡◌, ◌⊎◌, ℕ, ◌<◌, ◌≤◌, Bool, true, List, length, take, None}
+use Rattle.ap_symbol.specs.Kinds.{is_marked}
 use Rattle.ap_symbol.specs.Lists.{IsIn}
 use Rattle.ap_symbol.specs.declared.symbol.Symbol.{Symbol}
 use Rattle.ap_fst.specs.declared.compiled.Kind2.{Kind2}
@@ -10,7 +11,7 @@ use Rattle.ap_stream.specs.ReadOn.{Links}
 use Rattle.ap_stream.specs.Told.{Clean}
 use Rattle.ap_stream.specs.declared.dialect.Dialect.TheVariants.{Lexical, Bilingual, Generated}
 use Rattle.ap_lookup.specs.PostWorks.{post_generated_text}
-use Rattle.ap_lookup.specs.Translation.{lemma_length, is_marked}
+use Rattle.ap_lookup.specs.Translation.{lemma_length}
 use Rattle.ap_lookup.specs.Works.{bilingual_text, generated_text}
 use Rattle.ap_lookup.specs.declared.generation_writer.Marks.{Marks}
 

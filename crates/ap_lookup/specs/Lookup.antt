@@ -1,11 +1,12 @@
 -- Bilingual lookup (`lt-proc -b`) and generation (`lt-proc -g`, `-n`, `-d`): what one word gives.
 use Rattle.std.specs.Prelude.{ℕ, Bool, true, false, List, [], ◌∷◌, ◌++◌, map, drop, if◌then◌else◌}
+use Rattle.ap_symbol.specs.Kinds.{is_marked}
 use Rattle.ap_symbol.specs.declared.symbol.Symbol.{Symbol}
 use Rattle.ap_symbol.specs.declared.symbol.Symbol.TheVariants.{Star, At}
 use Rattle.ap_symbol.specs.Rendering.{rendering}
 use Rattle.ap_stream.specs.Spelling.{unit_bytes, joined}
 use Rattle.ap_live.specs.Lexicon.{Lexicon}
-use Rattle.ap_lookup.specs.Translation.{translation, lemma, is_marked, forms_of}
+use Rattle.ap_lookup.specs.Translation.{translation, lemma, forms_of}
 use Rattle.ap_lookup.specs.declared.generation_writer.Marks.{Marks}
 use Rattle.ap_lookup.specs.declared.generation_writer.Marks.TheVariants as marks
 
@@ -55,8 +56,3 @@ abbrev pub generated : Lexicon → Marks → Bool → List Symbol → List ℕ
 generated lexicon m sensitive word =
     if is_marked word then (if is_star word then starred m word else unmatched m word)
     else formed m word (forms_of lexicon sensitive word word)
-
--- the word of a unit that has one
-abbrev pub first_word : List (List Symbol) → List Symbol
-first_word [] = []
-first_word (word ∷ words) = word

@@ -1,9 +1,10 @@
 -- Post-generation of the items of a text, and of a whole text.
 use Rattle.std.specs.Prelude.{◌≡◌, ℕ, Bool, List, ◌++◌}
 use Rattle.ap_fst.specs.Sections.{Parts}
-use Rattle.ap_stream.specs.Reading.{Reads, reads}
+use Rattle.ap_stream.specs.Reading.{reads}
+use Rattle.ap_stream.specs.Rest.{worked}
 use Rattle.ap_stream.specs.Steps.{Step, Gives, Stops, steps}
-use Rattle.ap_stream.specs.Told.{Told, Ending, or_else, stop_at}
+use Rattle.ap_stream.specs.Told.{Told, Ending}
 use Rattle.ap_stream.specs.declared.dialect.Dialect.TheVariants.{Generated}
 use Rattle.ap_stream.specs.declared.item.Read.{Read}
 use Rattle.ap_live.specs.Lexicon.{Lexicon, lexicon_of}
@@ -15,18 +16,9 @@ use Rattle.ap_lookup.specs.declared.post_writing.Written.TheVariants as code
 abbrev pub post_generated : Lexicon → Bool → List Read → Told
 post_generated lexicon sensitive items = steps (post_step lexicon sensitive) 0 items
 
--- a limit that it meets is the fault; otherwise what stops reading is
-abbrev pub post_generated_by : Lexicon → Bool → Reads → Ending → Told
-post_generated_by lexicon sensitive read ending =
-    record {
-      text = (post_generated lexicon sensitive read.items).text;
-      fault =
-          or_else (post_generated lexicon sensitive read.items).fault (stop_at ending read.stop);
-    }
-
 abbrev pub post_generated_text : Lexicon → Bool → List ℕ → Ending → Told
 post_generated_text lexicon sensitive text ending =
-    post_generated_by lexicon sensitive (reads Generated 0 text) ending
+    worked (post_generated lexicon sensitive) (reads Generated 0 text) ending
 
 -- what is seen of the work: its dictionary, whether case counts, the items that it holds, and
 -- whether they are the last

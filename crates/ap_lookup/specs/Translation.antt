@@ -1,14 +1,10 @@
 -- The translation of a word by a bilingual dictionary.
-use Rattle.std.specs.Prelude.{ℕ, suc, Bool, true, false, nat_lt, List, [], ◌∷◌, take, drop, if◌then◌else◌}
+use Rattle.std.specs.Prelude.{ℕ, suc, Bool, nat_lt, List, [], ◌∷◌, take, drop, if◌then◌else◌}
+use Rattle.ap_symbol.specs.Kinds.{is_tag, is_marked}
 use Rattle.ap_symbol.specs.declared.symbol.Symbol.{Symbol}
-use Rattle.ap_symbol.specs.declared.symbol.Symbol.TheVariants.{Tag, Star, At}
 use Rattle.ap_live.specs.Lexicon.{Lexicon}
 use Rattle.ap_live.specs.Readings.{carried_words}
 use Rattle.ap_lookup.specs.Matching.{is_match, longest_match}
-
-abbrev pub is_tag : Symbol → Bool
-is_tag (Tag name) = true
-is_tag _ = false
 
 -- how many symbols stand before the first tag
 abbrev pub lemma_length : List Symbol → ℕ
@@ -18,16 +14,6 @@ lemma_length (x ∷ word) = if is_tag x then 0 else suc (lemma_length word)
 -- the lemma of a word: what stands before its first tag
 abbrev pub lemma : List Symbol → List Symbol
 lemma word = take (lemma_length word) word
-
-abbrev pub is_mark : Symbol → Bool
-is_mark Star = true
-is_mark At = true
-is_mark _ = false
-
--- a word that begins with * or @ isn't looked up
-abbrev pub is_marked : List Symbol → Bool
-is_marked [] = false
-is_marked (x ∷ word) = is_mark x
 
 -- the right words of any kind whose left word fits these symbols, with the lemma's case, in order,
 -- each once

@@ -1,16 +1,18 @@
 -- Bilingual lookup (`lt-proc -b`) and generation (`lt-proc -g`, `-n`, `-d`) of the items of a text,
 -- and of a whole text.
 use Rattle.std.specs.Prelude.{ℕ, Bool, List, ◌++◌}
+use Rattle.ap_symbol.specs.Kinds.{first_word}
 use Rattle.ap_symbol.specs.declared.symbol.Symbol.{Symbol}
 use Rattle.ap_stream.specs.Each.{Single, each, held_items}
-use Rattle.ap_stream.specs.Reading.{Reads, reads}
-use Rattle.ap_stream.specs.Told.{Told, Ending, or_else, stop_at}
+use Rattle.ap_stream.specs.Reading.{reads}
+use Rattle.ap_stream.specs.Rest.{worked}
+use Rattle.ap_stream.specs.Told.{Told, Ending}
 use Rattle.ap_stream.specs.declared.dialect.Dialect.TheVariants.{Lexical}
 use Rattle.ap_stream.specs.declared.item.Read.{Read}
 use Rattle.ap_live.specs.Lexicon.{Lexicon, lexicon_of}
 use Rattle.ap_lookup.specs.Generating.{Generating}
 use Rattle.ap_lookup.specs.Looking.{Looking}
-use Rattle.ap_lookup.specs.Lookup.{bilingual, generated, first_word}
+use Rattle.ap_lookup.specs.Lookup.{bilingual, generated}
 use Rattle.ap_lookup.specs.declared.generation_writer.Marks.{Marks}
 
 -- what a unit gives
@@ -20,23 +22,13 @@ bilingual_unit lexicon sensitive words = bilingual lexicon sensitive (first_word
 abbrev pub generated_unit : Lexicon → Marks → Bool → List (List Symbol) → List ℕ
 generated_unit lexicon marks sensitive words = generated lexicon marks sensitive (first_word words)
 
--- Each item by itself, and then what stops reading. Where the text was cut, it is no fault that an
--- item is unfinished.
-abbrev pub looked_up : (List (List Symbol) → List ℕ) → Reads → Ending → Told
-looked_up given read ending =
-    record {
-      text = (each given read.items).text;
-      fault =
-          or_else (each given read.items).fault (stop_at ending read.stop);
-    }
-
 abbrev pub bilingual_text : Lexicon → Bool → List ℕ → Ending → Told
 bilingual_text lexicon sensitive text ending =
-    looked_up (bilingual_unit lexicon sensitive) (reads Lexical 0 text) ending
+    worked (each (bilingual_unit lexicon sensitive)) (reads Lexical 0 text) ending
 
 abbrev pub generated_text : Lexicon → Marks → Bool → List ℕ → Ending → Told
 generated_text lexicon marks sensitive text ending =
-    looked_up (generated_unit lexicon marks sensitive) (reads Lexical 0 text) ending
+    worked (each (generated_unit lexicon marks sensitive)) (reads Lexical 0 text) ending
 
 -- what is still to come of work where these items still come
 abbrev pub bilingual_work : Single Looking → List Read → Told

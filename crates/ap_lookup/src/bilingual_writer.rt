@@ -5,11 +5,11 @@ ghost use Rattle.ap_stream.specs.Spelling.{slashed};
 ghost use Rattle.ap_live.specs.Lexicon.{lexicon_of};
 ghost use Rattle.ap_lookup.specs.Lookup.{bilingual, translations, translations_by};
 
-use crate::translation::{Translation, is_marked};
+use crate::translation::Translation;
 use crate::translator::Translator;
 use crate::word_writer::WordWriter;
 use ap_fst::Compiled;
-use ap_symbol::{Bytes, Memory, Word};
+use ap_symbol::{Bytes, Memory, Word, is_marked};
 use std::alloc::Global;
 use std::marker::Model;
 

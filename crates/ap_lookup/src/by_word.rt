@@ -1,6 +1,6 @@
 ghost use Rattle.std.specs.Prelude.{◌≡◌, List};
+ghost use Rattle.ap_symbol.specs.Kinds.{first_word};
 ghost use Rattle.ap_symbol.specs.declared.symbol.Symbol.{Symbol};
-ghost use Rattle.ap_lookup.specs.Lookup.{first_word};
 
 use crate::word_writer::WordWriter;
 use ap_stream::{Names, Unit, UnitWriter};

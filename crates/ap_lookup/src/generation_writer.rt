@@ -7,12 +7,12 @@ ghost use Rattle.ap_live.specs.SectionLives.{AreLive};
 ghost use Rattle.ap_lookup.specs.Translation.{lemma, forms_of};
 ghost use Rattle.ap_lookup.specs.Lookup.{generated, formed, formless, starred, unmatched, is_star as star_test};
 
-use crate::translation::{is_marked, lemma_len};
+use crate::translation::lemma_len;
 use crate::translator::take_lives;
 use crate::word_writer::WordWriter;
 use ap_fst::Compiled;
 use ap_live::{LiveSections, any_readings};
-use ap_symbol::{Bytes, Memory, Symbol, Word, Words};
+use ap_symbol::{Bytes, Memory, Symbol, Word, Words, is_marked};
 use std::alloc::Global;
 use std::marker::Model;
 

@@ -1,11 +1,12 @@
 ghost use Rattle.std.specs.Prelude.{◌≡◌, ◌↔◌, ℕ, Bool, false, List, []};
 ghost use Rattle.std.specs.List.Sorted.{IsStrictlySortedBy};
+ghost use Rattle.ap_symbol.specs.Kinds.{is_marked};
 ghost use Rattle.ap_symbol.specs.Rendering.{word_cmp};
 ghost use Rattle.ap_symbol.specs.declared.symbol.Symbol.{Symbol};
 ghost use Rattle.ap_live.specs.Lexicon.{Lexicon};
 ghost use Rattle.ap_lookup.specs.Laws.{IsLongest, HasNone, BilingualKeeps, GenerationKeeps, PostGenerationKeeps, BilingualIsRead, GenerationIsRead, PostGenerationIsRead};
 ghost use Rattle.ap_lookup.specs.Exactly.{FormsAreExact, FormsAreWritten, HeadsAreExact, GreatestIsTaken, AlarmIsLeftOut, LeastIsWritten};
-ghost use Rattle.ap_lookup.specs.Translation.{is_marked, taken, untaken, translation};
+ghost use Rattle.ap_lookup.specs.Translation.{taken, untaken, translation};
 
 use ap_symbol::one_rendering;
 

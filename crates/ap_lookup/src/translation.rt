@@ -6,12 +6,12 @@ ghost use Rattle.ap_live.specs.Lexicon.{lexicon_of, IsLexiconOf};
 ghost use Rattle.ap_live.specs.Relations.{relation_of};
 ghost use Rattle.ap_live.specs.SectionLives.{AreLive};
 ghost use Rattle.ap_lookup.specs.Matching.{is_match};
-ghost use Rattle.ap_lookup.specs.Translation.{is_tag as tag_test, lemma_length, is_marked as marked_test, untaken, translation};
+ghost use Rattle.ap_lookup.specs.Translation.{lemma_length, untaken, translation};
 ghost use Rattle.ap_lookup.specs.Translating.{translated};
 
 use ap_fst::Compiled;
 use ap_live::{LiveSections, any_readings, compiled_has_a_lexicon};
-use ap_symbol::{Memory, Symbol, Word, Words};
+use ap_symbol::{Memory, Symbol, Word, Words, is_marked, is_tag};
 use std::alloc::Global;
 
 /// The right words of the part of a word that was found, in the order of words, each once, and the
@@ -20,12 +20,6 @@ use std::alloc::Global;
 pub struct Translation {
     pub heads: Words,
     pub rest: Word,
-}
-
-fn is_tag(symbol: &Symbol) -> bool
-    ensures { result ≡ tag_test symbol.now }
-{
-    matches!(symbol, Symbol::Tag(_))
 }
 
 /// How many symbols stand before the first tag.
@@ -41,16 +35,6 @@ pub(crate) fn lemma_len(symbols: &[Symbol]) -> usize
         at += 1;
     }
     at
-}
-
-/// Whether the word begins with `*` or `@`.
-pub(crate) fn is_marked(symbols: &[Symbol]) -> bool
-    ensures { result ≡ marked_test symbols.now }
-{
-    match symbols {
-        [] => false,
-        [first, ..] => matches!(first, Symbol::Star | Symbol::At),
-    }
 }
 
 /// Goes on by a symbol behind so many others, if all of them fit a beginning of a left word, and

@@ -4,9 +4,9 @@ use Rattle.std.specs.List.{filter}
 use Rattle.std.proofs.lemmas.Bool.{cond-true, cond-false}
 use Rattle.std.proofs.lemmas.List.{append-nil, append_assoc, at_drop_more, drop_all, length-take, take_rest}
 use Rattle.std.proofs.lemmas.List.Elements.{filter-append}
+use Rattle.ap_symbol.specs.Kinds.{is_join}
 use Rattle.ap_symbol.specs.declared.symbol.Symbol.{Symbol}
 use Rattle.ap_symbol.proofs.Parts.{part_more}
-use Rattle.ap_passes.specs.Marks.{is_join}
 use Rattle.ap_passes.specs.Passes.{spaced, spaced_one, one}
 use Rattle.ap_passes.specs.Splitting.{between, in_front, between_joins, parts, parts_from, is_filled, tag_place}
 use Rattle.ap_passes.specs.Writing.{following}

@@ -3,10 +3,11 @@ use Rattle.std.proofs.Common.{◌≡◌, inl, inr, Bool, true, false, not, ◌||
 use Rattle.std.specs.List.{filter, flat_map, list_any, list_all}
 use Rattle.std.proofs.lemmas.Bool.{cond-false, or_parts, and_parts, false≢true}
 use Rattle.std.proofs.lemmas.List.{append-nil, append_assoc, take-append-drop}
+use Rattle.ap_symbol.specs.Kinds.{is_join, is_queue, is_tag}
 use Rattle.ap_symbol.specs.declared.symbol.Symbol.{Symbol}
 use Rattle.ap_symbol.specs.declared.symbol.Symbol.TheVariants.{Join}
 use Rattle.ap_passes.specs.Laws.{joined_one, rejoined, HasPart, IsMoved, moves, untagged, without, is_joinless, IsSplit, IsTakenApart}
-use Rattle.ap_passes.specs.Marks.{is_join, is_queue, is_tag, is_end, begins_with, stops_at}
+use Rattle.ap_passes.specs.Marks.{is_end, begins_with, stops_at}
 use Rattle.ap_passes.specs.Splitting.{in_front, between_joins, parts, is_filled, tag_place}
 use Rattle.ap_passes.proofs.Finding.{none_before, stops_until}
 use Rattle.ap_passes.proofs.Staying.{parts_none}

@@ -2,12 +2,12 @@
 use Rattle.std.proofs.Common.{◌≡◌, ℕ, ◌-◌, ◌<◌, Bool, true, false, cond, List, [], ◌∷◌, ◌++◌, length, take, drop, sym, refl, subst, arith}
 use Rattle.std.specs.List.{filter, list_all}
 use Rattle.std.proofs.lemmas.Bool.{and_parts}
+use Rattle.ap_symbol.specs.Kinds.{is_join, is_marked}
 use Rattle.ap_symbol.specs.declared.symbol.Symbol.{Symbol}
 use Rattle.ap_stream.specs.declared.dialect.Dialect.TheVariants.{Analysed, Lexical}
 use Rattle.ap_stream.specs.Laws.{AreSpelt, EachSpelt, AreWords}
 use Rattle.ap_stream.proofs.Written.{spelt_append, spelt_take, spelt_drop}
 use Rattle.ap_passes.specs.Laws.{EachWord}
-use Rattle.ap_passes.specs.Marks.{is_join, is_marked}
 use Rattle.ap_passes.specs.Splitting.{between, in_front, between_joins, parts, is_filled, tag_place, queue_place, part_end, invariable, is_moved, moved, split}
 use Rattle.ap_passes.proofs.MovedParts.{moved_is, moved_not}
 use Rattle.ap_passes.proofs.Staying.{split_marked, split_open, none_empty}

@@ -4,8 +4,8 @@ use Rattle.std.specs.Prelude.{nat_lt}
 use Rattle.std.specs.List.{filter, list_any, list_all}
 use Rattle.std.proofs.lemmas.Bool.{cond-true, cond-false, or_parts, and_left, and_right, and_from, le-ltb}
 use Rattle.std.proofs.lemmas.List.{take-append-drop, drop_all}
+use Rattle.ap_symbol.specs.Kinds.{is_join, is_queue, is_tag, is_joint, is_marked}
 use Rattle.ap_symbol.specs.declared.symbol.Symbol.{Symbol}
-use Rattle.ap_passes.specs.Marks.{is_join, is_queue, is_tag, is_seam, is_marked}
 use Rattle.ap_passes.specs.Splitting.{in_front, between_joins, parts, is_filled, tag_place, queue_place, is_moved, moved, split}
 use Rattle.ap_passes.proofs.Cutting.{filled_by}
 use Rattle.ap_passes.proofs.Finding.{none_until, none_less, none_drop, until_le}
@@ -47,22 +47,22 @@ stays_by false word m some still whole =
     split_open word m ∙ ap (λ z. filter is_filled (parts z)) (moved_not word still)
     ∙ ap (filter is_filled) (parts_none word whole) ∙ filled_whole word some
 
-seam_join : (x : Symbol) → is_seam x ≡ false → is_join x ≡ false
-seam_join x h = (or_parts (is_join x) (is_queue x) h).0
+joint_join : (x : Symbol) → is_joint x ≡ false → is_join x ≡ false
+joint_join x h = (or_parts (is_join x) (is_queue x) h).0
 
-seam_queue : (x : Symbol) → is_seam x ≡ false → is_queue x ≡ false
-seam_queue x h = (or_parts (is_join x) (is_queue x) h).1
+joint_queue : (x : Symbol) → is_joint x ≡ false → is_queue x ≡ false
+joint_queue x h = (or_parts (is_join x) (is_queue x) h).1
 
-pub plain_split : (word : List Symbol) → 0 < length word → list_any is_seam word ≡ false →
+pub plain_split : (word : List Symbol) → 0 < length word → list_any is_joint word ≡ false →
     split word ≡ word ∷ []
 plain_split word some h =
-    let no_queue = none_until is_queue word (none_less is_seam is_queue seam_queue word h) in
+    let no_queue = none_until is_queue word (none_less is_joint is_queue joint_queue word h) in
     let still : is_moved word ≡ false =
     and_right (nat_lt (tag_place word) (queue_place word))
     (nat_lt (queue_place word) (length word))
     (le-ltb (queue_place word) (length word) (omega (arith, no_queue))) in
     stays_by (is_marked word) word refl some still
-    (none_drop is_join (tag_place word) word (none_less is_seam is_join seam_join word h))
+    (none_drop is_join (tag_place word) word (none_less is_joint is_join joint_join word h))
 
 pub tagless_split : (word : List Symbol) → 0 < length word → list_any is_tag word ≡ false →
     split word ≡ word ∷ []

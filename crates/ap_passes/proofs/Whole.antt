@@ -4,10 +4,11 @@ use Rattle.std.specs.Prelude.{nat_lt}
 use Rattle.std.specs.List.{filter, flat_map, list_any, list_all}
 use Rattle.std.proofs.lemmas.Bool.{cond-true, cond-false, and_parts, and_from, and_cases, or_from, ltb-false, cases_lt}
 use Rattle.std.proofs.lemmas.List.{append_assoc, take-append-drop, take-take, drop-drop, drop-take, drop_more}
+use Rattle.ap_symbol.specs.Kinds.{is_join, is_queue, is_tag, is_marked}
 use Rattle.ap_symbol.specs.declared.symbol.Symbol.{Symbol}
 use Rattle.ap_symbol.specs.declared.symbol.Symbol.TheVariants.{Letter, Tag, Blank, Join, Queue, Alarm, Star, At}
 use Rattle.ap_passes.specs.Laws.{joined_one, rejoined, HasPart, IsMoved, moves, untagged, without, is_joinless, IsSplit, IsTakenApart}
-use Rattle.ap_passes.specs.Marks.{is_join, is_queue, is_tag, is_end, is_marked, until, begins_with, stops_at}
+use Rattle.ap_passes.specs.Marks.{is_end, until, begins_with, stops_at}
 use Rattle.ap_passes.specs.Splitting.{between, in_front, between_joins, parts, is_filled, tag_place, queue_place, part_end, invariable, is_moved, moved, split}
 use Rattle.ap_passes.proofs.Finding.{none_before, none_take, found, until_le, until_none, stops_until}
 use Rattle.ap_passes.proofs.MovedParts.{moved_places, moved_is, moved_not}

@@ -5,10 +5,11 @@ use Rattle.std.proofs.Common.{arith, ap, sym, ◌∙◌, length-append, inl, inr
 use Rattle.std.proofs.lemmas.List.Folds.{list_any-append}
 use Rattle.std.proofs.lemmas.Bool.{cases_lt, or_parts}
 use Rattle.std.proofs.str.Laws.{one as one_byte, two, three, four}
+use Rattle.ap_symbol.specs.Kinds.{is_joint}
 use Rattle.ap_symbol.specs.declared.symbol.Symbol.{Symbol}
 use Rattle.ap_symbol.specs.declared.symbol.Symbol.TheVariants as symbol
 use Rattle.ap_symbol.specs.Rendering.{is_escaped_lem, letter_bytes, symbol_bytes, rendering}
-use Rattle.ap_passes.specs.Marks.{is_seam, is_seam_byte}
+use Rattle.ap_passes.specs.Marks.{is_joint_byte}
 use Rattle.ap_passes.specs.Passes.{filled_one}
 use Rattle.ap_passes.specs.Splitting.{split}
 use Rattle.ap_passes.proofs.Staying.{plain_split}
@@ -66,30 +67,30 @@ filled_word bytes (s ∷ word) e some = omega arith
 
 -- a word without + and # among its bytes has no Join and no Queue
 
-seamless : (s : Symbol) → list_any is_seam_byte (symbol_bytes s) ≡ false → is_seam s ≡ false
-seamless (symbol.Letter c) h = refl
-seamless (symbol.Tag name) h = refl
-seamless symbol.Blank h = refl
-seamless symbol.Join h = absurd (cc)
-seamless symbol.Queue h = absurd (cc)
-seamless symbol.Alarm h = refl
-seamless symbol.Star h = refl
-seamless symbol.At h = refl
+jointless : (s : Symbol) → list_any is_joint_byte (symbol_bytes s) ≡ false → is_joint s ≡ false
+jointless (symbol.Letter c) h = refl
+jointless (symbol.Tag name) h = refl
+jointless symbol.Blank h = refl
+jointless symbol.Join h = absurd (cc)
+jointless symbol.Queue h = absurd (cc)
+jointless symbol.Alarm h = refl
+jointless symbol.Star h = refl
+jointless symbol.At h = refl
 
-no_seam : (word : List Symbol) → list_any is_seam_byte (rendering word) ≡ false →
-    list_any is_seam word ≡ false
-no_seam [] h = refl
-no_seam (s ∷ word) h =
-    let p = or_parts (list_any is_seam_byte (symbol_bytes s))
-    (list_any is_seam_byte (rendering word))
-    (sym (list_any-append is_seam_byte (symbol_bytes s) (rendering word)) ∙ h) in
-    rw (seamless s p.0, no_seam word p.1) refl
+no_joint : (word : List Symbol) → list_any is_joint_byte (rendering word) ≡ false →
+    list_any is_joint word ≡ false
+no_joint [] h = refl
+no_joint (s ∷ word) h =
+    let p = or_parts (list_any is_joint_byte (symbol_bytes s))
+    (list_any is_joint_byte (rendering word))
+    (sym (list_any-append is_joint_byte (symbol_bytes s) (rendering word)) ∙ h) in
+    rw (jointless s p.0, no_joint word p.1) refl
 
 pub whole_word : (bytes : List ℕ) (word : List Symbol) → bytes ≡ rendering word → 0 < length bytes →
-    list_any is_seam_byte bytes ≡ false → split word ≡ word ∷ []
+    list_any is_joint_byte bytes ≡ false → split word ≡ word ∷ []
 whole_word bytes word e some h =
     plain_split word (filled_word bytes word e some)
-    (no_seam word (ap (list_any is_seam_byte) (sym e) ∙ h))
+    (no_joint word (ap (list_any is_joint_byte) (sym e) ∙ h))
 
 pub filled_none : (bytes : List ℕ) (word : List Symbol) → bytes ≡ rendering word →
     length bytes ≡ 0 → filled_one word ≡ []

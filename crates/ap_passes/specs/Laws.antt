@@ -1,6 +1,7 @@
 -- What the laws of taking words apart say.
 use Rattle.std.specs.Prelude.{◌≡◌, ◌⊎◌, ℕ, ◌<◌, Bool, true, false, not, List, [], ◌∷◌, ◌++◌, length, None}
 use Rattle.std.specs.List.{filter, flat_map, list_any, list_all}
+use Rattle.ap_symbol.specs.Kinds.{is_tag, is_join, is_queue, is_joint, is_marked}
 use Rattle.ap_symbol.specs.declared.symbol.Symbol.{Symbol}
 use Rattle.ap_symbol.specs.declared.symbol.Symbol.TheVariants.{Join}
 use Rattle.ap_stream.specs.Laws.{AreWords}
@@ -8,7 +9,7 @@ use Rattle.ap_stream.specs.Pieces.{HaveSameSuperblanks}
 use Rattle.ap_stream.specs.ReadOn.{Links}
 use Rattle.ap_stream.specs.Told.{Clean}
 use Rattle.ap_stream.specs.declared.dialect.Dialect.TheVariants.{Analysed, Lexical}
-use Rattle.ap_passes.specs.Marks.{is_tag, is_join, is_queue, is_end, is_seam, is_marked, begins_with, stops_at}
+use Rattle.ap_passes.specs.Marks.{is_end, begins_with, stops_at}
 use Rattle.ap_passes.specs.Passes.{first_pass, split_pass}
 use Rattle.ap_passes.specs.Splitting.{is_filled, moved, parts, split}
 
@@ -93,7 +94,7 @@ NoneIsEmpty = (word : List Symbol) → list_all is_filled (split word) ≡ true
 
 -- a word without Join and Queue stays as it is
 abbrev pub PlainStays : Type 0
-PlainStays = (word : List Symbol) → 0 < length word → list_any is_seam word ≡ false →
+PlainStays = (word : List Symbol) → 0 < length word → list_any is_joint word ≡ false →
     split word ≡ word ∷ []
 
 -- so does a word without a tag

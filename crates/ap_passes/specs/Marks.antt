@@ -1,41 +1,15 @@
 -- Which symbols matter where a word is taken apart, and where the first of them stands.
 use Rattle.std.specs.Prelude.{ℕ, eqb, suc, Bool, true, false, ◌||◌, List, [], ◌∷◌, if◌then◌else◌}
+use Rattle.ap_symbol.specs.Kinds.{is_tag, is_join}
 use Rattle.ap_symbol.specs.declared.symbol.Symbol.{Symbol}
-use Rattle.ap_symbol.specs.declared.symbol.Symbol.TheVariants.{Tag, Join, Queue, Star, At}
-
-abbrev pub is_tag : Symbol → Bool
-is_tag (Tag name) = true
-is_tag _ = false
-
-abbrev pub is_join : Symbol → Bool
-is_join Join = true
-is_join _ = false
-
-abbrev pub is_queue : Symbol → Bool
-is_queue Queue = true
-is_queue _ = false
-
-abbrev pub is_mark : Symbol → Bool
-is_mark Star = true
-is_mark At = true
-is_mark _ = false
-
--- a word that begins with * or @ isn't taken apart
-abbrev pub is_marked : List Symbol → Bool
-is_marked [] = false
-is_marked (x ∷ word) = is_mark x
 
 -- a tag or a Join ends an invariable part
 abbrev pub is_end : Symbol → Bool
 is_end x = is_tag x || is_join x
 
--- a word without a Join and without a Queue stays as it is
-abbrev pub is_seam : Symbol → Bool
-is_seam x = is_join x || is_queue x
-
 -- the bytes of a Join and of a Queue
-abbrev pub is_seam_byte : ℕ → Bool
-is_seam_byte b = eqb b 43 || eqb b 35
+abbrev pub is_joint_byte : ℕ → Bool
+is_joint_byte b = eqb b 43 || eqb b 35
 
 -- how many symbols stand before the first that passes the test: all of them, where none does
 abbrev pub until : (Symbol → Bool) → List Symbol → ℕ

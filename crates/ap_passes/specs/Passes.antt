@@ -3,9 +3,10 @@ use Rattle.std.specs.Prelude.{ℕ, Bool, List, [], ◌∷◌, ◌++◌, Option}
 use Rattle.std.specs.List.{flat_map}
 use Rattle.ap_symbol.specs.declared.symbol.Symbol.{Symbol}
 use Rattle.ap_stream.specs.Each.{each, held_items}
-use Rattle.ap_stream.specs.Reading.{Reads, reads}
+use Rattle.ap_stream.specs.Reading.{reads}
+use Rattle.ap_stream.specs.Rest.{worked}
 use Rattle.ap_stream.specs.Spelling.{unit_bytes}
-use Rattle.ap_stream.specs.Told.{Told, Ending, or_else, stop_at}
+use Rattle.ap_stream.specs.Told.{Told, Ending}
 use Rattle.ap_stream.specs.declared.dialect.Dialect.{Dialect}
 use Rattle.ap_stream.specs.declared.dialect.Dialect.TheVariants.{Analysed, Lexical}
 use Rattle.ap_stream.specs.declared.item.Read.{Read}
@@ -39,24 +40,13 @@ abbrev pub split_unit : List (List Symbol) → List ℕ
 split_unit [] = []
 split_unit (word ∷ words) = spaced (split word)
 
--- A tool that takes each item by itself, on what is read of a text. A limit that it meets is the
--- fault; otherwise what stops reading is. Where the text was cut, it is no fault that an item is
--- unfinished.
-abbrev pub passed_of : (List (List Symbol) → List ℕ) → Reads → Ending → Told
-passed_of given read ending =
-    record {
-      text = (each given read.items).text;
-      fault =
-          or_else (each given read.items).fault (stop_at ending read.stop);
-    }
-
 -- the first readings of an analysed text
 abbrev pub first_pass : List ℕ → Ending → Told
-first_pass text ending = passed_of first_reading (reads Analysed 0 text) ending
+first_pass text ending = worked (each first_reading) (reads Analysed 0 text) ending
 
 -- a lexical text whose words are taken apart
 abbrev pub split_pass : List ℕ → Ending → Told
-split_pass text ending = passed_of split_unit (reads Lexical 0 text) ending
+split_pass text ending = worked (each split_unit) (reads Lexical 0 text) ending
 
 -- what is seen of a pass at work: its dialect, the item that it holds, and whether it is the last
 pub record Passing : Type 0 where

@@ -1,8 +1,9 @@
 -- How pretransfer takes a word apart (the Apertium stream format). Places are counted from 0.
 use Rattle.std.specs.Prelude.{ℕ, ◌+◌, ◌-◌, nat_lt, Bool, true, false, ◌&&◌, List, [], ◌∷◌, ◌++◌, length, take, drop, if◌then◌else◌}
 use Rattle.std.specs.List.{filter}
+use Rattle.ap_symbol.specs.Kinds.{is_tag, is_join, is_queue, is_marked}
 use Rattle.ap_symbol.specs.declared.symbol.Symbol.{Symbol}
-use Rattle.ap_passes.specs.Marks.{is_tag, is_join, is_queue, is_end, is_marked, until}
+use Rattle.ap_passes.specs.Marks.{is_end, until}
 
 -- the symbols from one place up to, and without, another
 abbrev pub between : ℕ → ℕ → List Symbol → List Symbol

@@ -1,5 +1,6 @@
 ghost use Rattle.std.specs.Prelude.{◌≡◌, ◌+◌, ◌≤◌, length, drop};
-ghost use Rattle.ap_passes.specs.Marks.{until, is_join as join_test, is_marked as marked_test};
+ghost use Rattle.ap_symbol.specs.Kinds.{is_join as join_test};
+ghost use Rattle.ap_passes.specs.Marks.{until};
 ghost use Rattle.ap_passes.specs.Sought.{test_of};
 
 use ap_symbol::Symbol;
@@ -14,7 +15,7 @@ pub(crate) enum Sought {
     /// What ends an invariable part: a tag or a Join.
     PartEnd,
     /// What lets a word be taken apart: a Join or a Queue.
-    Seam,
+    Joint,
 }
 
 fn is_sought(sought: Sought, symbol: &Symbol) -> bool
@@ -24,7 +25,7 @@ fn is_sought(sought: Sought, symbol: &Symbol) -> bool
         Sought::Tag => matches!(symbol, Symbol::Tag(_)),
         Sought::Queue => matches!(symbol, Symbol::Queue),
         Sought::PartEnd => matches!(symbol, Symbol::Tag(_) | Symbol::Join),
-        Sought::Seam => matches!(symbol, Symbol::Join | Symbol::Queue),
+        Sought::Joint => matches!(symbol, Symbol::Join | Symbol::Queue),
     }
 }
 
@@ -48,14 +49,4 @@ pub(crate) fn is_join(symbol: &Symbol) -> bool
     ensures { result ≡ join_test symbol.now }
 {
     matches!(symbol, Symbol::Join)
-}
-
-/// Whether the word begins with `*` or `@`.
-pub(crate) fn is_marked(symbols: &[Symbol]) -> bool
-    ensures { result ≡ marked_test symbols.now }
-{
-    match symbols {
-        [] => false,
-        [first, ..] => matches!(first, Symbol::Star | Symbol::At),
-    }
 }

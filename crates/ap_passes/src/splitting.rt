@@ -1,13 +1,13 @@
 ghost use Rattle.std.specs.Prelude.{◌≡◌, ◌++◌, ◌∷◌, [], true, false, OnOk, IfOk};
-ghost use Rattle.ap_passes.specs.Marks.{is_marked as marked_test};
+ghost use Rattle.ap_symbol.specs.Kinds.{is_marked as marked_test};
 ghost use Rattle.ap_passes.specs.Passes.{spaced};
 ghost use Rattle.ap_passes.specs.Splitting.{split};
 
 use crate::moving::move_invariable;
 use crate::parts::{parts_of, write_parts};
-use crate::places::{Sought, is_marked, place_of};
+use crate::places::{Sought, place_of};
 use crate::units::write_one;
-use ap_symbol::{Bytes, Memory, Symbol, Word, Words};
+use ap_symbol::{Bytes, Memory, Symbol, Word, Words, is_marked};
 use std::alloc::Global;
 
 /// Whether a word surely stays as it is: it begins with `*` or `@`, or it has a symbol and neither
@@ -22,7 +22,7 @@ fn stays(symbols: &[Symbol]) -> bool
     if symbols.is_empty() {
         return false;
     }
-    place_of(symbols, 0, Sought::Seam) == symbols.len()
+    place_of(symbols, 0, Sought::Joint) == symbols.len()
 }
 
 /// The list of this word alone.

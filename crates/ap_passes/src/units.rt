@@ -2,7 +2,7 @@ ghost use Rattle.std.specs.Prelude.{◌≡◌, ◌++◌, ◌∷◌, [], List, tr
 ghost use Rattle.std.specs.List.{list_any};
 ghost use Rattle.ap_symbol.specs.Rendering.{rendering};
 ghost use Rattle.ap_symbol.specs.declared.symbol.Symbol.{Symbol};
-ghost use Rattle.ap_passes.specs.Marks.{is_seam_byte};
+ghost use Rattle.ap_passes.specs.Marks.{is_joint_byte};
 ghost use Rattle.ap_passes.specs.Passes.{one, filled_one, spaced};
 ghost use Rattle.ap_passes.specs.Splitting.{split};
 
@@ -39,8 +39,8 @@ pub(crate) fn write_filled(bytes: &[u8], into: &mut Bytes) -> Result<(), Memory>
 }
 
 /// Whether a byte is `+` or `#`.
-fn has_seam(bytes: &[u8]) -> bool
-    ensures { result ≡ list_any is_seam_byte bytes.now }
+fn has_joint(bytes: &[u8]) -> bool
+    ensures { result ≡ list_any is_joint_byte bytes.now }
 {
     bytes.iter().any(|byte| *byte == b'+' || *byte == b'#')
 }
@@ -50,7 +50,7 @@ fn is_plain(bytes: &[u8]) -> bool
     ensures { (word : List Symbol) → bytes.now ≡ rendering word → result ≡ true →
         split word ≡ word ∷ [] }
 {
-    !bytes.is_empty() && !has_seam(bytes)
+    !bytes.is_empty() && !has_joint(bytes)
 }
 
 /// Appends the unit of the word with these bytes and answers true, where it surely isn't taken

@@ -5,6 +5,7 @@ use Rattle.std.proofs.Common.{arith, ap, sym, subst, ◌∙◌}
 use Rattle.std.proofs.lemmas.Bool.Decides.{nat_tests}
 use Rattle.std.proofs.lemmas.List.{append-nil, length-take, take-take}
 use Rattle.std.proofs.lemmas.Str.{length-encode, len_utf8_bounds}
+use Rattle.ap_symbol.specs.Kinds.{first_word}
 use Rattle.ap_symbol.specs.declared.symbol.Symbol.{Symbol}
 use Rattle.ap_stream.specs.Blanks.{Run, Open, Inside, BadChar, Done, blank, begins_blank, blank_some}
 use Rattle.ap_stream.specs.Chars.{Front, Part, NotChar, Char, char_at}
@@ -13,7 +14,7 @@ use Rattle.ap_stream.specs.Dialects.{is_refused, has_chunks}
 use Rattle.ap_stream.specs.Each.{each, item_text, is_over}
 use Rattle.ap_stream.specs.Laws.{AreWords, IsBlank}
 use Rattle.ap_stream.specs.Limits.{unit_max, item_max, item_max_is}
-use Rattle.ap_stream.specs.Reading.{First, Needs, Whole, Faulty, Bad, Past, first, last, Broken, last_run, begins_unit, of_run, of_escaped, of_char, of_unit, of_caret, of_chunk, of_body, name_in, plain as plain_item, limited, at_limit, past, walk, walked, reads, at_end, counted}
+use Rattle.ap_stream.specs.Reading.{First, Needs, Whole, Faulty, Bad, Past, first, last, Broken, last_run, begins_unit, of_run, of_escaped, of_char, of_unit, of_caret, of_chunk, of_body, plain as plain_item, limited, at_limit, past, walk, walked, reads, at_end, counted}
 use Rattle.ap_stream.specs.Spelling.{spelled, character_bytes, unit_bytes}
 use Rattle.ap_stream.specs.Stands.{blank_first}
 use Rattle.ap_stream.specs.Told.{behind, ends_in}
@@ -30,7 +31,7 @@ use Rattle.ap_stream.proofs.ChunkCut.{done_on}
 use Rattle.ap_stream.proofs.Rows.{IsRow, Rows, reads_rows, drop_pred}
 use Rattle.ap_live.specs.Lexicon.{Lexicon}
 use Rattle.ap_live.specs.Readable.{GivesReadable}
-use Rattle.ap_lookup.specs.Lookup.{first_word, translations}
+use Rattle.ap_lookup.specs.Lookup.{translations}
 use Rattle.ap_lookup.specs.Works.{bilingual_unit}
 use Rattle.ap_lookup.proofs.SuperblanksKept.{some_translations}
 use Rattle.ap_pipe.proofs.ItemsBack.{is_blank, NoBlankFirst, AreOwn, all_spelled, IsBack, items_back}
@@ -89,7 +90,7 @@ caret_at dialect all bs r =
     chunk : (r : Rest) → FirstAt all (of_chunk bs r)
     chunk Lacks = tt
     chunk (Wrong kind) = tt
-    chunk (Ends words n) = body_at all (name_in words) (1 + n) (body n bs)
+    chunk (Ends words n) = body_at all (first_word words) (1 + n) (body n bs)
 
     unit : (r : Rest) → FirstAt all (of_unit r)
     unit Lacks = tt

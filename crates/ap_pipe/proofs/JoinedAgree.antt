@@ -4,6 +4,7 @@ use Rattle.std.specs.List.{flat_map}
 use Rattle.std.proofs.Common.{ap, sym, ◌∙◌}
 use Rattle.std.proofs.lemmas.List.{append-nil, map-append}
 use Rattle.std.proofs.lemmas.List.Concat.{flat_map-cons}
+use Rattle.ap_symbol.specs.Kinds.{is_marked, first_word}
 use Rattle.ap_symbol.specs.declared.symbol.Symbol.{Symbol}
 use Rattle.ap_symbol.specs.declared.symbol.Symbol.TheVariants.{At}
 use Rattle.ap_stream.specs.Each.{each}
@@ -19,8 +20,8 @@ use Rattle.ap_stream.specs.declared.item.Item.TheVariants as item
 use Rattle.ap_stream.specs.declared.item.Read.{Read}
 use Rattle.ap_stream.proofs.EachKept.{neither}
 use Rattle.ap_live.specs.Lexicon.{Lexicon}
-use Rattle.ap_lookup.specs.Lookup.{first_word, translations, translations_by}
-use Rattle.ap_lookup.specs.Translation.{translation, is_marked}
+use Rattle.ap_lookup.specs.Lookup.{translations, translations_by}
+use Rattle.ap_lookup.specs.Translation.{translation}
 use Rattle.ap_lookup.specs.Works.{bilingual_unit, bilingual_text}
 use Rattle.ap_rules.specs.Views.{plain_rules}
 use Rattle.ap_rules.specs.declared.rules.Form.{Form}

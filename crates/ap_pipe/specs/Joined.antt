@@ -2,12 +2,14 @@
 -- first translation; in joined transfer it is a word whose translation is looked up at once.
 use Rattle.std.specs.Prelude.{ℕ, nat_lt, Bool, true, false, List, [], ◌∷◌, ◌++◌, length, take, Option, Some, None, if◌then◌else◌}
 use Rattle.std.specs.List.{flat_map}
+use Rattle.ap_symbol.specs.Kinds.{is_marked}
 use Rattle.ap_symbol.specs.declared.symbol.Symbol.{Symbol}
 use Rattle.ap_symbol.specs.declared.symbol.Symbol.TheVariants.{At}
 use Rattle.ap_stream.specs.Limits.{span_max}
 use Rattle.ap_stream.specs.Reading.{Reads, reads}
 use Rattle.ap_stream.specs.Steps.{bytes_of}
-use Rattle.ap_stream.specs.Told.{Told, Ending, or_else, stop_at}
+use Rattle.ap_stream.specs.Rest.{worked}
+use Rattle.ap_stream.specs.Told.{Told, Ending}
 use Rattle.ap_stream.specs.declared.dialect.Dialect.{Dialect}
 use Rattle.ap_stream.specs.declared.dialect.Dialect.TheVariants.{Lexical}
 use Rattle.ap_stream.specs.declared.fault.LimitKind.TheVariants as limit
@@ -15,7 +17,7 @@ use Rattle.ap_stream.specs.declared.item.Item.{Item}
 use Rattle.ap_stream.specs.declared.item.Item.TheVariants.{Plain, Blank, Unit, Chunk}
 use Rattle.ap_stream.specs.declared.item.Read.{Read}
 use Rattle.ap_live.specs.Lexicon.{Lexicon}
-use Rattle.ap_lookup.specs.Translation.{Translated, translation, is_marked}
+use Rattle.ap_lookup.specs.Translation.{Translated, translation}
 use Rattle.ap_rules.specs.Views.{plain_rules}
 use Rattle.ap_rules.specs.declared.rules.Rules.{Rules}
 use Rattle.ap_exec.specs.Acting.{act_of}
@@ -81,14 +83,9 @@ seen_step sees rules vars items =
 abbrev pub seen_through : Sees → Rules → List Read → Told
 seen_through sees rules items = carried (seen_step sees rules) (start_of rules) 0 items
 
--- a limit that it meets is the fault; otherwise what stops reading is
+-- by rules, on what is read of a text
 abbrev pub seen_by : Sees → Rules → Reads → Ending → Told
-seen_by sees rules read ending =
-    record {
-      text = (seen_through sees rules read.items).text;
-      fault =
-          or_else (seen_through sees rules read.items).fault (stop_at ending read.stop);
-    }
+seen_by sees rules read ending = worked (seen_through sees rules) read ending
 
 -- transfer of a text of this dialect
 abbrev pub transferred_as : Sees → Dialect → Rules → List ℕ → Ending → Told

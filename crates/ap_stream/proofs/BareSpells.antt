@@ -14,7 +14,8 @@ use Rattle.ap_stream.specs.Units.{Rest, Lacks, Wrong, Ends, rest, form_of}
 use Rattle.ap_stream.specs.Chars.{Front, Part, NotChar, Char, char_at}
 use Rattle.ap_stream.specs.Blanks.{Run, Open, Inside, BadChar, Done, blank, begins_blank}
 use Rattle.ap_stream.proofs.Encoding.{Encodes, char_encodes}
-use Rattle.ap_stream.specs.Reading.{First, Needs, Whole, Faulty, Past, first, limited, past, at_limit, of_run, of_escaped, of_char, plain, IsRead, of_unit, begins_unit, of_body, of_chunk, of_caret, name_in}
+use Rattle.ap_symbol.specs.Kinds.{first_word}
+use Rattle.ap_stream.specs.Reading.{First, Needs, Whole, Faulty, Past, first, limited, past, at_limit, of_run, of_escaped, of_char, plain, IsRead, of_unit, begins_unit, of_body, of_chunk, of_caret}
 use Rattle.ap_stream.specs.declared.fault.LimitKind.TheVariants.{ItemTooLong}
 use Rattle.ap_stream.specs.Spelling.{spelled}
 use Rattle.ap_stream.specs.Chunks.{Body, Opens, Fails, Closes, body}
@@ -66,7 +67,7 @@ spells_chunk : (text bytes : List ℕ) (r : Rest) → Spells text (of_chunk byte
 spells_chunk text bytes Lacks = tt
 spells_chunk text bytes (Wrong kind) = tt
 spells_chunk text bytes (Ends words n) =
-    spells_body text (name_in words) [] (1 + n) (body n bytes)
+    spells_body text (first_word words) [] (1 + n) (body n bytes)
 
 spells_caret : (dialect : Dialect) (text bytes : List ℕ) (r : Rest) →
     Spells text (of_caret dialect bytes r)

@@ -22,7 +22,8 @@ use Rattle.ap_stream.specs.Chunks.{Held, portion, Body, Opens, Fails, Closes, be
 use Rattle.ap_stream.specs.InUnits.{unit_always, first_caret}
 use Rattle.ap_stream.specs.InChunks.{part_first, portion_of, part_agrees, part_on, part_some, body_held}
 use Rattle.ap_stream.specs.Laws.{AreSpelt, IsBlank, NoBlankFirst, AreParts}
-use Rattle.ap_stream.specs.Reading.{Whole, first, of_chunk, of_body, name_in}
+use Rattle.ap_symbol.specs.Kinds.{first_word}
+use Rattle.ap_stream.specs.Reading.{Whole, first, of_chunk, of_body}
 use Rattle.ap_stream.specs.Spelling.{unit_bytes, inner_bytes, chunk_bytes}
 use Rattle.ap_stream.specs.Stands.{blank_first}
 use Rattle.ap_stream.proofs.Back.{unit_back, word_back}
@@ -411,7 +412,7 @@ chunk_cut bs chunk n h =
     let m : ℕ = s.size in
     let c : BodyCut (drop s.named s.tail) s.parts s.size =
     body_cut 0 (drop s.named s.tail) s.parts s.size s.body_is in
-    let made : Chunk = record { name = name_in s.words; content = s.parts } in
+    let made : Chunk = record { name = first_word s.words; content = s.parts } in
     let r : (x : List ℕ) → (rest (form_of Chunked) [] [] 0 (take s.named s.tail ++ x)
     ≡ Ends s.words s.named)
     × (0 < s.named) × (s.named ≤ length s.tail) =
@@ -435,7 +436,7 @@ chunk_cut bs chunk n h =
           body_skip s.named (take s.named s.tail ++ y) ∙ ap (body 0) (left y) ∙ c.read x in
           ap (first Chunked) (all x) ∙ first_caret Chunked (take s.named s.tail ++ y) refl
           ∙ ap (of_chunk (take s.named s.tail ++ y)) (r y).0
-          ∙ ap (of_body (name_in s.words) [] (1 + s.named)) more
+          ∙ ap (of_body (first_word s.words) [] (1 + s.named)) more
           ∙ ap (λ q. Whole (item.Chunk q) (1 + s.named + s.size)) (sym s.chunk_is)
           ∙ ap (Whole (item.Chunk chunk)) (sym s.size_is);
       some = omega (arith, size);

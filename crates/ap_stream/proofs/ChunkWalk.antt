@@ -18,7 +18,8 @@ use Rattle.ap_stream.specs.Units.{form_of, Name, Runs, Breaks, Stops, name, Sign
 use Rattle.ap_stream.specs.UnitBytes.{UnitOf}
 use Rattle.ap_stream.specs.Chunks.{Barred, Braced, portion, blank_portion, unit_portion, Body, Opens, Fails, Closes, behind_part, behind_portion, closed, body, body_skip, body_nil, body_brace, wrong_byte}
 use Rattle.ap_stream.specs.ChunkBytes.{ChunkOf, CharSize}
-use Rattle.ap_stream.specs.Reading.{Whole, Faulty, Bad as OfKind, first, of_run, of_escaped, of_char, of_chunk, of_body, name_in, plain}
+use Rattle.ap_symbol.specs.Kinds.{first_word}
+use Rattle.ap_stream.specs.Reading.{Whole, Faulty, Bad as OfKind, first, of_run, of_escaped, of_char, of_chunk, of_body, plain}
 use Rattle.ap_stream.proofs.SignLaws as laws
 use Rattle.ap_stream.proofs.SignLaws.{IsWhole}
 use Rattle.ap_stream.specs.Signs.{Barren}
@@ -616,7 +617,7 @@ pub record IsShaped (bs : List ℕ) (chunk : Chunk) (k : ℕ) : Type 0 where
   pub begins : bs ≡ 94 ∷ tail
   pub name_is : rest (form_of Chunked) [] [] 0 tail ≡ Ends words named
   pub body_is : body 0 (drop named tail) ≡ Closes parts size
-  pub chunk_is : chunk ≡ record { name = name_in words; content = parts }
+  pub chunk_is : chunk ≡ record { name = first_word words; content = parts }
   pub size_is : k ≡ 1 + named + size
 
 pub shaped : (bs : List ℕ) (chunk : Chunk) (k : ℕ) → first Chunked bs ≡ Whole (item.Chunk chunk) k →
@@ -627,12 +628,12 @@ shaped (b ∷ bs) chunk k h = by_blank (begins_blank b) h
   where
     of_body_at : b ≡ 94 → (words : List (List Symbol)) (n : ℕ) →
         rest (form_of Chunked) [] [] 0 bs ≡ Ends words n → (z : Body) → body n bs ≡ z →
-        of_body (name_in words) [] (1 + n) z ≡ Whole (item.Chunk chunk) k →
+        of_body (first_word words) [] (1 + n) z ≡ Whole (item.Chunk chunk) k →
         IsShaped (b ∷ bs) chunk k
     of_body_at is words n e Opens f h = absurd (cc)
     of_body_at is words n e (Fails kind) f h = absurd (cc)
     of_body_at is words n e (Closes parts m) f h =
-        let same : record { name = name_in words; content = parts } ≡ chunk = cc in
+        let same : record { name = first_word words; content = parts } ≡ chunk = cc in
         let count : 1 + n + m ≡ k = cc in
         record {
           tail = bs;
@@ -750,7 +751,7 @@ module _ (held : List ℕ) (chunk : Chunk) (h : ChunkOf held chunk) (name : List
       ChunkOf held (record { name = name; content = parts })
   chunk_made parts n e =
       let p : shape.parts ≡ parts = ap parts_in (sym content_whole ∙ e) in
-      let w : name_in shape.words ≡ name = ap name_in (ap words_in both) in
+      let w : first_word shape.words ≡ name = ap first_word (ap words_in both) in
       let all : chunk ≡ record { name = name; content = parts } =
       shape.chunk_is ∙ ap (λ q. record { name = q; content = shape.parts }) w
       ∙ ap (λ q. record { name = name; content = q }) p in

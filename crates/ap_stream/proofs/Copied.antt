@@ -299,7 +299,7 @@ module _ {H : Type 0} (count : H → ℕ) (work : H → List Read → Told)
 
   worked_copied : (h : H) → count h ≡ 0 → (items : List Read) (run : List ℕ) → AreCopied items →
       spelling items ≡ run → (more : Reads) (e : Ending) →
-      worked work h (preceded items more) e ≡ behind run (worked work h more e)
+      worked (work h) (preceded items more) e ≡ behind run (worked (work h) more e)
   worked_copied h none items run all is more e =
       rw (work_copied h none items more.items all, is) refl
 
@@ -307,7 +307,7 @@ module _ {H : Type 0} (count : H → ℕ) (work : H → List Read → Told)
       Gives work dialect h h run run
   run_gives dialect h none run runs = record {
     gives = λ place counts x e.
-        ap (λ r. worked work h r e) (runs.reads_on place counts x)
+        ap (λ r. worked (work h) r e) (runs.reads_on place counts x)
         ∙ worked_copied h none (runs.items place) run (runs.copied place) (runs.is place)
         (reads dialect (counted (place + length run)) x) e;
   }
@@ -317,22 +317,22 @@ module _ {H : Type 0} (count : H → ℕ) (work : H → List Read → Told)
       (words : List (List Symbol)) (is : UnitOf dialect unit words)
       (short : length unit ≤ unit_max) (g : GivesUnit work dialect h after unit given) where
     unit_gives : (place : ℕ) (x : List ℕ) (e : Ending) →
-        worked work h (reads dialect place (unit ++ x)) e
-        ≡ behind given (worked work after (reads dialect (counted (place + length unit)) x) e)
+        worked (work h) (reads dialect place (unit ++ x)) e
+        ≡ behind given (worked (work after) (reads dialect (counted (place + length unit)) x) e)
     unit_gives place x e =
         let all : UnitOf dialect unit (unit_words dialect unit) =
         unit_is dialect unit words is in
         let some : 0 < length unit = let l = ap length is.begins in omega (arith, l) in
-        ap (λ r. worked work h r e) (reads_item dialect unit
+        ap (λ r. worked (work h) r e) (reads_item dialect unit
         (item.Unit (unit_words dialect unit)) some (rw item_max_is short)
         (unit_always dialect unit (unit_words dialect unit) all) place x)
         ∙ rw (g.gives place (length unit)
         (reads dialect (counted (place + length unit)) x).items) refl
 
     white_unit : (w : ℕ) → is_white w ≡ true → (place : ℕ) (x : List ℕ) (e : Ending) →
-        worked work h (reads dialect place (w ∷ (unit ++ x))) e
+        worked (work h) (reads dialect place (w ∷ (unit ++ x))) e
         ≡ behind (w ∷ given)
-        (worked work after (reads dialect (counted (place + length (w ∷ unit))) x) e)
+        (worked (work after) (reads dialect (counted (place + length (w ∷ unit))) x) e)
     white_unit w white place x e =
         let text : unit ++ x ≡ 94 ∷ (is.tail ++ x) = ap (λ (q : List ℕ). q ++ x) is.begins in
         let blank : reads dialect place (w ∷ (unit ++ x))
@@ -342,7 +342,7 @@ module _ {H : Type 0} (count : H → ℕ) (work : H → List Read → Told)
         let far : counted (counted (place + 1) + length unit)
         ≡ counted (place + length (w ∷ unit)) =
         counted_twice place 1 (length unit) ∙ ap (λ n. counted (place + n)) (omega arith) in
-        ap (λ r. worked work h r e) blank
+        ap (λ r. worked (work h) r e) blank
         ∙ worked_copied h none (read_at place (item.Blank (w ∷ [])) 1 ∷ []) (w ∷ [])
         (refl, tt) refl (reads dialect (counted (place + 1)) (unit ++ x)) e
         ∙ ap (behind (w ∷ [])) (unit_gives (counted (place + 1)) x e ∙ rw far refl)
@@ -373,7 +373,7 @@ module _ {H : Type 0} (count : H → ℕ) (work : H → List Read → Told)
       (ap (behind now.pending) (g.gives now.place counts x e)
       ∙ ap (λ (q : List ℕ). record {
         text = q;
-        fault = (worked work new.handler
+        fault = (worked (work new.handler)
             (reads now.dialect (counted (now.place + length bytes)) x) e).fault;
       }) (sym (append_assoc now.pending given _)))
 

@@ -30,7 +30,7 @@ module _ {H : Type 0} (work : H → List Read → Told) (dialect : Dialect) (h :
   none_given = record {
     gives = λ place counts x e.
         let far : counted (place + 0) ≡ place = ap counted (omega arith) ∙ counts in
-        ap (λ (q : ℕ). worked work h (reads dialect q x) e) (sym far);
+        ap (λ (q : ℕ). worked (work h) (reads dialect q x) e) (sym far);
   }
 
   -- more was seen
@@ -54,10 +54,10 @@ module _ {H : Type 0} (work : H → List Read → Told) (dialect : Dialect) (h :
             ≡ drop used (take seen piece) ++ (back ++ x) =
             ap (λ (q : List ℕ). q ++ x) left
             ∙ append_assoc (drop used (take seen piece)) back x in
-            ap (λ (q : List ℕ). worked work h (reads dialect place q) e) first
+            ap (λ (q : List ℕ). worked (work h) (reads dialect place q) e) first
             ∙ g.gives place counts (back ++ x) e
             ∙ ap (λ (q : List ℕ). behind given
-            (worked work h (reads dialect (counted (place + used)) q) e)) (sym last);
+            (worked (work h) (reads dialect (counted (place + used)) q) e)) (sym last);
       }
 
   -- a step, and then another
@@ -81,19 +81,19 @@ module _ {H : Type 0} (work : H → List Read → Told) (dialect : Dialect) (h :
             ap (drop count) (sym left) ∙ drop-drop count used (take all piece) in
             one.gives place counts x e
             ∙ ap (λ (q : List ℕ). behind given
-            (worked work h (reads dialect (counted (place + used)) (q ++ x)) e)) left
+            (worked (work h) (reads dialect (counted (place + used)) (q ++ x)) e)) left
             ∙ ap (behind given)
             (two.gives (counted (place + used)) (counted_is (place + used)) x e)
-            ∙ ap (λ (q : List ℕ). behind given (behind next (worked work h (reads dialect
+            ∙ ap (λ (q : List ℕ). behind given (behind next (worked (work h) (reads dialect
             (counted (counted (place + used) + count)) (q ++ x)) e))) mid
-            ∙ ap (λ (p : ℕ). behind given (behind next (worked work h
+            ∙ ap (λ (p : ℕ). behind given (behind next (worked (work h)
             (reads dialect p (drop (used + count) (take all piece) ++ x)) e)))
             (counted_twice place used count)
             ∙ ap (λ (q : List ℕ). record {
               text = q;
-              fault = (worked work h (reads dialect (counted (place + (used + count)))
+              fault = (worked (work h) (reads dialect (counted (place + (used + count)))
                   (drop (used + count) (take all piece) ++ x)) e).fault;
-            }) (sym (append_assoc given next (worked work h
+            }) (sym (append_assoc given next (worked (work h)
             (reads dialect (counted (place + (used + count)))
             (drop (used + count) (take all piece) ++ x)) e).text));
       }

@@ -19,7 +19,8 @@ use Rattle.ap_stream.specs.InUnits.{unit_always, units_words, braced_chunks}
 use Rattle.ap_stream.specs.UnitBytes.{UnitOf}
 use Rattle.ap_stream.specs.Pieces.{HaveSameSuperblanks, HasSuperblanks, nothing, piece, IsPiece, plain, white, superblank, unit, IsPlain, IsUnit, IsToBracket, closed, bare, escaped, is_bare, IsChunk, chunk}
 use Rattle.ap_stream.specs.declared.fault.MalformedKind.TheVariants.{Stray}
-use Rattle.ap_stream.specs.Reading.{First, Needs, Whole, Faulty, Bad as OfKind, first, begins_unit, of_run, of_escaped, of_char, of_unit, plain as plain_item, of_body, of_chunk, of_caret, name_in}
+use Rattle.ap_symbol.specs.Kinds.{first_word}
+use Rattle.ap_stream.specs.Reading.{First, Needs, Whole, Faulty, Bad as OfKind, first, begins_unit, of_run, of_escaped, of_char, of_unit, plain as plain_item, of_body, of_chunk, of_caret}
 use Rattle.ap_stream.specs.Supers.{item_supers, inner_supers}
 use Rattle.ap_stream.specs.Stands.{blank_first, escape_first, unit_first, letter_whole, escaped_whole}
 use Rattle.ap_stream.specs.Units.{Rest, Lacks, Wrong, Ends, rest, form_of}
@@ -200,7 +201,7 @@ unit_cut dialect (b ∷ bs) words n h = by_blank (begins_blank b) h
     no_chunk : (r : Rest) → of_chunk bs r ≡ Whole (item.Unit words) n → ⊥
     no_chunk Lacks h = cc
     no_chunk (Wrong kind) h = cc
-    no_chunk (Ends all k) h = no_body (name_in all) [] (1 + k) (body k bs) h
+    no_chunk (Ends all k) h = no_body (first_word all) [] (1 + k) (body k bs) h
 
     of_caret_at : begins_unit dialect b ≡ true → (v : Bool) → has_chunks dialect ≡ v → (r : Rest) →
         rest (form_of dialect) [] [] 0 bs ≡ r → cond v (of_chunk bs r) (of_unit r)

@@ -23,7 +23,8 @@ use Rattle.ap_stream.specs.InUnits.{unit_always}
 use Rattle.ap_stream.specs.Laws.{AreWords, AreSpelt, AreParts}
 use Rattle.ap_stream.specs.Limits.{item_max}
 use Rattle.ap_stream.specs.Pieces.{HasSuperblanks, nothing, piece, plain, white, superblank, unit, IsUnit, IsSuperblank, IsToBracket, closed, bare, escaped, is_bare, supers_of, chunk}
-use Rattle.ap_stream.specs.Reading.{First, Needs, Whole, Faulty, Bad as OfKind, Past, first, last, Last, Complete, Broken, last_run, begins_unit, of_run, of_escaped, of_char, of_unit, plain as plain_item, limited, at_limit, past, walk, walked, reads, at_end, counted, of_caret, of_chunk, of_body, name_in}
+use Rattle.ap_symbol.specs.Kinds.{first_word}
+use Rattle.ap_stream.specs.Reading.{First, Needs, Whole, Faulty, Bad as OfKind, Past, first, last, Last, Complete, Broken, last_run, begins_unit, of_run, of_escaped, of_char, of_unit, plain as plain_item, limited, at_limit, past, walk, walked, reads, at_end, counted, of_caret, of_chunk, of_body}
 use Rattle.ap_stream.specs.Spelling.{character_bytes}
 use Rattle.ap_stream.specs.Supers.{blank_supers, item_supers}
 use Rattle.ap_stream.specs.Units.{Rest, Lacks, Wrong, Ends, rest, form_of}
@@ -350,11 +351,11 @@ unit_row dialect b bs u v w =
 
     closed_row : has_chunks dialect ≡ true → (words : List (List Symbol)) (n : ℕ) →
         rest (form_of dialect) [] [] 0 bs ≡ Ends words n → (z : Body) → body n bs ≡ z →
-        FirstRow dialect (b ∷ bs) (of_body (name_in words) [] (1 + n) z)
+        FirstRow dialect (b ∷ bs) (of_body (first_word words) [] (1 + n) z)
     closed_row c words n e Opens f = tt
     closed_row c words n e (Fails kind) f = tt
     closed_row c words n e (Closes parts m) f =
-        chunk_row dialect (b ∷ bs) (record { name = name_in words; content = parts }) (1 + n + m) c
+        chunk_row dialect (b ∷ bs) (record { name = first_word words; content = parts }) (1 + n + m) c
         (rw (u, v, w, c, e, f) refl)
 
     with_body : has_chunks dialect ≡ true → (r : Rest) → rest (form_of dialect) [] [] 0 bs ≡ r →

@@ -16,7 +16,8 @@ use Rattle.ap_stream.specs.Blanks.{Close, Within, Bad, Closed, closing, closing_
 use Rattle.ap_stream.specs.Chars.{Front, Part, NotChar, Char, char_at, Stays, char_stays}
 use Rattle.ap_stream.specs.Chunks.{Portion, Begun, Barred, Held, Braced, blank_portion, unit_portion, portion, wrong_byte, Body, Opens, Fails, Closes, behind_part, behind_portion, closed, body}
 use Rattle.ap_stream.specs.Dialects.{has_chunks}
-use Rattle.ap_stream.specs.Reading.{First, Needs, Whole, Faulty, Bad as OfKind, first, begins_unit, of_run, of_escaped, of_char, of_unit, of_chunk, of_caret, of_body, name_in}
+use Rattle.ap_symbol.specs.Kinds.{first_word}
+use Rattle.ap_stream.specs.Reading.{First, Needs, Whole, Faulty, Bad as OfKind, first, begins_unit, of_run, of_escaped, of_char, of_unit, of_chunk, of_caret, of_body}
 use Rattle.ap_stream.specs.Units.{Form, Name, Runs, Breaks, Stops, name, name_by, behind_name, Sign, Awaits, Bars, Reads, Slash, Dollar, Brace, sign, of_name, of_escape, of_bare, begins_tag, Rest, Lacks, Wrong, Ends, rest, longer as longer_rest, gone, in_surface, may_part, form_of}
 use Rattle.ap_stream.proofs.Cut.{name_cut}
 use Rattle.ap_stream.proofs.Rows.{RunRow, run_row}
@@ -432,7 +433,7 @@ chunk_needs p (Wrong kind) h = absurd (cc)
 chunk_needs p (Ends words n) h = absurd (cc)
 
 body_needs : (words : List (List Symbol)) (n : ℕ) (z : Body) → opens z ≡ true →
-    needs (of_body (name_in words) [] n z) ≡ true
+    needs (of_body (first_word words) [] n z) ≡ true
 body_needs words n Opens h = refl
 body_needs words n (Fails kind) h = absurd (cc)
 body_needs words n (Closes parts m) h = absurd (cc)
@@ -442,9 +443,9 @@ chunk_on : (p x : List ℕ) (r : Rest) → lacks r ≡ false →
 chunk_on p x Lacks h = absurd (cc)
 chunk_on p x (Wrong kind) h = stays_same needs (Faulty (OfKind kind))
 chunk_on p x (Ends words n) h =
-    stays_on opens needs (of_body (name_in words) [] (1 + n)) (of_body (name_in words) [] (1 + n))
+    stays_on opens needs (of_body (first_word words) [] (1 + n)) (of_body (first_word words) [] (1 + n))
     (body n p) (body n (p ++ x)) (body_needs words (1 + n))
-    (λ a _. stays_same needs (of_body (name_in words) [] (1 + n) a)) (body_stays n p x)
+    (λ a _. stays_same needs (of_body (first_word words) [] (1 + n) a)) (body_stays n p x)
 
 caret_stays : (dialect : Dialect) (p x : List ℕ) (r s : Rest) → StaysSo lacks r s →
     StaysSo needs (of_caret dialect p r) (of_caret dialect (p ++ x) s)

@@ -48,9 +48,9 @@ module _ {H : Type 0} (is_finished : H → Bool) (held : H → ℕ) (dialect : H
 
   pub rest_at_stop : (h after : H) (old new : Begun) (piece : List ℕ) (f : StreamFault) →
       (shown : Shows f old piece new) → work after [] ≡ work h [] → (x : List ℕ) (e : Ending) →
-      worked work h (reads old.dialect old.place
+      worked (work h) (reads old.dialect old.place
       (old.held ++ (take (length new.held - length old.held) piece ++ x))) e
-      ≡ worked work after (reads new.dialect new.place (new.held ++ x)) e
+      ≡ worked (work after) (reads new.dialect new.place (new.held ++ x)) e
   rest_at_stop h after old new piece f shown same x e =
       let used = used_at_stop old new piece f shown in
       let joined : old.held ++ (take (length new.held - length old.held) piece ++ x) ≡ new.held ++ x

@@ -18,7 +18,8 @@ use Rattle.ap_stream.specs.Dialects.{has_words, is_refused, has_chunks, has_unit
 use Rattle.ap_stream.specs.Blanks.{Run, Open, Inside, BadChar, Done, blank, begins_blank}
 use Rattle.ap_stream.specs.Chars.{Front, Part, NotChar, Char, char_at, tail2, tail3, tail4, is_tail, is_second, Fits, char_fits}
 use Rattle.ap_stream.specs.Units.{Form, form_of, Name, Runs, Breaks, Stops, name, name_by, behind_name, Sign, Awaits, Bars, Reads, Slash, Dollar, sign, of_bare, of_name, of_escape, bare_of, is_barred, begins_tag, in_surface, is_none, may_part, may_end, Rest, Lacks, Wrong, Ends, rest, longer, gone, Brace, early}
-use Rattle.ap_stream.specs.Reading.{First, Needs, Whole, Faulty, Bad, first, of_unit, of_run, of_escaped, of_char, begins_unit, plain, of_body, of_chunk, of_caret, name_in}
+use Rattle.ap_symbol.specs.Kinds.{first_word}
+use Rattle.ap_stream.specs.Reading.{First, Needs, Whole, Faulty, Bad, first, of_unit, of_run, of_escaped, of_char, begins_unit, plain, of_body, of_chunk, of_caret}
 use Rattle.ap_symbol.specs.Coded.{IsCode, AreNamed}
 use Rattle.ap_stream.specs.Laws.{IsSpelt, AreSpelt, EachSpelt, AreAsMany, AreWords}
 use Rattle.ap_stream.proofs.Encoding.{tail_range, second_parts, char_encodes, Encodes}
@@ -424,12 +425,12 @@ rest_good form words word zero (b ∷ bs) h =
 
 -- the name of a chunk that is read
 pub name_spelt : (bs : List ℕ) (words : List (List Symbol)) (n : ℕ) →
-    rest (form_of Chunked) [] [] 0 bs ≡ Ends words n → AreSpelt false (name_in words)
+    rest (form_of Chunked) [] [] 0 bs ≡ Ends words n → AreSpelt false (first_word words)
 name_spelt bs words n e =
     by words (subst (Good (form_of Chunked)) e (rest_good (form_of Chunked) [] [] 0 bs tt))
   where
     by : (ws : List (List Symbol)) → Good (form_of Chunked) (Ends ws n) →
-        AreSpelt false (name_in ws)
+        AreSpelt false (first_word ws)
     by [] h = tt
     by (word ∷ ws) h = h.1
 
@@ -487,7 +488,7 @@ fine_body dialect name parts n (Closes more m) = tt
 fine_chunk : (dialect : Dialect) (bytes : List ℕ) (r : Rest) → Fine dialect (of_chunk bytes r)
 fine_chunk dialect bytes Lacks = tt
 fine_chunk dialect bytes (Wrong kind) = tt
-fine_chunk dialect bytes (Ends words n) = fine_body dialect (name_in words) [] (1 + n)
+fine_chunk dialect bytes (Ends words n) = fine_body dialect (first_word words) [] (1 + n)
     (body n bytes)
 
 fine_caret : (dialect : Dialect) (bytes : List ℕ) (r : Rest) → has_units dialect ≡ true →

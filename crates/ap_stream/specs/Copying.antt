@@ -96,8 +96,8 @@ pub record GaveUnit {H : Type 0} (work : H → List Read → Told) (dialect : Di
 pub record Gives {H : Type 0} (work : H → List Read → Told) (dialect : Dialect) (old new : H)
     (bytes given : List ℕ) : Type 0 where
   pub gives : (place : ℕ) → counted place ≡ place → (x : List ℕ) (e : Ending) →
-      worked work old (reads dialect place (bytes ++ x)) e
-      ≡ behind given (worked work new (reads dialect (counted (place + length bytes)) x) e)
+      worked (work old) (reads dialect place (bytes ++ x)) e
+      ≡ behind given (worked (work new) (reads dialect (counted (place + length bytes)) x) e)
 
 -- a bare $ ends a unit where its bytes end so
 pub record EndsUnit (dialect : Dialect) (at : Mode) : Type 0 where

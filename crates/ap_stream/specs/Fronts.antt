@@ -12,9 +12,9 @@ use Rattle.ap_stream.specs.Told.{Told, Ending, behind}
 pub record GivesFront {H : Type 0} (work : H → List Read → Told) (dialect : Dialect) (h : H)
     (front : List ℕ) (used : ℕ) (given : List ℕ) : Type 0 where
   pub gives : (place : ℕ) → counted place ≡ place → (x : List ℕ) (e : Ending) →
-      worked work h (reads dialect place (front ++ x)) e
+      worked (work h) (reads dialect place (front ++ x)) e
       ≡ behind given
-      (worked work h (reads dialect (counted (place + used)) (drop used front ++ x)) e)
+      (worked (work h) (reads dialect (counted (place + used)) (drop used front ++ x)) e)
 
 -- of the first so many bytes of the piece so many are used, and they gave what was appended
 pub record GaveFront {H : Type 0} (work : H → List Read → Told) (dialect : Dialect) (h : H)

@@ -19,7 +19,8 @@ use Rattle.ap_stream.specs.Units.{Rest, Lacks, Wrong, Ends, rest, form_of, rest_
 use Rattle.ap_stream.specs.Chunks.{Portion, Begun, Barred, Held, Braced, portion, blank_portion, unit_portion, Body, Opens, Fails, Closes, behind_part, behind_portion, closed, body, body_skip, body_nil, body_brace, wrong_byte}
 use Rattle.ap_stream.specs.InUnits.{InUnit, braced_in, braced_chunks, unit_front}
 use Rattle.ap_stream.specs.ChunkBytes.{ChunkOf}
-use Rattle.ap_stream.specs.Reading.{First, Needs, Whole, Faulty, Bad, Past, first, of_run, of_unit, of_body, name_in}
+use Rattle.ap_symbol.specs.Kinds.{first_word}
+use Rattle.ap_stream.specs.Reading.{First, Needs, Whole, Faulty, Bad, Past, first, of_run, of_unit, of_body}
 
 -- a part at the front of a content is an item of the dialect of its units
 
@@ -165,7 +166,7 @@ name_ends dialect at done h braced =
     let len : 1 + (length h.tail + 1) ≡ length (done ++ 123 ∷ []) =
     let l = length-append done (123 ∷ []) in let b = ap length h.begins in omega (arith, l, b) in
     record {
-      name = name_in (h.words ++ h.word ∷ []);
+      name = first_word (h.words ++ h.word ∷ []);
       parts = [];
       chunks = chunks;
       begins = caret_on done (123 ∷ []) (ap caret_first h.begins);
@@ -178,9 +179,9 @@ name_ends dialect at done h braced =
           let none : drop (length all) all ++ x ≡ x = ap (λ (q : List ℕ). q ++ x)
           (drop-length all) in
           unit_front dialect at done h (123 ∷ []) x (Ends words 1) e ∙ rw chunks
-          (ap (of_body (name_in words) [] (1 + (length h.tail + 1)))
+          (ap (of_body (first_word words) [] (1 + (length h.tail + 1)))
           (body_skip (length h.tail + 1) (h.tail ++ (123 ∷ x)) ∙ ap (body 0) (back ∙ sym none))
-          ∙ ap (λ n. of_body (name_in words) [] n (body 0 (drop (length all) all ++ x))) len);
+          ∙ ap (λ n. of_body (first_word words) [] n (body 0 (drop (length all) all ++ x))) len);
     }
 
 module _ (dialect : Dialect) (from : ℕ) (done : List ℕ) (h : InPart dialect from done) where

@@ -10,6 +10,7 @@ use Rattle.ap_stream.specs.declared.fault.MalformedKind.{MalformedKind}
 use Rattle.ap_stream.specs.declared.fault.MalformedKind.TheVariants.{NotUtf8, Stray, Unfinished}
 use Rattle.ap_stream.specs.declared.fault.LimitKind.{LimitKind}
 use Rattle.ap_stream.specs.declared.fault.LimitKind.TheVariants.{ItemTooLong}
+use Rattle.ap_symbol.specs.Kinds.{first_word}
 use Rattle.ap_symbol.specs.declared.symbol.Symbol.{Symbol}
 use Rattle.ap_stream.specs.declared.item.Inner.{Inner}
 use Rattle.ap_stream.specs.declared.item.Item.{Item}
@@ -69,11 +70,6 @@ of_char dialect NotChar = Faulty (Bad NotUtf8)
 of_char dialect (Char c n) =
     cond (is_refused dialect c) (Faulty (Bad Stray)) (Whole (plain c false) n)
 
--- the one word that is a chunk's name
-abbrev pub name_in : List (List Symbol) → List Symbol
-name_in [] = []
-name_in (word ∷ words) = word
-
 -- behind a chunk's name and these parts, which have so many bytes
 abbrev pub of_body : List Symbol → List Inner → ℕ → Body → First
 of_body name parts n Opens = Needs
@@ -91,7 +87,7 @@ of_unit (Ends words n) = Whole (item.Unit words) (1 + n)
 abbrev pub of_chunk : List ℕ → Rest → First
 of_chunk bytes Lacks = Needs
 of_chunk bytes (Wrong kind) = Faulty (Bad kind)
-of_chunk bytes (Ends words n) = of_body (name_in words) [] (1 + n) (body n bytes)
+of_chunk bytes (Ends words n) = of_body (first_word words) [] (1 + n) (body n bytes)
 
 abbrev pub of_caret : Dialect → List ℕ → Rest → First
 of_caret dialect bytes behind = cond (has_chunks dialect) (of_chunk bytes behind) (of_unit behind)

@@ -10,20 +10,22 @@ use Rattle.std.proofs.lemmas.List.{append-nil}
 use Rattle.std.proofs.Common.{sym, ap}
 use Rattle.ap_stream.specs.Seat.{Seat}
 
--- the items are worked on, and then comes the stop
-abbrev pub worked : {H : Type 0} → (H → List Read → Told) → H → Reads → Ending → Told
-worked work handler read ending =
+-- What a tool makes of a text that is read item by item: the text of whole items up to the first
+-- that passes a limit, and that limit; where none does, up to where the input stops, and what stops
+-- it. Where the text was cut, it is no fault that an item is unfinished.
+abbrev pub worked : (List Read → Told) → Reads → Ending → Told
+worked work read ending =
     record {
-      text = (work handler read.items).text;
+      text = (work read.items).text;
       fault =
-          or_else (work handler read.items).fault (stop_at ending read.stop);
+          or_else (work read.items).fault (stop_at ending read.stop);
     }
 
 abbrev pub rest_from : {H : Type 0} → Option StreamFault → (H → List Read → Told) → Seat H →
     List ℕ → Ending → Told
 rest_from (Some fault) work seat x ending = ends_in seat.pending fault
 rest_from None work seat x ending =
-    behind seat.pending (worked work seat.handler
+    behind seat.pending (worked (work seat.handler)
     (reads seat.dialect seat.place (seat.begun ++ x)) ending)
 
 abbrev pub rest_of : {H : Type 0} → (H → List Read → Told) → Seat H → List ℕ → Ending → Told

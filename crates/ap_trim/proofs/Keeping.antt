@@ -5,6 +5,7 @@ use Rattle.std.specs.Option.{option_to_list}
 use Rattle.std.proofs.lemmas.Bool.{and_parts, cases_Bool, cases_lt, true≢false}
 use Rattle.std.proofs.lemmas.Bool.Decides.{nat_tests}
 use Rattle.ap_symbol.specs.Fitting.{lists_fit}
+use Rattle.ap_symbol.specs.Kinds.{is_mark, is_marked}
 use Rattle.ap_symbol.specs.Lists.{IsIn}
 use Rattle.ap_symbol.specs.declared.symbol.Symbol.{Symbol}
 use Rattle.ap_symbol.specs.declared.symbol.Symbol.TheVariants.{Letter, Tag, Blank, Join, Queue, Alarm, Star, At}
@@ -27,7 +28,7 @@ use Rattle.ap_live.proofs.Greatest.{greatest_within, greatest_passes}
 use Rattle.ap_live.proofs.WordOrder.{some_word}
 use Rattle.ap_lookup.specs.Laws.{IsPrefix, HasNone}
 use Rattle.ap_lookup.specs.Matching.{is_match}
-use Rattle.ap_lookup.specs.Translation.{lemma_length, is_mark, is_marked, prefix, translation}
+use Rattle.ap_lookup.specs.Translation.{lemma_length, prefix, translation}
 use Rattle.ap_lookup.proofs.Prefixes.{no_head}
 use Rattle.ap_lookup.proofs.Translations.{translation_none}
 use Rattle.ap_trim.specs.Reading.{ReadsWhole, AcceptsAny, IsUnion}

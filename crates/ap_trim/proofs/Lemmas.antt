@@ -3,8 +3,9 @@ use Rattle.std.proofs.Common.{◌≡◌, inl, inr, ℕ, ◌+◌, ◌≤◌, zero
 use Rattle.std.specs.Prelude.{◌||◌}
 use Rattle.std.specs.List.{list_any}
 use Rattle.std.proofs.lemmas.Bool.{cases_Bool, cond-true, cond-false, or_parts}
+use Rattle.ap_symbol.specs.Kinds.{is_tag}
 use Rattle.ap_symbol.specs.declared.symbol.Symbol.{Symbol}
-use Rattle.ap_lookup.specs.Translation.{lemma_length, is_tag}
+use Rattle.ap_lookup.specs.Translation.{lemma_length}
 use Rattle.ap_trim.specs.Watching.{has_tag}
 
 or_left : (a b : Bool) → a ≡ true → (a || b) ≡ true

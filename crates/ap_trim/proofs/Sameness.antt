@@ -1,21 +1,15 @@
 -- Of analysers that say the same, the same is left by dictionaries that relate the same words.
-use Rattle.std.proofs.Common.{◌≡◌, ℕ, Bool, true, false, List, [], ◌∷◌, sym, ap, ◌∙◌, refl, inl, inr, arith}
-use Rattle.std.specs.Prelude.{◌||◌, eqb}
-use Rattle.std.specs.Ordering.{nat_cmp}
-use Rattle.std.proofs.lemmas.Bool.{eqb-true, or_cases}
-use Rattle.std.proofs.lemmas.Bool.Decides.{nat_tests}
-use Rattle.std.proofs.lemmas.Cmp.{nat_cmp_total}
-use Rattle.ap_symbol.specs.Alphabet.{has_letter}
+use Rattle.std.proofs.Common.{◌≡◌, ℕ, Bool, true, false, List, [], ◌∷◌, sym, ap, ◌∙◌, refl, inl, inr}
+use Rattle.std.specs.Prelude.{◌||◌}
 use Rattle.ap_symbol.specs.Lists.{IsIn}
 use Rattle.ap_symbol.specs.declared.symbol.Symbol.{Symbol}
-use Rattle.ap_fst.specs.Lists.{Ascends}
 use Rattle.ap_fst.specs.Sections.{Parts, IsCompiled, section_of}
 use Rattle.ap_fst.specs.Sides.{right_word}
 use Rattle.ap_fst.specs.Walks.{AcceptsLabels}
 use Rattle.ap_fst.specs.declared.compiled.Kind2.{Kind2}
 use Rattle.ap_fst.specs.declared.compiled.Kind2.TheVariants.{Standard, Inconditional, Postblank, Preblank}
 use Rattle.ap_fst.specs.declared.label.Label.{Label}
-use Rattle.ap_min.proofs.MachineLaws.{ascends_same}
+use Rattle.ap_min.proofs.MachineLaws.{same_letters}
 use Rattle.ap_live.specs.Found.{has_words}
 use Rattle.ap_live.specs.Lexicon.{Reads, lexicon_of}
 use Rattle.ap_live.specs.Relations.{AreSameRelations, relation_of}
@@ -26,33 +20,6 @@ use Rattle.ap_lookup.specs.Translation.{translation}
 use Rattle.ap_lookup.proofs.Prefixes.{no_head}
 use Rattle.ap_trim.specs.Trimming.{holds_joint, is_translated, is_kept, Trimmed, IsTrimmedBy, SayTheSame}
 use Rattle.ap_trim.proofs.Uniqueness.{One}
-
--- ---- letters
-
-has_in : (xs : List ℕ) (c : ℕ) → has_letter xs c ≡ true → IsIn c xs
-has_in [] c h = cc
-has_in (x ∷ xs) c h = elim (or_cases (eqb x c) (has_letter xs c) h) [
-  | inl e ↦ inl (sym (eqb-true x c e))
-  | inr k ↦ inr (has_in xs c k)
-]
-
-is_eqb : (x y : ℕ) → x ≡ y → eqb x y ≡ true
-is_eqb x y h = grind (arith, nat_tests)
-
-in_has : (xs : List ℕ) (c : ℕ) → IsIn c xs → has_letter xs c ≡ true
-in_has [] c h = absurd h
-in_has (x ∷ xs) c (inl e) = ap (λ b. b || has_letter xs c) (is_eqb x c (sym e))
-in_has (x ∷ xs) c (inr h) = ap (λ b. eqb x c || b) (in_has xs c h) ∙ or_true (eqb x c)
-  where
-    or_true : (b : Bool) → (b || true) ≡ true
-    or_true true = refl
-    or_true false = refl
-
-same_letters : (a b : List ℕ) → Ascends nat_cmp a → Ascends nat_cmp b →
-    ((c : ℕ) → has_letter a c ≡ has_letter b c) → a ≡ b
-same_letters a b up up' h =
-    ascends_same nat_cmp nat_cmp_total a b up up' (λ c i. has_in b c (sym (h c) ∙ in_has a c i))
-    (λ c i. has_in a c (h c ∙ in_has b c i))
 
 -- ---- translation by dictionaries that relate the same words
 

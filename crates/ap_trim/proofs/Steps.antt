@@ -2,17 +2,16 @@
 use Rattle.std.proofs.Common.{◌≡◌, ℕ, ◌<◌, Bool, true, false, List, [], ◌∷◌, ◌++◌, length, refl, sym, ◌∙◌, ap, subst, append-nil, Option, Some, None}
 use Rattle.std.specs.Prelude.{◌↔◌, IsTrue, slice_get, option_map}
 use Rattle.std.proofs.lemmas.Option.{same_Some, none-some, slice_get_within}
+use Rattle.ap_symbol.specs.Kinds.{is_tag, is_joint}
 use Rattle.ap_symbol.specs.declared.symbol.Symbol.{Symbol}
 use Rattle.ap_fst.specs.Lists.{IsIn}
 use Rattle.ap_fst.specs.Machines.{Machine}
 use Rattle.ap_det.specs.Numbered.{IsNumbered}
 use Rattle.ap_det.specs.Subsets.{HoldsFinal}
-use Rattle.ap_lookup.specs.Translation.{is_tag}
 use Rattle.ap_trim.specs.Numbers.{Keeps}
 use Rattle.ap_trim.specs.Products.{HasSight, GoesOn}
 use Rattle.ap_trim.specs.Reading.{AreRead, FitsTo, Quietly}
 use Rattle.ap_trim.specs.Stepping.{BeginsWith, StepsTo, GoesBehind, IsGoodSight}
-use Rattle.ap_trim.specs.Trimming.{is_joint}
 use Rattle.ap_trim.specs.Watching.{kept, lemma, tags, Sees, IsGood}
 use Rattle.ap_trim.specs.declared.watch.Watch.{Watch}
 use Rattle.ap_trim.specs.declared.watch.Watch.TheVariants as watch

@@ -3,13 +3,13 @@ use Rattle.std.proofs.Common.{◌≡◌, inl, inr, ℕ, ◌+◌, ◌≤◌, true
 use Rattle.std.specs.Prelude.{◌↔◌}
 use Rattle.std.proofs.lemmas.Bool.{cases_lt, true≢false}
 use Rattle.std.proofs.lemmas.List.{take_all}
+use Rattle.ap_symbol.specs.Kinds.{is_tag, is_joint}
 use Rattle.ap_symbol.specs.declared.symbol.Symbol.{Symbol}
 use Rattle.ap_fst.specs.Machines.{Machine}
 use Rattle.ap_det.specs.Subsets.{HoldsFinal}
-use Rattle.ap_lookup.specs.Translation.{lemma_length, is_tag}
+use Rattle.ap_lookup.specs.Translation.{lemma_length}
 use Rattle.ap_trim.specs.Reading.{ReadsWhole}
 use Rattle.ap_trim.specs.Stepping.{HasNoFront}
-use Rattle.ap_trim.specs.Trimming.{is_joint}
 use Rattle.ap_trim.specs.Watching.{IsTaken, IsKeptBy, has_tag, Sight, kept, lemma, tags, IsLemma, Sees, IsGood}
 use Rattle.ap_trim.proofs.Lemmas.{any_front, any_back, any_one, lemma_untagged, lemma_at_tag, lemma_tagged, lemma_within, take_front}
 use Rattle.ap_trim.proofs.Readings.{whole_read}

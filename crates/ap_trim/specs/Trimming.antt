@@ -1,9 +1,9 @@
 -- Which analyses a bilingual dictionary can translate.
-use Rattle.std.specs.Prelude.{◌≡◌, ◌≤◌, ◌↔◌, ℕ, Bool, true, false, ◌||◌, IsTrue, List}
+use Rattle.std.specs.Prelude.{◌≡◌, ◌≤◌, ◌↔◌, ℕ, Bool, false, ◌||◌, IsTrue, List}
 use Rattle.std.specs.List.{list_any}
 use Rattle.ap_symbol.specs.Alphabet.{has_letter}
+use Rattle.ap_symbol.specs.Kinds.{is_joint}
 use Rattle.ap_symbol.specs.declared.symbol.Symbol.{Symbol}
-use Rattle.ap_symbol.specs.declared.symbol.Symbol.TheVariants.{Join, Queue}
 use Rattle.ap_fst.specs.Machines.{Machine, IsMachine}
 use Rattle.ap_fst.specs.Sections.{Parts, IsCompiled, section_of}
 use Rattle.ap_fst.specs.Sides.{right_word}
@@ -17,12 +17,7 @@ use Rattle.ap_live.specs.Lexicon.{Lexicon, lexicon_of}
 use Rattle.ap_live.specs.Relations.{AreSameRelations, relation_of}
 use Rattle.ap_lookup.specs.Translation.{translation}
 
--- where a word is taken apart before its parts are looked up
-abbrev pub is_joint : Symbol → Bool
-is_joint Join = true
-is_joint Queue = true
-is_joint _ = false
-
+-- whether the word is taken apart before its parts are looked up
 abbrev pub holds_joint : List Symbol → Bool
 holds_joint word = list_any is_joint word
 

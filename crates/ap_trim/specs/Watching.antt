@@ -1,10 +1,11 @@
 -- What is known of a right word so far, as far as it decides whether the word is kept.
 use Rattle.std.specs.Prelude.{◌≡◌, ◌⊎◌, ℕ, ◌≤◌, true, false, Bool, List, ◌++◌, Option, Some, option_map, slice_get, length, take}
 use Rattle.std.specs.List.{list_any}
+use Rattle.ap_symbol.specs.Kinds.{is_tag}
 use Rattle.ap_symbol.specs.declared.symbol.Symbol.{Symbol}
 use Rattle.ap_fst.specs.Machines.{Machine}
 use Rattle.ap_det.specs.Subsets.{HoldsFinal}
-use Rattle.ap_lookup.specs.Translation.{lemma_length, is_tag}
+use Rattle.ap_lookup.specs.Translation.{lemma_length}
 use Rattle.ap_trim.specs.Reading.{AreRead, ReadsWhole}
 use Rattle.ap_trim.specs.Trimming.{holds_joint}
 use Rattle.ap_trim.specs.declared.watch.Watch.{Watch}

@@ -1,18 +1,18 @@
 ghost use Rattle.std.specs.Prelude.{◌≡◌, ◌↔◌, ◌<◌, ◌∷◌, [], false, true, length, IsTrue, IfOk};
 ghost use Rattle.std.specs.Option.{option_to_list};
+ghost use Rattle.ap_symbol.specs.Kinds.{is_joint as joint_test};
 ghost use Rattle.ap_det.specs.Subsets.{HoldsFinal};
 ghost use Rattle.ap_trim.specs.Numbers.{Keeps};
 ghost use Rattle.ap_trim.specs.Products.{HasSight, GoesOn};
 ghost use Rattle.ap_trim.specs.Stepping.{StepsTo, GoesBehind, IsGoodSight, BeginsWith};
-ghost use Rattle.ap_trim.specs.Trimming.{is_joint as joint_test};
 ghost use Rattle.ap_trim.specs.declared.watch.Watch.TheVariants.{Lemma};
 
 use crate::closing::closed;
 use crate::reading::targets_of;
 use crate::sets::Sets;
-use crate::watch::{Watch, is_joint, is_tag};
+use crate::watch::{Watch, is_joint};
 use ap_fst::Fst;
-use ap_symbol::{Memory, Symbol};
+use ap_symbol::{Memory, Symbol, is_tag};
 use std::alloc::Global;
 
 /// Whether one of these states is final.

@@ -1,6 +1,5 @@
 ghost use Rattle.std.specs.Prelude.{◌≡◌};
-ghost use Rattle.ap_lookup.specs.Translation.{is_tag as tag_test};
-ghost use Rattle.ap_trim.specs.Trimming.{is_joint as joint_test};
+ghost use Rattle.ap_symbol.specs.Kinds.{is_joint as joint_test};
 
 use ap_symbol::Symbol;
 
@@ -18,10 +17,4 @@ pub(crate) fn is_joint(symbol: &Symbol) -> bool
     ensures { result ≡ joint_test symbol.now }
 {
     matches!(symbol, Symbol::Join | Symbol::Queue)
-}
-
-pub(crate) fn is_tag(symbol: &Symbol) -> bool
-    ensures { result ≡ tag_test symbol.now }
-{
-    matches!(symbol, Symbol::Tag(_))
 }

@@ -1,4 +1,5 @@
 use Rattle.std.proofs.Common.{◌≡◌, ℕ, ◌-◌, ◌<◌, ◌≤◌, false, List, length, take, drop, arith, sym, ap, ◌∙◌}
+use Rattle.ap_symbol.specs.Kinds.{is_marked}
 use Rattle.ap_symbol.specs.declared.symbol.Symbol.{Symbol}
 use Rattle.ap_live.specs.Greatest.{greatest}
 use Rattle.ap_live.specs.Lexicon.{lexicon_of}
@@ -6,7 +7,7 @@ use Rattle.ap_live.specs.Readings.{carried_words}
 use Rattle.ap_live.specs.SectionLives.{AreLive}
 use Rattle.ap_live.proofs.Coherence.{coherent}
 use Rattle.ap_lookup.specs.Matching.{is_match}
-use Rattle.ap_lookup.specs.Translation.{lemma_length, lemma, is_marked, forms_of, prefix}
+use Rattle.ap_lookup.specs.Translation.{lemma_length, lemma, forms_of, prefix}
 use Rattle.ap_lookup.proofs.Translations as laws
 use Rattle.ap_lookup.proofs.translation.translate_from.Goals as goal
 use Rattle.ap_lookup.proofs.translation.translate_from.Goals.{After-step_down-taken}
