@@ -1,11 +1,29 @@
 ghost use Rattle.ap_stream.specs.Limits.{LimitsAre};
-ghost use Rattle.ap_stream.specs.Laws.{ReadsBack, ReadsWords, ChunksReadBack, ChunksAreWritten, WordsAreSpelt};
+ghost use Rattle.ap_stream.specs.Laws.{ReadsBack, ReadsWords, ChunksReadBack, ChunksAreWritten, WordsAreSpelt, UnitsAreRead, ReadAreUnits, AreOneUnit, ChunksAreRead, ReadAreChunks, AreOneChunk};
 ghost use Rattle.ap_stream.specs.Pieces.{TextsJoin, OneList, ReadTextsHave, EachKeeps, KeptTwice, ScanFinds};
 ghost use Rattle.ap_stream.specs.ReadOn.{PiecesAreRead, EachIsPieces};
 
 /// The numbers of the limits. It is a statement alone and does nothing.
 pub fn limits()
     ensures { LimitsAre }
+{}
+
+/// The law of units. The bytes of a unit, by the notation, are read as its words, whatever follows;
+/// what is read as a unit are such bytes; and they have one list of words. It is a statement alone
+/// and does nothing.
+pub fn units_are_by_the_notation()
+    ensures read { UnitsAreRead }
+    ensures written { ReadAreUnits }
+    ensures one { AreOneUnit }
+{}
+
+/// The law of chunks. The bytes of a chunk, by the notation, are read as it, whatever follows; what
+/// is read as a chunk are such bytes; and they are those of one chunk. It is a statement alone and
+/// does nothing.
+pub fn chunks_are_by_the_notation()
+    ensures read { ChunksAreRead }
+    ensures written { ReadAreChunks }
+    ensures one { AreOneChunk }
 {}
 
 /// The law that what is written of a unit is read back. It is a statement alone and does nothing.
