@@ -1,7 +1,7 @@
 -- The piece at the front of a text: its size and its superblanks are told by the text.
 use Rattle.std.specs.Prelude.{◌≡◌, ℕ, suc, ◌+◌, ◌<◌, ◌≤◌, List, [], ◌∷◌, ◌++◌, drop, take, length, Bool, true, false, cond, eqb, ltb, ◌&&◌, ◌||◌, not, refl, encode_utf8}
 use Rattle.std.specs.List.{flat_map}
-use Rattle.std.proofs.Common.{arith, ap, sym, subst, ◌∙◌, length-append, inl, inr}
+use Rattle.std.proofs.Common.{arith, ap, sym, subst, ◌∙◌, append_assoc, length-append, inl, inr}
 use Rattle.std.proofs.lemmas.Bool.{eqb-true, and_parts, ne_eqb, cases_lt}
 use Rattle.std.proofs.lemmas.Bool.Decides.{nat_tests}
 use Rattle.std.proofs.lemmas.List.{append-nil, length-take-le}
@@ -18,6 +18,7 @@ use Rattle.ap_stream.specs.InUnits.{unit_always, units_words, braced_chunks}
 use Rattle.ap_stream.specs.UnitBytes.{UnitOf}
 use Rattle.ap_stream.specs.Pieces.{HaveSameSuperblanks, HasSuperblanks, nothing, piece, IsPiece, plain, white, superblank, unit, IsPlain, IsUnit, escaped, is_bare, IsChunk, chunk}
 use Rattle.ap_stream.specs.declared.fault.MalformedKind.TheVariants.{Stray}
+use Rattle.ap_stream.specs.ReadOn.{ArePieces}
 use Rattle.ap_stream.specs.Reading.{First, Needs, Whole, Faulty, Bad as OfKind, first, begins_unit, of_run, of_escaped, of_char, of_unit, plain as plain_item, of_body, of_chunk, of_caret, name_in}
 use Rattle.ap_stream.specs.Supers.{item_supers, inner_supers}
 use Rattle.ap_stream.specs.Stands.{blank_first, escape_first, unit_first, letter_whole, escaped_whole}
@@ -390,6 +391,30 @@ same_front dialect a b x y own other h k e =
 no_front : (dialect : Dialect) (a x : List ℕ) (own : List (List ℕ)) → IsFront dialect a own →
     [] ≡ a ++ x → ⊥
 no_front dialect a x own h e = let l = ap length e ∙ length-append a x in omega (arith, l, h.some)
+
+-- what stands behind a row of pieces in a row of pieces is one
+pub pieces_left : (dialect : Dialect) (front rest : List ℕ) → ArePieces dialect front →
+    ArePieces dialect (front ++ rest) → ArePieces dialect rest
+pieces_left dialect front rest h k = left front h.superblanks (front ++ rest) k.superblanks h.has
+    k.has refl
+  where
+    left : (p : List ℕ) (own : List (List ℕ)) (text : List ℕ) (all : List (List ℕ)) →
+        HasSuperblanks dialect p own → HasSuperblanks dialect text all → text ≡ p ++ rest →
+        ArePieces dialect rest
+    left p own text all (nothing e f) k is =
+        let same : text ≡ rest = is ∙ ap (λ (q : List ℕ). q ++ rest) e in
+        record {
+          superblanks = all;
+          has = subst (λ (q : List ℕ). HasSuperblanks dialect q all) same k;
+        }
+    left p own text all (piece a x b more q h e f) (nothing u v) is =
+        absurd (no_front dialect a (x ++ rest) b (front_is dialect a b q)
+        (sym u ∙ is ∙ ap (λ (z : List ℕ). z ++ rest) e ∙ append_assoc a x rest))
+    left p own text all (piece a x b more q h e f) (piece c y d others r k u v) is =
+        let s = same_front dialect c a y (x ++ rest) d b (front_is dialect c d r)
+        (front_is dialect a b q)
+        (sym u ∙ is ∙ ap (λ (z : List ℕ). z ++ rest) e ∙ append_assoc a x rest) in
+        left x more y others h k s.2
 
 -- a text has one list of superblanks
 pub one_list_by : (dialect : Dialect) (text same : List ℕ) (one other : List (List ℕ)) →

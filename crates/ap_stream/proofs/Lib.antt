@@ -42,4 +42,7 @@ pub mod ReadOn
 pub mod WholeUnits
 pub mod BareReads
 pub mod ByNotation
+pub mod GoesOn
+pub mod ItemsGoOn
+pub mod FirstWrong
 pub mod FrontLaws

@@ -103,7 +103,7 @@ IsRow dialect (item.Blank blank) bytes = (blank ≡ bytes) × BlankRow bytes
 IsRow dialect (item.Unit words) bytes = IsUnit dialect bytes × AreWords dialect words
 IsRow dialect (item.Chunk c) bytes = ChunkRow dialect c bytes
 
-abbrev FirstRow : Dialect → List ℕ → First → Type 0
+abbrev pub FirstRow : Dialect → List ℕ → First → Type 0
 FirstRow dialect bs Needs = Unit {0}
 FirstRow dialect bs (Whole thing n) = IsRow dialect thing (take n bs) × (0 < n) × (n ≤ length bs)
 FirstRow dialect bs (Faulty kind) = Unit {0}
@@ -216,7 +216,7 @@ unit_row dialect b bs u v w =
     with_body c (Wrong kind) e = tt
     with_body c (Ends words n) e = closed_row c words n e (body n bs) refl
 
-first_row : (dialect : Dialect) (bs : List ℕ) → FirstRow dialect bs (first dialect bs)
+pub first_row : (dialect : Dialect) (bs : List ℕ) → FirstRow dialect bs (first dialect bs)
 unfolding first
 first_row dialect [] = tt
 first_row dialect (b ∷ bs) =

@@ -1,7 +1,7 @@
 ghost use Rattle.ap_stream.specs.Limits.{LimitsAre};
 ghost use Rattle.ap_stream.specs.Laws.{ReadsBack, ReadsWords, ChunksReadBack, ChunksAreWritten, WordsAreSpelt, UnitsAreRead, ReadAreUnits, AreOneUnit, ChunksAreRead, ReadAreChunks, AreOneChunk};
 ghost use Rattle.ap_stream.specs.Pieces.{TextsJoin, OneList, ReadTextsHave, EachKeeps, KeptTwice, ScanFinds};
-ghost use Rattle.ap_stream.specs.ReadOn.{PiecesAreRead, EachIsPieces};
+ghost use Rattle.ap_stream.specs.ReadOn.{PiecesAreRead, EachIsPieces, MalformedAreWrong};
 
 /// The numbers of the limits. It is a statement alone and does nothing.
 pub fn limits()
@@ -102,4 +102,12 @@ pub fn pieces_are_read()
 /// and does nothing.
 pub fn each_gives_pieces()
     ensures { EachIsPieces }
+{}
+
+/// The law of malformed texts. Where reading answers a malformed text, behind pieces that end at
+/// that place stand bytes with which some text of the dialect begins, and then the first wrong
+/// byte, with which none does; or the text is unfinished: it is none of the dialect, and some begin
+/// with it. It is a statement alone and does nothing.
+pub fn malformed_texts_are_wrong()
+    ensures { MalformedAreWrong }
 {}

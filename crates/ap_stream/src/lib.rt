@@ -56,6 +56,8 @@
 //!   `superblanks_of_texts_joined`, `read_texts_have_superblanks`, `superblanks_are_scanned`).
 //! - A tool that takes each item by itself and makes no superblank of a unit keeps those of the
 //!   text, and two such tools do (`each_item_keeps_superblanks`, `superblanks_are_kept_twice`).
+//! - A text that is answered malformed has a first wrong byte, with which no text of the dialect
+//!   goes on, or is unfinished (`malformed_texts_are_wrong`).
 //! - A text of whole pieces is read to its end, or to an item over the limit, and such a tool
 //!   writes one (`pieces_are_read`, `each_gives_pieces`). The limits are these numbers (`limits`).
 //!
@@ -112,10 +114,10 @@ pub use handler::{ByRun, Handler, Turn};
 pub use item::{Character, Chunk, Content, Inner, Item, Read};
 pub use laws::{
     chunks_are_by_the_notation, chunks_can_be_written, chunks_read_back, each_gives_pieces,
-    each_item_keeps_superblanks, limits, one_list_of_superblanks, pieces_are_read,
-    read_texts_have_superblanks, superblanks_are_kept_twice, superblanks_are_scanned,
-    superblanks_of_texts_joined, units_are_by_the_notation, units_are_words, units_read_back,
-    words_are_spelt,
+    each_item_keeps_superblanks, limits, malformed_texts_are_wrong, one_list_of_superblanks,
+    pieces_are_read, read_texts_have_superblanks, superblanks_are_kept_twice,
+    superblanks_are_scanned, superblanks_of_texts_joined, units_are_by_the_notation,
+    units_are_words, units_read_back, words_are_spelt,
 };
 pub use names::Names;
 pub use pipe::Pipe;
