@@ -11,7 +11,7 @@ use Rattle.ap_symbol.specs.declared.symbol.Symbol.{Symbol}
 use Rattle.ap_stream.specs.Blanks.{Run, Open, Done, further, blank, is_white, begins_blank}
 use Rattle.ap_stream.specs.Laws.{AreSpelt, AreWords, AreParts}
 use Rattle.ap_stream.specs.Pieces.{HasSuperblanks, nothing, piece, white, chunk}
-use Rattle.ap_stream.specs.Reading.{first, Whole, Needs, last, Complete}
+use Rattle.ap_stream.specs.Reading.{first, Needs, last, Complete}
 use Rattle.ap_stream.specs.Spelling.{inner_bytes, chunk_bytes, spelled}
 use Rattle.ap_stream.specs.Supers.{blank_supers, inner_supers, item_supers, items_of, supers}
 use Rattle.ap_stream.specs.declared.dialect.Dialect.{Dialect}
@@ -20,7 +20,8 @@ use Rattle.ap_stream.specs.declared.item.Inner.{Inner}
 use Rattle.ap_stream.specs.declared.item.Inner.TheVariants as inner
 use Rattle.ap_stream.specs.declared.item.Item.{Item}
 use Rattle.ap_stream.specs.declared.item.Item.TheVariants as item
-use Rattle.ap_stream.proofs.ChunkCut.{open_on, chunk_back}
+use Rattle.ap_stream.proofs.ChunkCut.{open_on}
+use Rattle.ap_stream.proofs.ChunkTexts.{written_chunk}
 use Rattle.ap_stream.proofs.Joined.{joined, one_piece}
 use Rattle.ap_stream.proofs.Scan.{scan_finds}
 use Rattle.ap_stream.proofs.Spelt.{words_are_spelt}
@@ -212,16 +213,12 @@ chunk_has name content s g =
     let text : List ℕ = chunk_bytes name all in
     let same : text ≡ chunk_bytes name content =
     ap (λ (q : List ℕ). 94 ∷ (rendering name ++ (123 ∷ (q ++ 125 ∷ 36 ∷ [])))) m.bytes in
-    let back : first Chunked text ≡ Whole (item.Chunk (record { name = name; content = all }))
-    (length text) = ap (first Chunked) (sym (append-nil text))
-    ∙ chunk_back name all [] s m.parts_are in
     let has : HasSuperblanks Chunked text (flat_map inner_supers all) =
     one_piece Chunked text (flat_map inner_supers all)
     (chunk (record {
       chunks = refl;
       chunk = record { name = name; content = all };
-      read =
-          back;
+      text = written_chunk name all s m.parts_are;
     }) refl) in
     subst (λ (q : List ℕ). HasSuperblanks Chunked q (flat_map inner_supers content)) same
     (subst (λ (q : List (List ℕ)). HasSuperblanks Chunked text q) m.supers_are has)

@@ -182,7 +182,7 @@ plain_bare surface c plain white n = by surface
     ) refl
 
 -- a text whose front is one character that is not escaped
-some_bytes : (c : ℕ) (x : List ℕ) → Scalar c → 0 < length (encode_utf8 c)
+pub some_bytes : (c : ℕ) (x : List ℕ) → Scalar c → 0 < length (encode_utf8 c)
 unfolding char_at
 some_bytes c x s = by (encode_utf8 c) (char_back c [] s)
   where
@@ -190,7 +190,7 @@ some_bytes c x s = by (encode_utf8 c) (char_back c [] s)
     by [] h = absurd (cc)
     by (a ∷ p) h = omega arith
 
-not_first : (c d : ℕ) → Scalar c → d < 128 → eqb c d ≡ false → first_is d (encode_utf8 c) ≡ false
+pub not_first : (c d : ℕ) → Scalar c → d < 128 → eqb c d ≡ false → first_is d (encode_utf8 c) ≡ false
 unfolding char_at
 not_first c d s small e = by (encode_utf8 c) (char_back c [] s)
   where
@@ -320,12 +320,12 @@ word_back form words word (s ∷ more) x h =
     (sym (ap length (flat_map-cons symbol_bytes s more)
     ∙ length-append (symbol_bytes s) (rendering more)))
 
-none_after : (words : List (List Symbol)) (word : List Symbol) →
+pub none_after : (words : List (List Symbol)) (word : List Symbol) →
     is_none (words ++ word ∷ []) ≡ false
 none_after [] word = refl
 none_after (w ∷ words) word = refl
 
-not_surface : (form : Form) (words : List (List Symbol)) → is_none words ≡ false →
+pub not_surface : (form : Form) (words : List (List Symbol)) → is_none words ≡ false →
     in_surface form words ≡ false
 not_surface form words h = rw h (by form.surface)
   where
@@ -369,7 +369,7 @@ later_back form words word (w ∷ more) x b s n h =
     ∙ ap (λ q. Ends q (length (flat_map slashed (w ∷ more)) + 1))
     (append_assoc words (word ∷ []) (w ∷ more))
 
-first_surface : (form : Form) → in_surface form [] ≡ form.surface
+pub first_surface : (form : Form) → in_surface form [] ≡ form.surface
 first_surface form = by form.surface
   where
     by : (v : Bool) → (v && true) ≡ v

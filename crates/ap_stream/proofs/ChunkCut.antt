@@ -1,12 +1,12 @@
 -- What is read of a chunk at the front of a text is read there too where the text is cut behind it
 -- and goes on in any way; and it is written of words and blanks.
-use Rattle.std.specs.Prelude.{◌≡◌, ℕ, zero, suc, ◌+◌, ◌-◌, ◌<◌, ◌≤◌, pred, List, [], ◌∷◌, ◌++◌, drop, take, length, Bool, true, false, cond, eqb, ◌||◌, refl}
+use Rattle.std.specs.Prelude.{◌≡◌, ◌≢◌, ℕ, zero, suc, ◌+◌, ◌-◌, ◌<◌, ◌≤◌, pred, List, [], ◌∷◌, ◌++◌, drop, take, length, Bool, true, false, cond, eqb, ◌||◌, refl}
 use Rattle.std.specs.List.{flat_map}
 use Rattle.std.proofs.Common.{arith, ap, sym, subst, ◌∙◌, append_assoc, length-append, drop-drop}
 use Rattle.std.proofs.lemmas.Bool.{eqb-true}
 use Rattle.std.proofs.lemmas.List.{append-nil, length-take-le, length-drop, take-append-drop}
 use Rattle.std.proofs.lemmas.List.Concat.{flat_map-cons}
-use Rattle.std.proofs.Math.Seq.{drop-append_seam, take-append_seam, drop-append-add}
+use Rattle.std.proofs.Math.Seq.{drop-append_seam, take-append_seam, drop-append-add, take-add}
 use Rattle.ap_symbol.specs.Rendering.{rendering}
 use Rattle.ap_symbol.specs.declared.symbol.Symbol.{Symbol}
 use Rattle.ap_stream.specs.declared.dialect.Dialect.TheVariants.{Lexical, Chunked}
@@ -22,6 +22,7 @@ use Rattle.ap_stream.specs.Chunks.{Held, portion, Body, Opens, Fails, Closes, be
 use Rattle.ap_stream.specs.InUnits.{unit_always, first_caret}
 use Rattle.ap_stream.specs.InChunks.{part_first, portion_of, part_agrees, part_on, part_some, body_held}
 use Rattle.ap_stream.specs.Laws.{AreSpelt, IsBlank, NoBlankFirst, AreParts}
+use Rattle.ap_stream.specs.Notation.{IsContentText, IsChunkText}
 use Rattle.ap_symbol.specs.Kinds.{first_word}
 use Rattle.ap_stream.specs.Reading.{Whole, first, of_chunk, of_body}
 use Rattle.ap_stream.specs.Spelling.{unit_bytes, inner_bytes, chunk_bytes}
@@ -30,6 +31,8 @@ use Rattle.ap_stream.proofs.Back.{unit_back, word_back}
 use Rattle.ap_stream.proofs.ChunkWalk.{shaped, Begins, brace, unit, run, content_begins, IsClosed, unit_part, run_part, unit_of}
 use Rattle.ap_stream.proofs.Cut.{char_cut, char_size, cut_twice, rest_cut}
 use Rattle.ap_stream.proofs.Superblanks.{closing_first}
+use Rattle.ap_stream.proofs.BlankTexts.{RunText, run_text}
+use Rattle.ap_stream.proofs.UnitTexts.{unit_text, name_text}
 use Rattle.ap_stream.proofs.WordsRead.{unit_words, name_spelt}
 
 drop_pred : (n b : ℕ) (bs : List ℕ) → 0 < n → drop n (b ∷ bs) ≡ drop (pred n) bs
@@ -202,7 +205,7 @@ done_on bs n e = subst (RunOn bs) e (run_on 0 bs)
 
 -- one part of a content, and what stands behind it
 
-unit_body : (p y : List ℕ) (words : List (List Symbol)) → UnitOf Lexical p words →
+pub unit_body : (p y : List ℕ) (words : List (List Symbol)) → UnitOf Lexical p words →
     body 0 (p ++ y) ≡ behind_part (inner.Unit words) (length p) (body 0 y)
 unit_body p y words u =
     let begins : part_first p ≡ true = ap part_first u.begins in
@@ -225,7 +228,7 @@ unfolding portion
 blank_portion_at [] n t e = absurd (cc)
 blank_portion_at (b ∷ bs) n t e = rw (t, e) refl
 
-run_body : (p y : List ℕ) → ((x : List ℕ) → blank 0 (p ++ x) ≡ further (length p) (blank 0 x)) →
+pub run_body : (p y : List ℕ) → ((x : List ℕ) → blank 0 (p ++ x) ≡ further (length p) (blank 0 x)) →
     blank_first p ≡ true → 0 < length y → blank_first y ≡ false →
     body 0 (p ++ y) ≡ behind_part (inner.Blank p) (length p) (body 0 y)
 run_body [] y on t some dark = absurd (cc)
@@ -264,6 +267,9 @@ record BodyCut (bs : List ℕ) (parts : List Inner) (n : ℕ) : Type 0 where
   fits : n ≤ length bs
   written : AreParts parts
   dark : blank_first bs ≡ false → NoBlankFirst parts
+  held : List ℕ
+  content : IsContentText parts held
+  spelled : take n bs ≡ held ++ 125 ∷ 36 ∷ []
 
 module _ (b : ℕ) (bs : List ℕ) (parts : List Inner) (n : ℕ) (h : body 0 (b ∷ bs) ≡ Closes parts n)
     (go : (k : ℕ) (more : List Inner) (j : ℕ) → body k bs ≡ Closes more j →
@@ -285,6 +291,9 @@ module _ (b : ℕ) (bs : List ℕ) (parts : List Inner) (n : ℕ) (h : body 0 (b
           fits = omega (arith, d.2, l);
           written = subst AreParts (sym d.1) tt;
           dark = λ _. subst NoBlankFirst (sym d.1) tt;
+          held = [];
+          content = subst (λ (q : List Inner). IsContentText q []) (sym d.1) refl;
+          spelled = ap (λ k. take k (b ∷ bs)) d.2 ∙ ap (take 2) text;
         }
 
     part_cut : (part : Inner) (k : ℕ) → 0 < k → k ≤ length (b ∷ bs) →
@@ -294,8 +303,10 @@ module _ (b : ℕ) (bs : List ℕ) (parts : List Inner) (n : ℕ) (h : body 0 (b
         ≡ behind_part part k (body 0 (take j (drop k (b ∷ bs)) ++ x))) →
         ((more : List Inner) (j : ℕ) → BodyCut (drop k (b ∷ bs)) more j → AreParts (part ∷ more)) →
         (blank_first (b ∷ bs) ≡ false → (more : List Inner) → NoBlankFirst (part ∷ more)) →
+        ((more : List Inner) (j : ℕ) (r : BodyCut (drop k (b ∷ bs)) more j) →
+        IsContentText (part ∷ more) (take k (b ∷ bs) ++ r.held)) →
         BodyCut (b ∷ bs) parts n
-    part_cut part k some fits is read written dark =
+    part_cut part k some fits is read written dark content =
         let c = closes_behind part k (body 0 (drop k (b ∷ bs))) parts n (sym is ∙ h) in
         let back : drop k (b ∷ bs) ≡ drop (pred k) bs = drop_pred k b bs some in
         let left : body (pred k) bs ≡ Closes c.0 c.1 =
@@ -312,6 +323,12 @@ module _ (b : ℕ) (bs : List ℕ) (parts : List Inner) (n : ℕ) (h : body 0 (b
           fits = let s = c.4 in let f = rest.fits in omega (arith, s, f, l, fits);
           written = subst AreParts (sym c.3) (written c.0 c.1 rest);
           dark = λ d. subst NoBlankFirst (sym c.3) (dark d c.0);
+          held = take k (b ∷ bs) ++ rest.held;
+          content = subst (λ (q : List Inner). IsContentText q (take k (b ∷ bs) ++ rest.held))
+              (sym c.3) (content c.0 c.1 rest);
+          spelled = ap (λ m. take m (b ∷ bs)) c.4 ∙ take-add k c.1 (b ∷ bs)
+              ∙ ap (λ (q : List ℕ). take k (b ∷ bs) ++ q) rest.spelled
+              ∙ sym (append_assoc (take k (b ∷ bs)) rest.held (125 ∷ 36 ∷ []));
         }
 
     unit_cut : (words : List (List Symbol)) (m : ℕ) → b ≡ 94 →
@@ -336,6 +353,13 @@ module _ (b : ℕ) (bs : List ℕ) (parts : List Inner) (n : ℕ) (h : body 0 (b
               (unit_always Lexical (take (1 + m) (b ∷ bs)) words own []),
           r.written,
         )) (λ d more. tt)
+        (λ more j r. (
+          take (1 + m) (b ∷ bs),
+          r.held,
+          unit_text Lexical (take (1 + m) (b ∷ bs)) words own,
+          r.content,
+          refl,
+        ))
 
     blank_cut : (m : ℕ) → begins_blank b ≡ true → blank 0 (b ∷ bs) ≡ Done m →
         BodyCut (b ∷ bs) parts n
@@ -363,7 +387,21 @@ module _ (b : ℕ) (bs : List ℕ) (parts : List Inner) (n : ℕ) (h : body 0 (b
           r.dark on.1,
           r.written,
         )) (λ d more. absurd (let z : true ≡ false = sym t ∙ d in cc))
+        (λ more j r. (
+          r.held,
+          record {
+            some = some_taken m some;
+            are = (subst (RunText (b ∷ bs)) e (run_text 0 (b ∷ bs))).0;
+          },
+          r.dark on.1,
+          r.content,
+          refl,
+        ))
       where
+        some_taken : (m : ℕ) → 0 < m → take m (b ∷ bs) ≢ []
+        some_taken zero some = absurd (omega (arith, some))
+        some_taken (suc m) some = λ e. cc
+
         first_taken : (m : ℕ) → 0 < m → begins_blank b ≡ true → blank_first (take m (b ∷ bs)) ≡ true
         first_taken zero some t = absurd (omega (arith, some))
         first_taken (suc m) some t = t
@@ -401,6 +439,7 @@ pub record IsCut (bs : List ℕ) (chunk : Chunk) (n : ℕ) : Type 0 where
   pub fits : n ≤ length bs
   pub name : AreSpelt false chunk.name
   pub parts : AreParts chunk.content
+  pub text : IsChunkText chunk (take n bs)
 
 pub chunk_cut : (bs : List ℕ) (chunk : Chunk) (n : ℕ) →
     first Chunked bs ≡ Whole (item.Chunk chunk) n →
@@ -412,6 +451,7 @@ chunk_cut bs chunk n h =
     let m : ℕ = s.size in
     let c : BodyCut (drop s.named s.tail) s.parts s.size =
     body_cut 0 (drop s.named s.tail) s.parts s.size s.body_is in
+    let name = name_text s.tail s.words s.named s.name_is in
     let made : Chunk = record { name = first_word s.words; content = s.parts } in
     let r : (x : List ℕ) → (rest (form_of Chunked) [] [] 0 (take s.named s.tail ++ x)
     ≡ Ends s.words s.named)
@@ -444,6 +484,19 @@ chunk_cut bs chunk n h =
       name = subst (λ (q : Chunk). AreSpelt false q.name) (sym s.chunk_is)
           (name_spelt s.tail s.words s.named s.name_is);
       parts = subst (λ (q : Chunk). AreParts q.content) (sym s.chunk_is) c.written;
+      text = subst (λ (q : Chunk). IsChunkText q (take n bs)) (sym s.chunk_is)
+          (record {
+            named = name.0;
+            held = c.held;
+            name_is = name.1;
+            content_is = c.content;
+            spelled = sym (append-nil (take n bs)) ∙ all []
+                ∙ ap (λ (q : List ℕ). 94 ∷ (take s.named s.tail ++ q))
+                (append-nil (take s.size (drop s.named s.tail)) ∙ c.spelled)
+                ∙ ap (λ (q : List ℕ). 94 ∷ (q ++ (c.held ++ 125 ∷ 36 ∷ []))) name.2
+                ∙ ap (λ (q : List ℕ). 94 ∷ q)
+                (append_assoc name.0 (123 ∷ []) (c.held ++ 125 ∷ 36 ∷ []));
+          });
     }
 
 -- what is written of a chunk is read back

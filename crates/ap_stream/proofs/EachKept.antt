@@ -1,7 +1,6 @@
 -- A tool that takes each item by itself keeps superblanks.
-use Rattle.std.specs.Prelude.{◌≡◌, ℕ, Bool, true, false, List, [], ◌∷◌, length, Option, Some, None, refl, if◌then◌else◌}
-use Rattle.std.proofs.Common.{ap, sym, subst, ◌∙◌}
-use Rattle.std.proofs.lemmas.List.{append-nil}
+use Rattle.std.specs.Prelude.{◌≡◌, ℕ, Bool, true, false, List, [], ◌∷◌, Option, Some, None, refl, if◌then◌else◌}
+use Rattle.std.proofs.Common.{sym, subst}
 use Rattle.ap_symbol.specs.declared.symbol.Symbol.{Symbol}
 use Rattle.ap_stream.specs.declared.dialect.Dialect.{Dialect}
 use Rattle.ap_stream.specs.declared.fault.StreamFault.{StreamFault}
@@ -14,19 +13,18 @@ use Rattle.ap_stream.specs.Each.{each, item_text, is_over}
 use Rattle.ap_stream.specs.Laws.{AreWords}
 use Rattle.ap_stream.specs.Pieces.{HasSuperblanks, piece, plain, white, unit, HaveSameSuperblanks, StayBare, MakesNone, supers_of, chunk, BareStay}
 use Rattle.ap_stream.specs.ReadOn.{ArePieces, IsReadOn}
-use Rattle.ap_stream.specs.Reading.{first, reads, Whole}
+use Rattle.ap_stream.specs.Reading.{reads}
 use Rattle.ap_stream.specs.Spelling.{unit_bytes, spelled, chunk_bytes}
 use Rattle.ap_stream.specs.Supers.{blank_supers, item_supers}
 use Rattle.ap_stream.specs.Told.{behind, ends_in, or_else}
-use Rattle.ap_stream.proofs.Back.{unit_back}
+use Rattle.ap_stream.proofs.ByNotation.{written_unit}
 use Rattle.ap_stream.proofs.Joined.{one_piece}
 use Rattle.ap_stream.proofs.Gives.{GivesPieces, gives_none, gives_end, gives_behind, gives_all, gives_pieces}
 use Rattle.ap_stream.proofs.ReadOn.{are_read}
 use Rattle.ap_stream.proofs.Rows.{IsRow, ChunkRow, AreRead, reads_read, reads_have, supers_more}
 use Rattle.ap_stream.specs.declared.item.Chunk.{Chunk}
 use Rattle.ap_stream.specs.declared.dialect.Dialect.TheVariants.{Raw, Analysed, Lexical, Bilingual, Chunked, Generated}
-use Rattle.ap_stream.proofs.ChunkCut.{chunk_back}
-use Rattle.ap_stream.specs.InChunks.{only_chunked}
+use Rattle.ap_stream.proofs.ChunkTexts.{written_chunk}
 
 -- what stands bare stays so
 bare_stay : (from to : Dialect) → StayBare from to → BareStay from to
@@ -46,14 +44,10 @@ chunk_stays Analysed to c bytes stay h = absurd h
 chunk_stays Lexical to c bytes stay h = absurd h
 chunk_stays Bilingual to c bytes stay h = absurd h
 chunk_stays Chunked to c bytes stay h =
-    let text : List ℕ = chunk_bytes c.name c.content in
-    let back : first Chunked (chunk_bytes c.name c.content) ≡ Whole (item.Chunk c) (length text) =
-    ap (first Chunked) (sym (append-nil (chunk_bytes c.name c.content)))
-    ∙ chunk_back c.name c.content [] h.1 h.2 in
-    one_piece to text (item_supers (item.Chunk c)) (chunk (record {
+    one_piece to (chunk_bytes c.name c.content) (item_supers (item.Chunk c)) (chunk (record {
       chunks = stay.1;
       chunk = c;
-      read = ap (λ (d : Dialect). first d text) (only_chunked to stay.1) ∙ back;
+      text = written_chunk c.name c.content h.1 h.2;
     }) refl)
 chunk_stays Generated to c bytes stay h = absurd h
 
@@ -141,12 +135,7 @@ pub unit_has_none : (dialect : Dialect) (words : List (List Symbol)) → AreWord
     HasSuperblanks dialect (unit_bytes words) []
 unit_has_none dialect words h =
     one_piece dialect (unit_bytes words) []
-    (unit (record {
-      words = words;
-      read =
-          ap (first dialect) (sym (append-nil (unit_bytes words)))
-          ∙ unit_back dialect words [] h;
-    }) refl)
+    (unit (record { words = words; text = written_unit dialect words h }) refl)
 
 -- nor has a space in front of a text that has none
 pub space_has_none : (dialect : Dialect) (text : List ℕ) → HasSuperblanks dialect text [] →

@@ -4,21 +4,21 @@ use Rattle.std.specs.List.{flat_map}
 use Rattle.std.proofs.Common.{arith, ap, sym, subst, ◌∙◌, append_assoc, length-append, inl, inr}
 use Rattle.std.proofs.lemmas.Bool.{eqb-true, and_parts, ne_eqb, cases_lt}
 use Rattle.std.proofs.lemmas.Bool.Decides.{nat_tests}
-use Rattle.std.proofs.lemmas.List.{append-nil, length-take-le, take_all}
+use Rattle.std.proofs.lemmas.List.{append-nil, length-take-le}
 use Rattle.std.proofs.Math.Seq.{drop-append_seam, take-append_seam}
 use Rattle.ap_symbol.specs.Coded.{IsCode}
 use Rattle.ap_symbol.specs.declared.symbol.Symbol.{Symbol}
 use Rattle.ap_stream.specs.declared.dialect.Dialect.{Dialect}
-use Rattle.ap_stream.specs.declared.dialect.Dialect.TheVariants.{Chunked}
 use Rattle.ap_stream.specs.declared.item.Item.{Item}
 use Rattle.ap_stream.specs.declared.item.Item.TheVariants as item
-use Rattle.ap_stream.specs.Blanks.{Run, Open, Inside, BadChar, Done, Close, Within, Bad, Closed, closing, longer, is_white, blank, begins_blank}
+use Rattle.ap_stream.specs.Blanks.{Run, Open, Inside, BadChar, Done, Close, Within, Bad, Closed, closing, is_white, blank, begins_blank}
 use Rattle.ap_stream.specs.Chars.{Front, Part, NotChar, Char, char_at}
 use Rattle.ap_stream.specs.Dialects.{is_refused, has_words, has_chunks, has_units}
 use Rattle.ap_stream.specs.InUnits.{unit_always, units_words, braced_chunks}
 use Rattle.ap_stream.specs.UnitBytes.{UnitOf}
-use Rattle.ap_stream.specs.Pieces.{HaveSameSuperblanks, HasSuperblanks, nothing, piece, IsPiece, plain, white, superblank, unit, IsPlain, IsUnit, IsToBracket, closed, bare, escaped, is_bare, IsChunk, chunk}
+use Rattle.ap_stream.specs.Pieces.{HaveSameSuperblanks, HasSuperblanks, nothing, piece, IsPiece, plain, white, superblank, unit, IsPlain, IsUnit, escaped, is_bare, IsChunk, chunk}
 use Rattle.ap_stream.specs.declared.fault.MalformedKind.TheVariants.{Stray}
+use Rattle.ap_stream.specs.ReadOn.{ArePieces}
 use Rattle.ap_symbol.specs.Kinds.{first_word}
 use Rattle.ap_stream.specs.Reading.{First, Needs, Whole, Faulty, Bad as OfKind, first, begins_unit, of_run, of_escaped, of_char, of_unit, plain as plain_item, of_body, of_chunk, of_caret}
 use Rattle.ap_stream.specs.Supers.{item_supers, inner_supers}
@@ -26,12 +26,12 @@ use Rattle.ap_stream.specs.Stands.{blank_first, escape_first, unit_first, letter
 use Rattle.ap_stream.specs.Units.{Rest, Lacks, Wrong, Ends, rest, form_of}
 use Rattle.ap_stream.proofs.Back.{char_back}
 use Rattle.ap_stream.proofs.Cut.{first_byte, char_size, rest_cut}
-use Rattle.ap_stream.proofs.Superblanks.{closing_first}
 use Rattle.ap_stream.specs.Chunks.{Body, Opens, Fails, Closes, body}
 use Rattle.ap_stream.specs.declared.item.Inner.{Inner}
 use Rattle.ap_stream.specs.InChunks.{only_chunked}
-use Rattle.ap_stream.proofs.ChunkWalk.{shaped}
-use Rattle.ap_stream.proofs.ChunkCut.{chunk_cut}
+use Rattle.ap_stream.proofs.ChunkTexts.{text_chunk}
+use Rattle.ap_stream.proofs.UnitTexts.{text_unit}
+pub use Rattle.ap_stream.proofs.BlankTexts.{to_bracket}
 
 -- tests of bytes below 128 say of a character what they say of its first byte
 
@@ -124,41 +124,6 @@ module _ (c : ℕ) (code : IsCode c) where
         (alone_test (λ b. eqb b 92) low_escape escape_first refl (λ b bs. refl) free.escape)
         (alone_test (begins_unit dialect) (low_unit dialect) (unit_first dialect) refl
         (λ b bs. refl) free.unit) c alone free.refused x
-
--- a superblank
-pub to_bracket : (bytes : List ℕ) → IsToBracket bytes → (x : List ℕ) → closing false 0 (bytes ++ x)
-    ≡ Closed (length bytes)
-unfolding char_at
-to_bracket bytes (closed e) x = ap (λ (q : List ℕ). closing false 0 (q ++ x)) e
-    ∙ closing_first false (93 ∷ x) 93 1 refl ∙ ap (λ (q : List ℕ). Closed (length q)) (sym e)
-to_bracket bytes (bare c more code no_escape no_close h e) x =
-    let n : ℕ = length (encode_utf8 c) in
-    let u : eqb c 93 ≡ false = ne_eqb c 93 no_close in
-    let v : eqb c 92 ≡ false = ne_eqb c 92 no_escape in
-    let one : closing false 0 (encode_utf8 c ++ (more ++ x))
-    ≡ longer (length (encode_utf8 c)) (closing false 0 (more ++ x)) =
-    closing_first false (encode_utf8 c ++ (more ++ x)) c (length (encode_utf8 c))
-    (char_back c (more ++ x) code)
-    ∙ rw (u, v, drop-append_seam (encode_utf8 c) (more ++ x)) refl in
-    let size : length (encode_utf8 c) + length more ≡ length bytes =
-    sym (ap length e ∙ length-append (encode_utf8 c) more) in
-    ap (λ (q : List ℕ). closing false 0 (q ++ x)) e
-    ∙ ap (closing false 0) (append_assoc (encode_utf8 c) more x) ∙ one
-    ∙ ap (longer (length (encode_utf8 c))) (to_bracket more h x) ∙ ap Closed size
-to_bracket bytes (escaped c more code h e) x =
-    let two : closing true 0 (encode_utf8 c ++ (more ++ x))
-    ≡ longer (length (encode_utf8 c)) (closing false 0 (more ++ x)) =
-    closing_first true (encode_utf8 c ++ (more ++ x)) c (length (encode_utf8 c))
-    (char_back c (more ++ x) code) ∙ rw (drop-append_seam (encode_utf8 c) (more ++ x)) refl in
-    let one : closing false 0 (92 ∷ (encode_utf8 c ++ (more ++ x)))
-    ≡ longer 1 (closing true 0 (encode_utf8 c ++ (more ++ x))) =
-    closing_first false (92 ∷ (encode_utf8 c ++ (more ++ x))) 92 1 refl in
-    let size : 1 + (length (encode_utf8 c) + length more) ≡ length bytes = let l = ap length e in
-    let k = length-append (encode_utf8 c) more in omega (arith, l, k) in
-    ap (λ (q : List ℕ). closing false 0 (q ++ x)) e
-    ∙ ap (λ (q : List ℕ). closing false 0 (92 ∷ q)) (append_assoc (encode_utf8 c) more x) ∙ one
-    ∙ ap (longer 1) (two ∙ ap (longer (length (encode_utf8 c))) (to_bracket more h x))
-    ∙ ap Closed size
 
 -- a unit
 pub unit_cut : (dialect : Dialect) (bs : List ℕ) (words : List (List Symbol)) (n : ℕ) →
@@ -261,11 +226,8 @@ unit_cut dialect (b ∷ bs) words n h = by_blank (begins_blank b) h
 pub unit_of_bytes : (dialect : Dialect) (bytes : List ℕ) (u : IsUnit dialect bytes) →
     UnitOf dialect bytes u.words × (0 < length bytes)
 unit_of_bytes dialect bytes u =
-    let c = unit_cut dialect bytes u.words (length bytes) u.read in (
-      subst (λ (q : List ℕ). UnitOf dialect q u.words)
-          (take_all (length bytes) bytes (omega arith)) c.0,
-      c.1,
-    )
+    let own = text_unit dialect u.words bytes u.text in
+    (own, let l = ap length own.begins in omega (arith, l))
 
 -- the size of the piece at the front of a text
 abbrev close_size : Close → ℕ
@@ -375,18 +337,14 @@ unit_whole dialect bytes u =
 pub chunk_whole : (dialect : Dialect) (bytes : List ℕ) (c : IsChunk dialect bytes) →
     IsWhole dialect (flat_map inner_supers c.chunk.content) bytes
 chunk_whole dialect bytes c =
-    let is : dialect ≡ Chunked = only_chunked dialect c.chunks in
-    let alone : first Chunked bytes ≡ Whole (item.Chunk c.chunk) (length bytes) =
-    ap (λ (d : Dialect). first d bytes) (sym is) ∙ c.read in
-    let k = chunk_cut bytes c.chunk (length bytes) alone in
-    let all : take (length bytes) bytes ≡ bytes = take_all (length bytes) bytes (omega arith) in
+    let size = ap length c.text.spelled in
     record {
       thing = item.Chunk c.chunk;
       supers = refl;
-      some = k.some;
-      dark = ap blank_first (shaped bytes c.chunk (length bytes) alone).begins;
-      read = λ x. ap (λ (d : Dialect). first d (bytes ++ x)) is
-          ∙ ap (λ (q : List ℕ). first Chunked (q ++ x)) (sym all) ∙ k.read x;
+      some = omega (arith, size);
+      dark = ap blank_first c.text.spelled;
+      read = λ x. ap (λ (d : Dialect). first d (bytes ++ x)) (only_chunked dialect c.chunks)
+          ∙ text_chunk c.chunk bytes c.text x;
     }
 
 pub white_other : (b : ℕ) → is_white b ≡ true → eqb b 91 ≡ false
@@ -434,6 +392,30 @@ same_front dialect a b x y own other h k e =
 no_front : (dialect : Dialect) (a x : List ℕ) (own : List (List ℕ)) → IsFront dialect a own →
     [] ≡ a ++ x → ⊥
 no_front dialect a x own h e = let l = ap length e ∙ length-append a x in omega (arith, l, h.some)
+
+-- what stands behind a row of pieces in a row of pieces is one
+pub pieces_left : (dialect : Dialect) (front rest : List ℕ) → ArePieces dialect front →
+    ArePieces dialect (front ++ rest) → ArePieces dialect rest
+pieces_left dialect front rest h k = left front h.superblanks (front ++ rest) k.superblanks h.has
+    k.has refl
+  where
+    left : (p : List ℕ) (own : List (List ℕ)) (text : List ℕ) (all : List (List ℕ)) →
+        HasSuperblanks dialect p own → HasSuperblanks dialect text all → text ≡ p ++ rest →
+        ArePieces dialect rest
+    left p own text all (nothing e f) k is =
+        let same : text ≡ rest = is ∙ ap (λ (q : List ℕ). q ++ rest) e in
+        record {
+          superblanks = all;
+          has = subst (λ (q : List ℕ). HasSuperblanks dialect q all) same k;
+        }
+    left p own text all (piece a x b more q h e f) (nothing u v) is =
+        absurd (no_front dialect a (x ++ rest) b (front_is dialect a b q)
+        (sym u ∙ is ∙ ap (λ (z : List ℕ). z ++ rest) e ∙ append_assoc a x rest))
+    left p own text all (piece a x b more q h e f) (piece c y d others r k u v) is =
+        let s = same_front dialect c a y (x ++ rest) d b (front_is dialect c d r)
+        (front_is dialect a b q)
+        (sym u ∙ is ∙ ap (λ (z : List ℕ). z ++ rest) e ∙ append_assoc a x rest) in
+        left x more y others h k s.2
 
 -- a text has one list of superblanks
 pub one_list_by : (dialect : Dialect) (text same : List ℕ) (one other : List (List ℕ)) →

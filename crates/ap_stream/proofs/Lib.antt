@@ -14,13 +14,17 @@ pub mod WordsRead
 pub mod Spelt
 pub mod KeptNames
 pub mod KeptUnits
+pub mod BlankTexts
 pub mod ChunkWalk
 pub mod ChunkCut
+pub mod ChunkTexts
 pub mod Crossed
 pub mod Spells
 pub mod Superblanks
 pub mod Joined
 pub mod Cut
+pub mod SymbolTexts
+pub mod UnitTexts
 pub mod Fronts
 pub mod Rows
 pub mod Gives
@@ -37,4 +41,8 @@ pub mod Copied
 pub mod ReadOn
 pub mod WholeUnits
 pub mod BareReads
+pub mod ByNotation
+pub mod GoesOn
+pub mod ItemsGoOn
+pub mod FirstWrong
 pub mod FrontLaws

@@ -19,7 +19,7 @@ use Rattle.ap_stream.proofs.Stays.{StaysSo, needs, first_stays}
 
 -- within a limit an item is what it is without one, or it is over the limit
 module _ (most : ℕ) (dialect : Dialect) (bs : List ℕ) where
-  abbrev IsSame : First → Type 0
+  abbrev pub IsSame : First → Type 0
   IsSame f = (f ≡ first dialect bs) ⊎ (f ≡ Faulty (Past ItemTooLong))
 
   so_far : (n : ℕ) → StaysSo needs (first dialect (take n bs)) (first dialect bs)
@@ -41,7 +41,7 @@ module _ (most : ℕ) (dialect : Dialect) (bs : List ℕ) where
   same_past (Whole thing n) h = inl (sym (h refl))
   same_past (Faulty kind) h = inl (sym (h refl))
 
-  limited_same : IsSame (limited most dialect bs)
+  pub limited_same : IsSame (limited most dialect bs)
   unfolding limited
   limited_same = by (leb (length bs) most)
     where
@@ -53,7 +53,7 @@ module _ (most : ℕ) (dialect : Dialect) (bs : List ℕ) where
 module _ (dialect : Dialect) where
   -- the item at the front of a row of pieces, and the pieces behind it; or a blank that is all of
   -- the text
-  abbrev AtFront : List ℕ → Type 0
+  abbrev pub AtFront : List ℕ → Type 0
   AtFront text = ((thing : Item) × (n : ℕ) × (first dialect text ≡ Whole thing n) × (0 < n)
       × ArePieces dialect (drop n text))
       ⊎ ((thing : Item) × (first dialect text ≡ Needs) × (last text ≡ Complete thing))
@@ -91,7 +91,7 @@ module _ (dialect : Dialect) where
         },
       )
 
-  at_front : (b : ℕ) (bs : List ℕ) (found : List (List ℕ)) →
+  pub at_front : (b : ℕ) (bs : List ℕ) (found : List (List ℕ)) →
       HasSuperblanks dialect (b ∷ bs) found → AtFront (b ∷ bs)
   at_front b bs found (nothing e f) = absurd (cc)
   at_front b bs found (piece front rest own more p h e f) = by p

@@ -1,13 +1,11 @@
 -- A text that is read to its end is the bytes of its items, and these are pieces.
-use Rattle.std.specs.Prelude.{◌≡◌, ◌≢◌, ℕ, zero, suc, ◌+◌, ◌-◌, ◌<◌, ◌≤◌, pred, List, [], ◌∷◌, ◌++◌, drop, take, length, Bool, true, false, cond, eqb, leb, ◌&&◌, not, None, refl, encode_utf8}
+use Rattle.std.specs.Prelude.{◌≡◌, ℕ, zero, suc, ◌+◌, ◌<◌, ◌≤◌, pred, List, [], ◌∷◌, ◌++◌, drop, take, length, Bool, true, false, cond, eqb, leb, None, refl}
 use Rattle.std.specs.List.{AllByRecursion}
 use Rattle.std.proofs.Common.{arith, ap, sym, subst, ◌∙◌}
 use Rattle.std.proofs.lemmas.Bool.{eqb-true}
-use Rattle.std.proofs.lemmas.Bool.Decides.{nat_tests}
-use Rattle.std.proofs.lemmas.List.{append-nil, length-take, length-take-le, length-drop, take-append-drop, take-take}
+use Rattle.std.proofs.lemmas.List.{append-nil, length-take, length-take-le, take-append-drop, take-take, take_all}
 use Rattle.std.proofs.lemmas.List.Concat.{flat_map-cons}
-use Rattle.std.proofs.lemmas.Str.{encode_ascii}
-use Rattle.std.proofs.Math.Seq.{take-add, take-append_seam, drop-append_seam}
+use Rattle.std.proofs.Math.Seq.{take-append_seam, drop-append_seam}
 use Rattle.ap_symbol.specs.Coded.{IsCode}
 use Rattle.ap_symbol.specs.declared.symbol.Symbol.{Symbol}
 use Rattle.ap_stream.specs.declared.dialect.Dialect.{Dialect}
@@ -16,160 +14,61 @@ use Rattle.ap_stream.specs.declared.fault.MalformedKind.TheVariants.{Stray, Unfi
 use Rattle.ap_stream.specs.declared.item.Item.{Item}
 use Rattle.ap_stream.specs.declared.item.Item.TheVariants as item
 use Rattle.ap_stream.specs.declared.item.Read.{Read}
-use Rattle.ap_stream.specs.Blanks.{Run, Open, Inside, BadChar, Done, further, behind_close, blank, Close, Within, Bad, Closed, closing, closing_by, closes, escapes, longer, is_white, begins_blank, blank_some}
+use Rattle.ap_stream.specs.Blanks.{Run, Open, Inside, BadChar, Done, blank, begins_blank, blank_some}
 use Rattle.ap_stream.specs.Chars.{Front, Part, NotChar, Char, char_at}
 use Rattle.ap_stream.specs.Dialects.{is_refused, has_chunks}
-use Rattle.ap_stream.specs.InUnits.{unit_always}
 use Rattle.ap_stream.specs.Laws.{AreWords, AreSpelt, AreParts}
 use Rattle.ap_stream.specs.Limits.{item_max}
-use Rattle.ap_stream.specs.Pieces.{HasSuperblanks, nothing, piece, plain, white, superblank, unit, IsUnit, IsSuperblank, IsToBracket, closed, bare, escaped, is_bare, supers_of, chunk}
+use Rattle.ap_stream.specs.Notation.{AreBlanks, none, space, bracketed, IsUnitText, IsChunkText}
+use Rattle.ap_stream.specs.Pieces.{HasSuperblanks, nothing, piece, plain, white, superblank, unit, IsUnit, escaped, is_bare, supers_of, chunk}
 use Rattle.ap_symbol.specs.Kinds.{first_word}
 use Rattle.ap_stream.specs.Reading.{First, Needs, Whole, Faulty, Bad as OfKind, Past, first, last, Last, Complete, Broken, last_run, begins_unit, of_run, of_escaped, of_char, of_unit, plain as plain_item, limited, at_limit, past, walk, walked, reads, at_end, counted, of_caret, of_chunk, of_body}
 use Rattle.ap_stream.specs.Spelling.{character_bytes}
 use Rattle.ap_stream.specs.Supers.{blank_supers, item_supers}
 use Rattle.ap_stream.specs.Units.{Rest, Lacks, Wrong, Ends, rest, form_of}
 use Rattle.ap_stream.proofs.Cut.{char_size, char_bytes, char_code}
-use Rattle.ap_stream.proofs.Fronts.{white_other, same_test, low_blank, low_escape, low_unit, free_bare, to_bracket, unit_cut}
+use Rattle.ap_stream.proofs.BlankTexts.{to_bracket, RunText, run_text}
+use Rattle.ap_stream.proofs.Fronts.{white_other, same_test, low_blank, low_escape, low_unit, free_bare, unit_cut}
 use Rattle.ap_stream.proofs.Joined.{joined, one_piece}
 use Rattle.ap_stream.proofs.Superblanks.{supers_other, supers_closed}
+use Rattle.ap_stream.proofs.UnitTexts.{unit_text}
 use Rattle.ap_stream.proofs.WordsRead.{unit_words}
 use Rattle.ap_stream.specs.Chunks.{Body, Opens, Fails, Closes, body}
 use Rattle.ap_stream.specs.declared.item.Chunk.{Chunk}
 use Rattle.ap_stream.specs.declared.dialect.Dialect.TheVariants.{Raw, Analysed, Lexical, Bilingual, Chunked, Generated}
 use Rattle.ap_stream.proofs.ChunkCut.{chunk_cut}
-
--- a superblank that is read
-
--- behind a backslash stands any one character
-abbrev pub Behind : Bool → List ℕ → Type 0
-Behind true bytes = (c : ℕ) × (more : List ℕ) × IsCode c × IsToBracket more
-    × (bytes ≡ encode_utf8 c ++ more)
-Behind false bytes = IsToBracket bytes
+pub use Rattle.ap_stream.proofs.BlankTexts.{Behind, ClosedAt, closed_at}
 
 pub drop_pred : (n b : ℕ) (bs : List ℕ) → 0 < n → drop n (b ∷ bs) ≡ drop (pred n) bs
 drop_pred zero b bs some = absurd (omega (arith, some))
 drop_pred (suc n) b bs some = refl
-
-no_close : (c : ℕ) → eqb c 93 ≡ false → c ≢ 93
-no_close c h e = grind (arith, nat_tests)
-
-no_escape : (c : ℕ) → eqb c 92 ≡ false → c ≢ 92
-no_escape c h e = grind (arith, nat_tests)
-
--- one character more
-module _ (b : ℕ) (bs : List ℕ) (c m k : ℕ) (h : char_at (b ∷ bs) ≡ Char c m) where
-  front : take (m + k) (b ∷ bs) ≡ encode_utf8 c ++ take k (drop m (b ∷ bs))
-  front = take-add m k (b ∷ bs)
-      ∙ ap (λ (q : List ℕ). q ++ take k (drop m (b ∷ bs))) (sym (char_bytes (b ∷ bs) c m h))
-
-  plain_behind : (e v w : Bool) → closes e c ≡ false → eqb c 92 ≡ w → e ≡ v →
-      Behind (escapes e c) (take k (drop m (b ∷ bs))) → Behind e (take (m + k) (b ∷ bs))
-  plain_behind e true w n is v g =
-      let done : IsToBracket (take k (drop m (b ∷ bs))) =
-      subst (λ (z : Bool). Behind (not z && eqb c 92) (take k (drop m (b ∷ bs)))) v g in
-      subst (λ (z : Bool). Behind z (take (m + k) (b ∷ bs))) (sym v) (
-        c,
-        take k (drop m (b ∷ bs)),
-        char_code (b ∷ bs) c m h,
-        done,
-        front,
-      )
-  plain_behind e false true n is v g =
-      let there : Behind true (take k (drop m (b ∷ bs))) =
-      subst (λ (z : Bool). Behind z (take k (drop m (b ∷ bs)))) is
-      (subst (λ (z : Bool). Behind (not z && eqb c 92) (take k (drop m (b ∷ bs)))) v g) in
-      let slash : encode_utf8 c ≡ 92 ∷ [] = let s = eqb-true c 92 is in
-      ap encode_utf8 s ∙ encode_ascii 92 (omega arith) in
-      subst (λ (z : Bool). Behind z (take (m + k) (b ∷ bs))) (sym v)
-      (escaped there.0 there.1 there.2 there.3
-      (front ∙ ap (λ (q : List ℕ). q ++ take k (drop m (b ∷ bs))) slash
-      ∙ ap (λ (q : List ℕ). 92 ∷ q) there.4))
-  plain_behind e false false n is v g =
-      let done : IsToBracket (take k (drop m (b ∷ bs))) =
-      subst (λ (z : Bool). Behind z (take k (drop m (b ∷ bs)))) is
-      (subst (λ (z : Bool). Behind (not z && eqb c 92) (take k (drop m (b ∷ bs)))) v g) in
-      let open_c : eqb c 93 ≡ false = subst (λ (z : Bool). (not z && eqb c 93) ≡ false) v n in
-      subst (λ (z : Bool). Behind z (take (m + k) (b ∷ bs))) (sym v)
-      (bare c (take k (drop m (b ∷ bs))) (char_code (b ∷ bs) c m h) (no_escape c is)
-      (no_close c open_c) done front)
-
-close_behind : (e : Bool) (b : ℕ) (bs : List ℕ) (c m : ℕ) → char_at (b ∷ bs) ≡ Char c m →
-    closes e c ≡ true → Behind e (take m (b ∷ bs))
-close_behind true b bs c m h t = absurd (cc)
-close_behind false b bs c m h t =
-    let is : c ≡ 93 = eqb-true c 93 t in
-    closed (sym (char_bytes (b ∷ bs) c m h) ∙ ap encode_utf8 is ∙ encode_ascii 93 (omega arith))
-
-abbrev pub ClosedAt : Bool → List ℕ → ℕ → Type 0
-ClosedAt e bs n = Behind e (take n bs) × (n ≤ length bs)
-
-pub closed_at : (e : Bool) (skip : ℕ) (bs : List ℕ) (n : ℕ) → closing e skip bs ≡ Closed n →
-    ClosedAt e (drop skip bs) n
-unfolding closing
-closed_at e skip [] n h = absurd (cc)
-closed_at e (suc skip) (b ∷ bs) n h = closed_at e skip bs n h
-closed_at e zero (b ∷ bs) n h = by (char_at (b ∷ bs)) refl (λ f k m g. closed_at f k bs m g) h
-  where
-    later : (c m : ℕ) → char_at (b ∷ bs) ≡ Char c m → closes e c ≡ false →
-        ((f : Bool) (k j : ℕ) → closing f k bs ≡ Closed j → ClosedAt f (drop k bs) j) →
-        (r : Close) → closing (escapes e c) (pred m) bs ≡ r → longer m r ≡ Closed n →
-        ClosedAt e (b ∷ bs) n
-    later c m k t go Within is h = absurd (cc)
-    later c m k t go Bad is h = absurd (cc)
-    later c m k t go (Closed j) is h =
-        let size : m + j ≡ n = cc in
-        let s = char_size (b ∷ bs) c m k in
-        let g = go (escapes e c) (pred m) j is in
-        let same : drop (pred m) bs ≡ drop m (b ∷ bs) = sym (drop_pred m b bs s.0) in
-        let there : Behind (escapes e c) (take j (drop m (b ∷ bs))) =
-        subst (λ (q : List ℕ). Behind (escapes e c) (take j q)) same g.0 in
-        let far : length (drop m (b ∷ bs)) ≡ length (b ∷ bs) - m = length-drop m (b ∷ bs) in
-        let near : length (drop (pred m) bs) ≡ length (drop m (b ∷ bs)) = ap length same in (
-          subst (λ q. Behind e (take q (b ∷ bs))) size
-              (plain_behind b bs c m j k e e (eqb c 92) t refl refl there),
-          omega (arith, size, g.1, far, near, s.1),
-        )
-
-    test : (c m : ℕ) → char_at (b ∷ bs) ≡ Char c m →
-        ((f : Bool) (k j : ℕ) → closing f k bs ≡ Closed j → ClosedAt f (drop k bs) j) → (v : Bool) →
-        closes e c ≡ v → cond v (Closed m) (longer m (closing (escapes e c) (pred m) bs)) ≡ Closed n
-        → ClosedAt e (b ∷ bs) n
-    test c m k go true t h =
-        let size : m ≡ n = cc in (
-          subst (λ q. Behind e (take q (b ∷ bs))) size (close_behind e b bs c m k t),
-          omega (arith, size, (char_size (b ∷ bs) c m k).1),
-        )
-    test c m k go false t h = later c m k t go (closing (escapes e c) (pred m) bs) refl h
-
-    by : (f : Front) → char_at (b ∷ bs) ≡ f →
-        ((f : Bool) (k j : ℕ) → closing f k bs ≡ Closed j → ClosedAt f (drop k bs) j) →
-        closing_by e f (λ v skip. closing v skip bs) ≡ Closed n → ClosedAt e (b ∷ bs) n
-    by Part k go h = absurd (cc)
-    by NotChar k go h = absurd (cc)
-    by (Char c m) k go h = test c m k go (closes e c) refl h
 
 -- a blank that is read: a row of white space and superblanks, in every dialect
 
 abbrev pub BlankRow : List ℕ → Type 0
 BlankRow bytes = (dialect : Dialect) → HasSuperblanks dialect bytes (blank_supers 0 bytes)
 
-none_row : BlankRow []
+blanks_row : (bytes : List ℕ) → AreBlanks bytes → BlankRow bytes
 unfolding blank_supers
-none_row dialect = nothing refl refl
-
-white_row : (b : ℕ) (bs : List ℕ) → is_white b ≡ true → BlankRow bs → BlankRow (b ∷ bs)
-white_row b bs w h dialect =
-    piece (b ∷ []) bs [] (blank_supers 0 bs) (white b refl w refl) (h dialect) refl
-    (supers_other b bs (white_other b w))
-
-super_row : (inner bs : List ℕ) → IsToBracket inner → BlankRow bs → BlankRow (91 ∷ (inner ++ bs))
-super_row inner bs t h dialect =
-    let own : IsSuperblank (91 ∷ inner) = record { rest = inner; begins = refl; goes_on = t } in
-    let all : blank_supers 0 (91 ∷ (inner ++ bs)) ≡ (91 ∷ inner) ∷ blank_supers 0 bs =
-    supers_closed (inner ++ bs) (length inner) (to_bracket inner t bs)
-    ∙ rw (take-append_seam inner bs, drop-append_seam inner bs) refl in
-    piece (91 ∷ inner) bs ((91 ∷ inner) ∷ []) (blank_supers 0 bs) (superblank own refl)
-    (h dialect) refl all
+blanks_row bytes (none e) dialect =
+    subst (λ (q : List ℕ). HasSuperblanks dialect q (blank_supers 0 q)) (sym e) (nothing refl refl)
+blanks_row bytes (space b rest w h e) dialect =
+    subst (λ (q : List ℕ). HasSuperblanks dialect q (blank_supers 0 q)) (sym e)
+    (piece (b ∷ []) rest [] (blank_supers 0 rest) (white b refl w refl)
+    (blanks_row rest h dialect) refl (supers_other b rest (white_other b w)))
+blanks_row bytes (bracketed front rest s h e) dialect =
+    let inner : List ℕ = s.rest in
+    let all : blank_supers 0 (91 ∷ (s.rest ++ rest)) ≡ (91 ∷ s.rest) ∷ blank_supers 0 rest =
+    supers_closed (s.rest ++ rest) (length s.rest) (to_bracket s.rest s.goes_on rest)
+    ∙ rw (take-append_seam s.rest rest, drop-append_seam s.rest rest) refl in
+    let whole : front ++ rest ≡ 91 ∷ (s.rest ++ rest) =
+    ap (λ (q : List ℕ). q ++ rest) s.begins in
+    let own : blank_supers 0 (front ++ rest) ≡ (front ∷ []) ++ blank_supers 0 rest =
+    ap (blank_supers 0) whole ∙ all
+    ∙ ap (λ (q : List ℕ). q ∷ blank_supers 0 rest) (sym s.begins) in
+    subst (λ (q : List ℕ). HasSuperblanks dialect q (blank_supers 0 q)) (sym e)
+    (piece front rest (front ∷ []) (blank_supers 0 rest) (superblank s refl)
+    (blanks_row rest h dialect) refl own)
 
 abbrev pub RunRow : List ℕ → Run → Type 0
 RunRow bs Open = BlankRow bs
@@ -177,58 +76,14 @@ RunRow bs Inside = Unit {0}
 RunRow bs BadChar = Unit {0}
 RunRow bs (Done n) = BlankRow (take n bs) × (n ≤ length bs)
 
-white_run : (b : ℕ) (bs : List ℕ) (r : Run) → is_white b ≡ true → RunRow bs r →
-    RunRow (b ∷ bs) (further 1 r)
-white_run b bs Open w h = white_row b bs w h
-white_run b bs Inside w h = tt
-white_run b bs BadChar w h = tt
-white_run b bs (Done n) w h = let size : 1 + n ≡ suc n = omega arith in (
-  subst (λ q. BlankRow (take q (b ∷ bs))) (sym size) (white_row b (take n bs) w h.0),
-  omega (arith, h.1),
-)
-
-super_run : (bs : List ℕ) (n : ℕ) (r : Run) → closing false 0 bs ≡ Closed n → RunRow (drop n bs) r →
-    RunRow (91 ∷ bs) (further 1 (further n r))
-super_run bs n Open e h = let c = closed_at false 0 bs n e in
-    subst (λ (q : List ℕ). BlankRow (91 ∷ q)) (take-append-drop n bs)
-    (super_row (take n bs) (drop n bs) c.0 h)
-super_run bs n Inside e h = tt
-super_run bs n BadChar e h = tt
-super_run bs n (Done m) e h =
-    let c = closed_at false 0 bs n e in
-    let size : suc (n + m) ≡ 1 + (n + m) = omega arith in
-    let l = length-drop n bs in (
-      subst (λ q. BlankRow (take q (91 ∷ bs))) size
-          (subst (λ (q : List ℕ). BlankRow (91 ∷ q)) (sym (take-add n m bs))
-          (super_row (take n bs) (take m (drop n bs)) c.0 h.0)),
-      omega (arith, l, c.1, h.1),
-    )
-
-run_cond : (bs : List ℕ) (v : Bool) (r s : Run) → (v ≡ true → RunRow bs r) →
-    (v ≡ false → RunRow bs s) → RunRow bs (cond v r s)
-run_cond bs true r s h k = h refl
-run_cond bs false r s h k = k refl
+as_row : (bs : List ℕ) (r : Run) → RunText bs r → RunRow bs r
+as_row bs Open h = blanks_row bs h
+as_row bs Inside h = tt
+as_row bs BadChar h = tt
+as_row bs (Done n) h = (blanks_row (take n bs) h.0, h.1)
 
 pub run_row : (skip : ℕ) (bs : List ℕ) → RunRow (drop skip bs) (blank skip bs)
-unfolding blank
-run_row zero [] = none_row
-run_row (suc skip) [] = none_row
-run_row (suc skip) (b ∷ bs) = run_row skip bs
-run_row zero (b ∷ bs) = run_cond (b ∷ bs) (is_white b) (further 1 (blank 0 bs)) _
-    (λ w. white_run b bs (blank 0 bs) w (run_row 0 bs))
-    (λ _. run_cond (b ∷ bs) (eqb b 91)
-    (further 1 (behind_close (closing false 0 bs) (λ n. blank n bs))) (Done 0)
-    (λ e. bracket (eqb-true b 91 e) (closing false 0 bs) refl (λ n. run_row n bs))
-    (λ _. (none_row, omega arith)))
-  where
-    bracket : b ≡ 91 → (c : Close) → closing false 0 bs ≡ c →
-        ((n : ℕ) → RunRow (drop n bs) (blank n bs)) →
-        RunRow (b ∷ bs) (further 1 (behind_close c (λ n. blank n bs)))
-    bracket is Within e go = tt
-    bracket is Bad e go = tt
-    bracket is (Closed n) e go =
-        subst (λ q. RunRow (q ∷ bs) (further 1 (further n (blank n bs)))) (sym is)
-        (super_run bs n (blank n bs) e (go n))
+run_row skip bs = as_row (drop skip bs) (blank skip bs) (run_text skip bs)
 
 -- a chunk that is read, and its bytes, in the dialect that has them
 abbrev pub ChunkRow : Dialect → Chunk → List ℕ → Type 0
@@ -249,7 +104,7 @@ IsRow dialect (item.Blank blank) bytes = (blank ≡ bytes) × BlankRow bytes
 IsRow dialect (item.Unit words) bytes = IsUnit dialect bytes × AreWords dialect words
 IsRow dialect (item.Chunk c) bytes = ChunkRow dialect c bytes
 
-abbrev FirstRow : Dialect → List ℕ → First → Type 0
+abbrev pub FirstRow : Dialect → List ℕ → First → Type 0
 FirstRow dialect bs Needs = Unit {0}
 FirstRow dialect bs (Whole thing n) = IsRow dialect thing (take n bs) × (0 < n) × (n ≤ length bs)
 FirstRow dialect bs (Faulty kind) = Unit {0}
@@ -314,10 +169,8 @@ row_unit : (dialect : Dialect) (bs : List ℕ) (words : List (List Symbol)) (n :
     first dialect bs ≡ Whole (item.Unit words) n → FirstRow dialect bs (Whole (item.Unit words) n)
 row_unit dialect bs words n e =
     let c = unit_cut dialect bs words n e in
-    let alone : first dialect (take n bs) ≡ Whole (item.Unit words) (length (take n bs)) =
-    ap (first dialect) (sym (append-nil (take n bs)))
-    ∙ unit_always dialect (take n bs) words c.0 [] in
-    ((record { words = words; read = alone }, unit_words dialect bs words n e), c.1, c.2)
+    let text : IsUnitText dialect words (take n bs) = unit_text dialect (take n bs) words c.0 in
+    ((record { words = words; text = text }, unit_words dialect bs words n e), c.1, c.2)
 
 chunk_row : (dialect : Dialect) (bs : List ℕ) (c : Chunk) (n : ℕ) → has_chunks dialect ≡ true →
     first dialect bs ≡ Whole (item.Chunk c) n → FirstRow dialect bs (Whole (item.Chunk c) n)
@@ -364,7 +217,7 @@ unit_row dialect b bs u v w =
     with_body c (Wrong kind) e = tt
     with_body c (Ends words n) e = closed_row c words n e (body n bs) refl
 
-first_row : (dialect : Dialect) (bs : List ℕ) → FirstRow dialect bs (first dialect bs)
+pub first_row : (dialect : Dialect) (bs : List ℕ) → FirstRow dialect bs (first dialect bs)
 unfolding first
 first_row dialect [] = tt
 first_row dialect (b ∷ bs) =
@@ -483,8 +336,11 @@ chunk_has Analysed c bytes h = absurd h
 chunk_has Lexical c bytes h = absurd h
 chunk_has Bilingual c bytes h = absurd h
 chunk_has Chunked c bytes h =
+    let all : take (length bytes) bytes ≡ bytes = take_all (length bytes) bytes (omega arith) in
+    let text : IsChunkText c bytes =
+    subst (IsChunkText c) all (chunk_cut bytes c (length bytes) h.0).text in
     one_piece Chunked bytes (item_supers (item.Chunk c))
-    (chunk (record { chunks = refl; chunk = c; read = h.0 }) refl)
+    (chunk (record { chunks = refl; chunk = c; text = text }) refl)
 chunk_has Generated c bytes h = absurd h
 
 -- the superblanks of an item

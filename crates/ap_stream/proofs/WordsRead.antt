@@ -5,6 +5,7 @@ use Rattle.std.proofs.Common.{arith, ap, sym, subst, ◌∙◌, inl, inr}
 use Rattle.std.proofs.lemmas.Bool.{and_parts, cases_eq, cases_lt}
 use Rattle.std.proofs.lemmas.Bool.Decides.{nat_tests}
 use Rattle.std.proofs.Math.Seq.{take-add}
+use Rattle.std.proofs.lemmas.List.{drop-drop}
 use Rattle.ap_symbol.specs.declared.symbol.Symbol.{Symbol}
 use Rattle.ap_symbol.specs.declared.symbol.Symbol.TheVariants as symbol
 use Rattle.ap_symbol.specs.Words.{is_white}
@@ -163,19 +164,21 @@ spelt_bare c code =
     (λ _. pick (IsSpelt false) (eqb c 64) symbol.At (symbol.Letter c) (λ _. refl)
     (λ _. (code, w)))))))
 
--- a name is the bytes of characters
-pub record IsNamed (bs : List ℕ) (n : ℕ) : Type 0 where
+-- a name is the bytes of characters, behind which this one stands
+pub record IsNamed (bs : List ℕ) (n c : ℕ) : Type 0 where
   pub characters : List ℕ
   pub is : take n bs ≡ encode_utf8_all characters
   pub named : AreNamed characters
   pub some : 0 < n → 0 < length characters
+  pub size : ℕ
+  pub ends : char_at (drop n bs) ≡ Char c size
 
-abbrev NameIs : List ℕ → Name → Type 0
+abbrev pub NameIs : List ℕ → Name → Type 0
 NameIs bs Runs = Unit {0}
 NameIs bs Breaks = Unit {0}
-NameIs bs (Stops n c) = IsNamed bs n
+NameIs bs (Stops n c) = IsNamed bs n c
 
-named_by : (skip : ℕ) (bs : List ℕ) → NameIs (drop skip bs) (name skip bs)
+pub named_by : (skip : ℕ) (bs : List ℕ) → NameIs (drop skip bs) (name skip bs)
 unfolding name
 named_by skip [] = tt
 named_by (suc skip) (b ∷ bs) = named_by skip bs
@@ -198,6 +201,8 @@ named_by zero (b ∷ bs) = at (char_at (b ∷ bs)) refl (λ k. named_by k bs)
               ∙ ap (λ q. encode_utf8 c ++ take m q) on ∙ ap (λ q. encode_utf8 c ++ q) h.is;
           named = (code, free, h.named);
           some = λ _. omega arith;
+          size = h.size;
+          ends = ap char_at (sym (drop-drop m n (b ∷ bs)) ∙ ap (drop m) on) ∙ h.ends;
         }
       where
         next : (n : ℕ) → 0 < n → drop n (b ∷ bs) ≡ drop (pred n) bs
@@ -213,6 +218,8 @@ named_by zero (b ∷ bs) = at (char_at (b ∷ bs)) refl (λ k. named_by k bs)
       named = tt;
       some =
           λ s. absurd (omega (arith, s));
+      size = n;
+      ends = e;
     }
     test c n e false v r h = more c n e v r h
 

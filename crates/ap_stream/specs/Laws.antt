@@ -1,5 +1,5 @@
 -- What the laws of reading say.
-use Rattle.std.specs.Prelude.{◌≡◌, ℕ, ◌<◌, Bool, true, false, List, [], ◌∷◌, ◌++◌, length}
+use Rattle.std.specs.Prelude.{◌≡◌, ℕ, ◌<◌, Bool, true, false, List, [], ◌∷◌, ◌++◌, length, take}
 use Rattle.ap_symbol.specs.declared.symbol.Symbol.{Symbol}
 use Rattle.ap_symbol.specs.declared.symbol.Symbol.TheVariants as symbol
 use Rattle.ap_symbol.specs.Words.{is_white, AreProper}
@@ -14,6 +14,8 @@ use Rattle.ap_stream.specs.Blanks.{Open, blank}
 use Rattle.ap_stream.specs.Dialects.{has_words}
 use Rattle.ap_stream.specs.Units.{form_of}
 use Rattle.ap_stream.specs.Reading.{Whole, first}
+use Rattle.ap_stream.specs.Notation.{IsUnitText, IsChunkText}
+pub use Rattle.ap_stream.specs.Notation.{NoBlankFirst}
 use Rattle.ap_stream.specs.Spelling.{unit_bytes, chunk_bytes}
 
 -- a symbol that bytes of a surface, or of another word, spell
@@ -52,11 +54,6 @@ AreWords dialect (word ∷ words) = (has_words dialect ≡ true) × (0 < length 
 abbrev pub IsBlank : List ℕ → Type 0
 IsBlank bytes = (0 < length bytes) × (blank 0 bytes ≡ Open)
 
-abbrev pub NoBlankFirst : List Inner → Type 0
-NoBlankFirst [] = Unit {0}
-NoBlankFirst (inner.Unit words ∷ parts) = Unit {0}
-NoBlankFirst (inner.Blank bytes ∷ parts) = ⊥
-
 -- the parts of a chunk's content: units of one word and blanks, no two blanks side by side
 abbrev pub AreParts : List Inner → Type 0
 AreParts [] = Unit {0}
@@ -89,3 +86,34 @@ ChunksAreWritten = (text : List ℕ) (chunk : Chunk) (n : ℕ) →
 -- every word of the program can be written in a unit, and as a chunk's name
 abbrev pub WordsAreSpelt : Type 0
 WordsAreSpelt = (word : List Symbol) → AreProper word → AreCoded word → AreSpelt false word
+
+-- the bytes of a unit are read as its words, whatever follows
+abbrev pub UnitsAreRead : Type 0
+UnitsAreRead = (dialect : Dialect) (words : List (List Symbol)) (bytes x : List ℕ) →
+    IsUnitText dialect words bytes →
+    first dialect (bytes ++ x) ≡ Whole (item.Unit words) (length bytes)
+
+-- what is read as a unit are the bytes of one, with these words
+abbrev pub ReadAreUnits : Type 0
+ReadAreUnits = (dialect : Dialect) (text : List ℕ) (words : List (List Symbol)) (n : ℕ) →
+    first dialect text ≡ Whole (item.Unit words) n → IsUnitText dialect words (take n text)
+
+-- bytes are those of one unit, or of none
+abbrev pub AreOneUnit : Type 0
+AreOneUnit = (dialect : Dialect) (bytes : List ℕ) (one other : List (List Symbol)) →
+    IsUnitText dialect one bytes → IsUnitText dialect other bytes → one ≡ other
+
+-- the bytes of a chunk are read as it, whatever follows
+abbrev pub ChunksAreRead : Type 0
+ChunksAreRead = (chunk : Chunk) (bytes x : List ℕ) → IsChunkText chunk bytes →
+    first Chunked (bytes ++ x) ≡ Whole (item.Chunk chunk) (length bytes)
+
+-- what is read as a chunk are the bytes of it
+abbrev pub ReadAreChunks : Type 0
+ReadAreChunks = (text : List ℕ) (chunk : Chunk) (n : ℕ) →
+    first Chunked text ≡ Whole (item.Chunk chunk) n → IsChunkText chunk (take n text)
+
+-- bytes are those of one chunk, or of none
+abbrev pub AreOneChunk : Type 0
+AreOneChunk = (bytes : List ℕ) (one other : Chunk) → IsChunkText one bytes →
+    IsChunkText other bytes → one ≡ other

@@ -32,6 +32,7 @@ pub mod Crossing
 pub mod Copying
 pub mod KeptUnits
 pub mod Each
+pub mod Notation
 pub mod Laws
 pub mod Pieces
 pub mod ReadOn

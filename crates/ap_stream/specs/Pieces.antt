@@ -1,61 +1,31 @@
 -- The superblanks of a text, by its pieces: a text is a row of plain characters, white space, whole
 -- superblanks, whole units and whole chunks, each of any size.
-use Rattle.std.specs.Prelude.{◌≡◌, ◌≢◌, ℕ, Bool, true, false, not, ◌||◌, eqb, List, [], ◌∷◌, ◌++◌, length, None, encode_utf8}
+use Rattle.std.specs.Prelude.{◌≡◌, ℕ, true, List, [], ◌∷◌, ◌++◌, None}
 use Rattle.std.specs.List.{flat_map}
-use Rattle.ap_symbol.specs.Coded.{IsCode}
 use Rattle.ap_symbol.specs.declared.symbol.Symbol.{Symbol}
-use Rattle.ap_stream.specs.Blanks.{is_white, begins_blank}
-use Rattle.ap_stream.specs.Dialects.{is_refused, has_chunks}
+use Rattle.ap_stream.specs.Blanks.{is_white}
+use Rattle.ap_stream.specs.Dialects.{has_chunks}
 use Rattle.ap_stream.specs.Each.{each}
 use Rattle.ap_stream.specs.Laws.{AreWords}
-use Rattle.ap_stream.specs.Reading.{Whole, first, reads, begins_unit}
-use Rattle.ap_stream.specs.Spelling.{character_bytes}
+use Rattle.ap_stream.specs.Notation.{IsUnitText, IsChunkText}
+use Rattle.ap_stream.specs.Reading.{reads}
 use Rattle.ap_stream.specs.Supers.{inner_supers, item_supers, supers}
 use Rattle.ap_stream.specs.declared.dialect.Dialect.{Dialect}
 use Rattle.ap_stream.specs.declared.dialect.Dialect.TheVariants.{Raw, Analysed, Lexical, Bilingual, Chunked, Generated}
-use Rattle.ap_stream.specs.declared.item.Character.{Character}
 use Rattle.ap_stream.specs.declared.item.Chunk.{Chunk}
-use Rattle.ap_stream.specs.declared.item.Item.TheVariants as item
 use Rattle.ap_stream.specs.declared.item.Read.{Read}
+pub use Rattle.ap_stream.specs.Notation.{is_bare, IsPlain, IsToBracket, closed, bare, escaped, IsSuperblank}
 
--- what stands behind the bracket of a superblank: characters other than a bare backslash and ], and
--- each backslash with any one character, up to a bare ]
-pub data IsToBracket : List ℕ → Type 0 where
-  closed : {bytes : List ℕ} → bytes ≡ 93 ∷ [] → IsToBracket bytes
-  bare : {bytes : List ℕ} (c : ℕ) (rest : List ℕ) → IsCode c → c ≢ 92 → c ≢ 93 → IsToBracket rest
-      → bytes ≡ encode_utf8 c ++ rest → IsToBracket bytes
-  escaped : {bytes : List ℕ} (c : ℕ) (rest : List ℕ) → IsCode c → IsToBracket rest
-      → bytes ≡ 92 ∷ (encode_utf8 c ++ rest) → IsToBracket bytes
-
--- a whole superblank
-pub record IsSuperblank (bytes : List ℕ) : Type 0 where
-  pub rest : List ℕ
-  pub begins : bytes ≡ 91 ∷ rest
-  pub goes_on : IsToBracket rest
-
--- the characters that stand bare outside units and blanks: all but white space, [, a backslash, the
--- ^ where units begin, and those that the dialect refuses
-abbrev pub is_bare : Dialect → ℕ → Bool
-is_bare dialect c = not (begins_blank c
-    || (eqb c 92 || (begins_unit dialect c || is_refused dialect c)))
-
--- a plain character: a backslash and any one character, or one that may stand bare
-pub record IsPlain (dialect : Dialect) (bytes : List ℕ) : Type 0 where
-  pub character : Character
-  pub code : IsCode character.letter
-  pub allowed : character.escaped ≡ false → is_bare dialect character.letter ≡ true
-  pub spelled : bytes ≡ character_bytes character
-
--- a whole unit: these bytes alone are read as one
+-- a whole unit of the dialect
 pub record IsUnit (dialect : Dialect) (bytes : List ℕ) : Type 0 where
   pub words : List (List Symbol)
-  pub read : first dialect bytes ≡ Whole (item.Unit words) (length bytes)
+  pub text : IsUnitText dialect words bytes
 
--- a whole chunk, in the dialect that has them: these bytes alone are read as one
+-- a whole chunk, in the dialect that has them
 pub record IsChunk (dialect : Dialect) (bytes : List ℕ) : Type 0 where
   pub chunks : has_chunks dialect ≡ true
   pub chunk : Chunk
-  pub read : first dialect bytes ≡ Whole (item.Chunk chunk) (length bytes)
+  pub text : IsChunkText chunk bytes
 
 -- a piece of a text, and its superblanks: itself, where it is one, and of a chunk those of the
 -- blanks in its content

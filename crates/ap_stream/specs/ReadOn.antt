@@ -1,14 +1,15 @@
 -- Texts that a dialect reads to their end, or to an item over the limit: a stage that reads what
 -- another stage wrote finds nothing else there.
-use Rattle.std.specs.Prelude.{◌≡◌, ◌≢◌, ◌⊎◌, ℕ, List, Option, Some, None}
+use Rattle.std.specs.Prelude.{◌≡◌, ◌≢◌, ◌⊎◌, ℕ, List, ◌∷◌, ◌++◌, length, Option, Some, None}
 use Rattle.ap_symbol.specs.declared.symbol.Symbol.{Symbol}
 use Rattle.ap_stream.specs.Each.{each}
 use Rattle.ap_stream.specs.Pieces.{HasSuperblanks, StayBare, MakesNone}
-use Rattle.ap_stream.specs.Reading.{reads}
+use Rattle.ap_stream.specs.Reading.{reads, counted}
 use Rattle.ap_stream.specs.Told.{Told, Ending, Clean}
 use Rattle.ap_stream.specs.declared.dialect.Dialect.{Dialect}
 use Rattle.ap_stream.specs.declared.fault.LimitKind.TheVariants.{ItemTooLong}
 use Rattle.ap_stream.specs.declared.fault.MalformedKind.{MalformedKind}
+use Rattle.ap_stream.specs.declared.fault.MalformedKind.TheVariants.{Unfinished}
 use Rattle.ap_stream.specs.declared.fault.StreamFault.{StreamFault}
 use Rattle.ap_stream.specs.declared.fault.StreamFault.TheVariants.{Malformed, Limit}
 
@@ -44,6 +45,30 @@ pub record ArePieces (dialect : Dialect) (text : List ℕ) : Type 0 where
   pub superblanks : List (List ℕ)
   pub has : HasSuperblanks dialect text superblanks
 
+-- some text of the dialect begins with these bytes
+pub record BeginsText (dialect : Dialect) (bytes : List ℕ) : Type 0 where
+  pub more : List ℕ
+  pub pieces : ArePieces dialect (bytes ++ more)
+
+-- Behind pieces, which end at the place, stand bytes that begin a text of the dialect with them,
+-- and then the first wrong byte: with it too no text of the dialect begins.
+pub record IsFirstWrong (dialect : Dialect) (text : List ℕ) (place : ℕ) : Type 0 where
+  pub front : List ℕ
+  pub begun : List ℕ
+  pub byte : ℕ
+  pub rest : List ℕ
+  pub text_is : text ≡ front ++ (begun ++ byte ∷ rest)
+  pub place_is : place ≡ counted (length front)
+  pub whole : ArePieces dialect front
+  pub begins : BeginsText dialect (front ++ begun)
+  pub wrong : (more : List ℕ) → ArePieces dialect (front ++ (begun ++ byte ∷ more)) → ⊥
+
+-- the text is no text of the dialect, and begins one
+pub record IsUnfinished (dialect : Dialect) (text : List ℕ) (kind : MalformedKind) : Type 0 where
+  pub kind_is : kind ≡ Unfinished
+  pub lacks : ArePieces dialect text → ⊥
+  pub begins : BeginsText dialect text
+
 -- the laws
 
 -- a row of pieces is read on
@@ -58,3 +83,10 @@ EachIsPieces = (from to : Dialect) (given : List (List Symbol) → List ℕ) (pl
     (text : List ℕ)
     → StayBare from to → MakesNone from to given →
     ArePieces to (each given (reads from place text).items).text
+
+-- Where reading answers that a text is malformed, it has a first wrong byte, in the item at that
+-- place; or it is unfinished.
+abbrev pub MalformedAreWrong : Type 0
+MalformedAreWrong = (dialect : Dialect) (text : List ℕ) (kind : MalformedKind) (place : ℕ) →
+    (reads dialect 0 text).stop ≡ Some (Malformed kind place) →
+    IsFirstWrong dialect text place ⊎ IsUnfinished dialect text kind

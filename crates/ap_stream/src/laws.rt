@@ -1,11 +1,29 @@
 ghost use Rattle.ap_stream.specs.Limits.{LimitsAre};
-ghost use Rattle.ap_stream.specs.Laws.{ReadsBack, ReadsWords, ChunksReadBack, ChunksAreWritten, WordsAreSpelt};
+ghost use Rattle.ap_stream.specs.Laws.{ReadsBack, ReadsWords, ChunksReadBack, ChunksAreWritten, WordsAreSpelt, UnitsAreRead, ReadAreUnits, AreOneUnit, ChunksAreRead, ReadAreChunks, AreOneChunk};
 ghost use Rattle.ap_stream.specs.Pieces.{TextsJoin, OneList, ReadTextsHave, EachKeeps, KeptTwice, ScanFinds};
-ghost use Rattle.ap_stream.specs.ReadOn.{PiecesAreRead, EachIsPieces};
+ghost use Rattle.ap_stream.specs.ReadOn.{PiecesAreRead, EachIsPieces, MalformedAreWrong};
 
 /// The numbers of the limits. It is a statement alone and does nothing.
 pub fn limits()
     ensures { LimitsAre }
+{}
+
+/// The law of units. The bytes of a unit, by the notation, are read as its words, whatever follows;
+/// what is read as a unit are such bytes; and they have one list of words. It is a statement alone
+/// and does nothing.
+pub fn units_are_by_the_notation()
+    ensures read { UnitsAreRead }
+    ensures written { ReadAreUnits }
+    ensures one { AreOneUnit }
+{}
+
+/// The law of chunks. The bytes of a chunk, by the notation, are read as it, whatever follows; what
+/// is read as a chunk are such bytes; and they are those of one chunk. It is a statement alone and
+/// does nothing.
+pub fn chunks_are_by_the_notation()
+    ensures read { ChunksAreRead }
+    ensures written { ReadAreChunks }
+    ensures one { AreOneChunk }
 {}
 
 /// The law that what is written of a unit is read back. It is a statement alone and does nothing.
@@ -84,4 +102,12 @@ pub fn pieces_are_read()
 /// and does nothing.
 pub fn each_gives_pieces()
     ensures { EachIsPieces }
+{}
+
+/// The law of malformed texts. Where reading answers a malformed text, behind pieces that end at
+/// that place stand bytes with which some text of the dialect begins, and then the first wrong
+/// byte, with which none does; or the text is unfinished: it is none of the dialect, and some begin
+/// with it. It is a statement alone and does nothing.
+pub fn malformed_texts_are_wrong()
+    ensures { MalformedAreWrong }
 {}

@@ -47,6 +47,8 @@
 //! - A text in pieces of any size is read as exactly the items of the whole text, with its faults
 //!   and their places (`Reader`); and a stage gives its handler's meaning of the whole text for
 //!   every cut, within bounds (`Staged`).
+//! - What is read as a unit or a chunk are the bytes of one, by the notation, and such bytes are
+//!   read as it (`units_are_by_the_notation`, `chunks_are_by_the_notation`).
 //! - What is written of a unit or a chunk is read back, and what is read of one can be written
 //!   (`units_read_back`, `units_are_words`, `chunks_read_back`, `chunks_can_be_written`,
 //!   `words_are_spelt`).
@@ -54,16 +56,21 @@
 //!   `superblanks_of_texts_joined`, `read_texts_have_superblanks`, `superblanks_are_scanned`).
 //! - A tool that takes each item by itself and makes no superblank of a unit keeps those of the
 //!   text, and two such tools do (`each_item_keeps_superblanks`, `superblanks_are_kept_twice`).
+//! - A text that is answered malformed has a first wrong byte, with which no text of the dialect
+//!   goes on, or is unfinished (`malformed_texts_are_wrong`).
 //! - A text of whole pieces is read to its end, or to an item over the limit, and such a tool
 //!   writes one (`pieces_are_read`, `each_gives_pieces`). The limits are these numbers (`limits`).
 //!
 //! # Definitions to read first
 //!
-//! - `specs/Reading.antt`: `reads`, `first`, `last`: the items of a text, and what stops it.
-//! - `specs/Units.antt`: `form_of`, and `specs/Chunks.antt`: `body`: the words of a unit, and the
-//!   content of a chunk.
+//! - `specs/Notation.antt`: `IsPlain`, `IsSuperblank`, `IsBlankText`, `IsUnitText`, `IsChunkText`:
+//!   what a character, a superblank, a blank, a unit of each dialect and a chunk are, over the whole
+//!   of their bytes.
 //! - `specs/Pieces.antt`: `IsPiece`, `HasSuperblanks`: a text as a row of pieces, and its
 //!   superblanks.
+//! - `specs/Reading.antt`: `reads`, `first`, `last`: the items of a text, and what stops it, byte by
+//!   byte as the code goes; `specs/Units.antt`: `rest`, and `specs/Chunks.antt`: `body`: the same
+//!   of units and chunks.
 //! - `specs/Told.antt`: `Told`, and `specs/Rest.antt`: `rest_of`: what is still to come of a stage.
 //! - `specs/ReadOn.antt`: `IsReadOn`, `Links`: a stage whose text the next one reads.
 #![tactic(auto)]
@@ -106,9 +113,10 @@ pub use front::{ByFront, Front, is_bare};
 pub use handler::{ByRun, Handler, Turn};
 pub use item::{Character, Chunk, Content, Inner, Item, Read};
 pub use laws::{
-    chunks_can_be_written, chunks_read_back, each_gives_pieces, each_item_keeps_superblanks,
-    limits, one_list_of_superblanks, pieces_are_read, read_texts_have_superblanks,
-    superblanks_are_kept_twice, superblanks_are_scanned, superblanks_of_texts_joined,
+    chunks_are_by_the_notation, chunks_can_be_written, chunks_read_back, each_gives_pieces,
+    each_item_keeps_superblanks, limits, malformed_texts_are_wrong, one_list_of_superblanks,
+    pieces_are_read, read_texts_have_superblanks, superblanks_are_kept_twice,
+    superblanks_are_scanned, superblanks_of_texts_joined, units_are_by_the_notation,
     units_are_words, units_read_back, words_are_spelt,
 };
 pub use names::Names;
