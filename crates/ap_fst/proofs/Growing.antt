@@ -111,7 +111,7 @@ reaching_begun arcs starts before set none g = record {
   closed = λ k s at lt a i f. absurd (omega arith);
 }
 
-longer_old : (old more : List ℕ) (k x : ℕ) → k < length old → slice_get (old ++ more) k ≡ Some x →
+pub longer_old : (old more : List ℕ) (k x : ℕ) → k < length old → slice_get (old ++ more) k ≡ Some x →
     slice_get old k ≡ Some x
 longer_old [] more k x lt h = absurd (omega arith)
 longer_old (y ∷ old) more zero x lt h = h
@@ -152,7 +152,7 @@ reaching_on arcs starts set new at s here g r =
           ];
     }
 
-few_left : (set : List ℕ) (at k x : ℕ) → None ≡ slice_get set at → slice_get set k ≡ Some x → k < at
+pub few_left : (set : List ℕ) (at k x : ℕ) → None ≡ slice_get set at → slice_get set k ≡ Some x → k < at
 few_left [] at k x done h = absurd (none-some x h)
 few_left (y ∷ set) zero k x done h = absurd (none-some y done)
 few_left (y ∷ set) (suc at) zero x done h = omega arith

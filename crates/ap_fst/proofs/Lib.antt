@@ -14,6 +14,8 @@ pub mod Stars
 pub mod Laws
 pub mod QuietLaws
 pub mod Adding
+pub mod Coverings
+pub mod RowLaws
 pub mod Removals
 pub mod Redrafts
 pub mod Withouts

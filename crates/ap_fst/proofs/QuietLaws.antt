@@ -6,7 +6,7 @@ use Rattle.ap_fst.specs.declared.label.Label.{Label}
 use Rattle.ap_fst.specs.Paths.{Path, here, on}
 use Rattle.ap_fst.specs.Quiet.{Quiet, still, along, Steps, final, next}
 
-steps_along : (moves : List Move) (finish s : ℕ) (m : Move) (w : List Label) → IsIn m moves →
+pub steps_along : (moves : List Move) (finish s : ℕ) (m : Move) (w : List Label) → IsIn m moves →
     s ≡ m.from → m.label ≡ None → Steps moves finish m.to w → Steps moves finish s w
 steps_along moves finish s m w listed from none (final e q) = final e (along m listed from none q)
 steps_along moves finish s m w listed from none (next label t more e edge rest) =

@@ -13,5 +13,7 @@ pub mod Trimming
 pub mod Silence
 pub mod Quiet
 pub mod Removal
+pub mod Covering
+pub mod Exits
 pub mod Without
 pub mod Sections

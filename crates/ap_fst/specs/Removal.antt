@@ -1,11 +1,8 @@
-use Rattle.std.specs.Prelude.{◌++◌, map, ◌≡◌, ◌⊎◌, ℕ, List, [], ◌∷◌, Bool, not, false, Some, slice_get}
-use Rattle.std.specs.List.{filter}
+use Rattle.std.specs.Prelude.{◌++◌, ◌≡◌, ◌⊎◌, ℕ, List, [], ◌∷◌, Bool, not, false, Some, slice_get}
 use Rattle.std.specs.Option.{is_some}
 use Rattle.ap_fst.specs.Lists.{IsIn}
-use Rattle.ap_fst.specs.Graphs.{place_of, arcs_at, Reaches}
 use Rattle.ap_fst.specs.declared.graph.Arc.{Arc}
 use Rattle.ap_fst.specs.declared.draft.Move.{Move}
-use Rattle.ap_fst.specs.declared.label.Edge.{Edge}
 
 -- the list keeps what it held, and takes on what has P and nothing else
 pub record AddsWhere {X : Type 0} (P : X → Type 0) (old new : List X) : Type 0 where
@@ -36,45 +33,6 @@ pub record AreLoud (moves : List Move) (arcs : List Arc) : Type 0 where
   pub only : (a : Arc) → IsIn a arcs → IsLoudArc moves a.to a
   pub there : (at : ℕ) (a : Arc) → IsLoudArc moves at a → IsIn a arcs
 
--- the edge of the labelled move that an arc names: from this number, to the number of the state
--- that it enters
-pub record IsMoved (moves : List Move) (kept : List ℕ) (number : ℕ) (a : Arc)
-    (e : Edge) : Type 0 where
-  pub move : Move
-  pub move_at : slice_get moves a.to ≡ Some move
-  pub label_is : move.label ≡ Some e.label
-  pub from_is : e.from ≡ number
-  pub to_is : place_of kept move.to ≡ Some e.to
-
-pub record IsMovedBy (moves : List Move) (kept : List ℕ) (number : ℕ) (arcs : List Arc)
-    (e : Edge) : Type 0 where
-  pub arc : Arc
-  pub listed : IsIn arc arcs
-  pub moved : IsMoved moves kept number arc e
-
--- the edge of a labelled move from one of these states
-pub record IsMovedFrom (moves : List Move) (loud : List Arc) (kept near : List ℕ) (number : ℕ)
-    (e : Edge) : Type 0 where
-  pub state : ℕ
-  pub near_in : IsIn state near
-  pub by : IsMovedBy moves kept number (arcs_at loud state) e
-
--- the same from the state at one place
-pub record NearAt (moves : List Move) (loud : List Arc) (kept near : List ℕ) (number k : ℕ)
-    (e : Edge) : Type 0 where
-  pub state : ℕ
-  pub at : slice_get near k ≡ Some state
-  pub by : IsMovedBy moves kept number (arcs_at loud state) e
-
--- the edge of a labelled move that follows quiet ones from the state with this number
-pub record IsEdgeOut (moves : List Move) (quiet loud : List Arc) (kept : List ℕ) (number : ℕ)
-    (e : Edge) : Type 0 where
-  pub start : ℕ
-  pub start_at : slice_get kept number ≡ Some start
-  pub state : ℕ
-  pub reached : Reaches quiet (start ∷ []) state
-  pub by : IsMovedBy moves kept number (arcs_at loud state) e
-
 -- a number whose state is among these
 pub record IsNumberIn (kept back : List ℕ) (number : ℕ) : Type 0 where
   pub state : ℕ
@@ -86,7 +44,3 @@ pub data AddsFinal (kept back : List ℕ) (number : ℕ) (old new : List ℕ) : 
   added : IsNumberIn kept back number → new ≡ old ++ number ∷ [] →
       AddsFinal kept back number old new
   same : (IsNumberIn kept back number → ⊥) → new ≡ old → AddsFinal kept back number old new
-
--- the states that labelled moves enter
-abbrev pub loud_targets : List Move → List ℕ
-loud_targets moves = map (λ m. m.to) (filter (λ m. not (is_quiet m)) moves)

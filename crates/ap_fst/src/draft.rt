@@ -95,7 +95,7 @@ fn push_empty(moves: &mut Vec<Move>, from: usize, to: usize) -> Result<(), Memor
 /// end.
 #[derive(Debug, Drop)]
 pub struct Draft {
-    states: usize,
+    pub(crate) states: usize,
     pub(crate) start: usize,
     pub(crate) end: usize,
     pub(crate) moves: Vec<Move>,

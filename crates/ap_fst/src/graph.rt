@@ -139,7 +139,7 @@ fn range_by(arcs: &[Arc], places: &[usize], state: usize) -> (usize, usize)
 
 /// The arcs that leave a state. They are looked for at the places that are noted for states, and
 /// by halving where none is noted; what is noted is tested before it is relied on.
-fn arcs_by<'a>(arcs: &'a [Arc], places: &[usize], state: usize) -> &'a [Arc]
+pub(crate) fn arcs_by<'a>(arcs: &'a [Arc], places: &[usize], state: usize) -> &'a [Arc]
     requires { IsNonDecreasingBy arc_from arcs.now }
     ensures { result.now ≡ arcs_at arcs.now state }
 {
@@ -157,7 +157,11 @@ pub(crate) fn arcs_from(arcs: &[Arc], state: usize) -> &[Arc]
 
 /// For each state below the count, how many arcs leave states below it: the place where its arcs
 /// begin.
-fn first_places(alloc: Global, arcs: &[Arc], count: usize) -> Result<Vec<usize>, Memory> {
+pub(crate) fn first_places(
+    alloc: Global,
+    arcs: &[Arc],
+    count: usize,
+) -> Result<Vec<usize>, Memory> {
     let mut places = Vec::with_capacity(alloc, count)?;
     for (at, arc) in arcs.iter().enumerate() {
         let noted = arc.from.saturating_add(1).min(count);
@@ -266,7 +270,7 @@ fn add_states(set: &mut StateSet, states: &[usize]) -> Result<(), Memory>
     Ok(())
 }
 
-fn add_targets(set: &mut StateSet, arcs: &[Arc]) -> Result<(), Memory>
+pub(crate) fn add_targets(set: &mut StateSet, arcs: &[Arc]) -> Result<(), Memory>
     ensures { OnOk result (Grows set.old (map arc_to arcs.now) set.new) }
 {
     for arc in arcs {

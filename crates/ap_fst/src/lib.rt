@@ -46,6 +46,7 @@
 mod arcs;
 mod compiled;
 mod components;
+mod covering;
 mod cycles;
 mod draft;
 mod fst;
@@ -55,6 +56,7 @@ mod numbering;
 mod order;
 mod redrafting;
 mod removal;
+mod rows;
 mod silence;
 mod trimming;
 mod without_right;

@@ -1,24 +1,30 @@
-ghost use Rattle.std.specs.Prelude.{◌≡◌, ◌↔◌, ℕ, ◌<◌, List, [], ◌∷◌, map, length, slice_get, IfOk, OnOk};
+ghost use Rattle.std.specs.Prelude.{◌≡◌, ◌↔◌, ℕ, List, None, map, nat_eq, slice_get, IfOk, OnOk};
 ghost use Rattle.std.specs.Option.{option_copied};
 ghost use Rattle.std.specs.List.{filter};
 ghost use Rattle.std.specs.List.Sorted.{IsNonDecreasingBy, IsPermutation};
 ghost use Rattle.std.specs.Ordering.{nat_cmp};
+ghost use Rattle.indexmap.specs.IndexMap.{get};
 ghost use Rattle.ap_fst.specs.Lists.{IsIn, Ascends};
 ghost use Rattle.ap_fst.specs.Order.{edge_cmp};
-ghost use Rattle.ap_fst.specs.Graphs.{arc_from, Grows};
+ghost use Rattle.ap_fst.specs.Graphs.{arc_from};
 ghost use Rattle.ap_fst.specs.Paths.{Accepts};
 ghost use Rattle.ap_fst.specs.Walks.{AcceptsLabels};
-ghost use Rattle.ap_fst.specs.Removal.{AddsWhere, is_quiet, move_arc, turned_arc, IsLoudArc, AreLoud, IsMoved, IsMovedBy, IsMovedFrom, NearAt, IsEdgeOut, IsNumberIn, AddsFinal, loud_targets};
+ghost use Rattle.ap_fst.specs.Covering.{AreArcsOf, AreLeads, AreRows};
+ghost use Rattle.ap_fst.specs.Exits.{IsMoved, IsMovedBy, AddsEdges, AreEdges, KeepsRow};
+ghost use Rattle.ap_fst.specs.Removal.{AddsWhere, is_quiet, move_arc, turned_arc, IsLoudArc, AreLoud, IsNumberIn, AddsFinal};
 ghost use Rattle.ap_fst.specs.declared.label.Label.{Label};
 ghost use Rattle.ap_fst.specs.declared.label.Edge.{Edge};
 
+use crate::covering::{MoveArcs, leads_of};
 use crate::draft::{Draft, Move};
 use crate::fst::Fst;
-use crate::graph::{Arc, StateSet, arcs_from, reach, reach_near, sort_arcs};
+use crate::graph::{Arc, StateSet, sort_arcs};
 use crate::label::{Edge, Edges, Finals};
 use crate::numbering::Numbering;
 use crate::order::compare_edges;
+use crate::rows::{Rows, kept_states, number_at, row_of};
 use ap_symbol::Memory;
+use indexmap::IndexMap;
 use std::alloc::Global;
 
 fn quiet_list(alloc: Global, moves: &[Move]) -> Result<Vec<Arc>, Memory>
@@ -37,7 +43,7 @@ fn quiet_list(alloc: Global, moves: &[Move]) -> Result<Vec<Arc>, Memory>
 }
 
 /// The moves without a label, in the order of the states that they leave.
-fn quiet_arcs(alloc: Global, moves: &[Move]) -> Result<Vec<Arc>, Memory>
+pub(crate) fn quiet_arcs(alloc: Global, moves: &[Move]) -> Result<Vec<Arc>, Memory>
     ensures permutation { IfOk result
         (λ arcs. IsPermutation (map move_arc (filter is_quiet moves.now)) arcs.items) }
     ensures sorted { IfOk result (λ arcs. IsNonDecreasingBy arc_from arcs.items) }
@@ -63,7 +69,7 @@ fn turned_list(alloc: Global, moves: &[Move]) -> Result<Vec<Arc>, Memory>
 }
 
 /// The moves without a label turned round, in the order of the states that they enter.
-fn turned_quiet_arcs(alloc: Global, moves: &[Move]) -> Result<Vec<Arc>, Memory>
+pub(crate) fn turned_quiet_arcs(alloc: Global, moves: &[Move]) -> Result<Vec<Arc>, Memory>
     ensures permutation { IfOk result
         (λ arcs. IsPermutation (map turned_arc (filter is_quiet moves.now)) arcs.items) }
     ensures sorted { IfOk result (λ arcs. IsNonDecreasingBy arc_from arcs.items) }
@@ -73,7 +79,7 @@ fn turned_quiet_arcs(alloc: Global, moves: &[Move]) -> Result<Vec<Arc>, Memory>
     Ok(arcs)
 }
 
-fn move_at(moves: &[Move], at: usize) -> Option<&Move>
+pub(crate) fn move_at(moves: &[Move], at: usize) -> Option<&Move>
     ensures { option_copied result ≡ slice_get moves.now at }
 {
     moves.get(at)
@@ -106,7 +112,7 @@ fn loud_list(alloc: Global, moves: &[Move]) -> Result<Vec<Arc>, Memory>
 }
 
 /// The labelled moves by place, in the order of the states that they leave.
-fn loud_arcs(alloc: Global, moves: &[Move]) -> Result<Vec<Arc>, Memory>
+pub(crate) fn loud_arcs(alloc: Global, moves: &[Move]) -> Result<Vec<Arc>, Memory>
     ensures loud { IfOk result (λ arcs. AreLoud moves.now arcs.items) }
     ensures sorted { IfOk result (λ arcs. IsNonDecreasingBy arc_from arcs.items) }
 {
@@ -115,44 +121,28 @@ fn loud_arcs(alloc: Global, moves: &[Move]) -> Result<Vec<Arc>, Memory>
     Ok(arcs)
 }
 
-fn add_target(next: &Move, kept: &mut Numbering) -> Result<(), Memory>
-    ensures { OnOk result (Grows kept.old (loud_targets (next.now ∷ [])) kept.new) }
-{
-    if next.label.is_some() {
-        kept.add(next.to)?;
-    }
-    Ok(())
-}
-
-/// The start, and the states that labelled moves enter. The place of a state is its new number.
-fn kept_states(alloc: Global, start: usize, moves: &[Move]) -> Result<Numbering, Memory>
-    ensures { IfOk result (λ kept. Grows (start ∷ []) (loud_targets moves.now) kept) }
-{
-    let mut kept = Numbering::of(alloc, start)?;
-    for next in moves {
-        add_target(next, &mut kept)?;
-    }
-    Ok(kept)
-}
-
 fn add_move(
     alloc: Global,
     moves: &[Move],
+    leads: &[usize],
     kept: &Numbering,
     number: usize,
-    arc: Arc,
+    place: usize,
     edges: &mut Vec<Edge>,
 ) -> Result<(), Memory>
-    ensures { OnOk result (AddsWhere (IsMoved moves.now kept.now number arc) edges.old.items
-        edges.new.items) }
+    ensures { OnOk result (AddsWhere (IsMoved moves.now leads.now kept.now number place)
+        edges.old.items edges.new.items) }
 {
-    let Some(next) = move_at(moves, arc.to) else {
+    let Some(next) = move_at(moves, place) else {
+        return Ok(());
+    };
+    let Some(lead) = number_at(leads, place) else {
         return Ok(());
     };
     let Some(label) = &next.label else {
         return Ok(());
     };
-    let Some(to) = kept.place(next.to) else {
+    let Some(to) = kept.place(lead) else {
         return Ok(());
     };
     edges.push(Edge {
@@ -166,98 +156,85 @@ fn add_move(
 fn add_moves_of(
     alloc: Global,
     moves: &[Move],
+    leads: &[usize],
     kept: &Numbering,
     number: usize,
-    arcs: &[Arc],
+    row: &[usize],
     edges: &mut Vec<Edge>,
 ) -> Result<(), Memory>
-    ensures { OnOk result (AddsWhere (IsMovedBy moves.now kept.now number arcs.now) edges.old.items
-        edges.new.items) }
+    ensures { OnOk result (AddsWhere (IsMovedBy moves.now leads.now kept.now number row.now)
+        edges.old.items edges.new.items) }
 {
-    for arc in arcs {
-        add_move(alloc, moves, kept, number, *arc, edges)?;
+    for place in row {
+        add_move(alloc, moves, leads, kept, number, *place, edges)?;
     }
     Ok(())
 }
 
-fn add_near_at(
-    alloc: Global,
-    moves: &[Move],
-    loud: &[Arc],
-    kept: &Numbering,
-    near: &StateSet,
-    number: usize,
-    at: usize,
-    edges: &mut Vec<Edge>,
-) -> Result<(), Memory>
-    requires { IsNonDecreasingBy arc_from loud.now }
-    ensures { OnOk result (AddsWhere (NearAt moves.now loud.now kept.now near.now number at)
-        edges.old.items edges.new.items) }
+fn no_rows(alloc: Global) -> Rows
+    ensures { (s : ℕ) → get nat_eq result s ≡ None }
 {
-    let Some(state) = near.get(at) else {
+    IndexMap::new(alloc)
+}
+
+/// Keeps the row of a state that empty moves leave. Others are found at once.
+fn keep_row(rows: &mut Rows, arcs: &MoveArcs, state: usize, row: Vec<usize>) -> Result<(), Memory>
+    ensures { OnOk result (KeepsRow (get nat_eq rows.old) (get nat_eq rows.new) state row) }
+{
+    if arcs.quiet_from(state).is_empty() {
         return Ok(());
-    };
-    let arcs = arcs_from(loud, state);
-    add_moves_of(alloc, moves, kept, number, arcs, edges)?;
-    Ok(())
-}
-
-fn add_near(
-    alloc: Global,
-    moves: &[Move],
-    loud: &[Arc],
-    kept: &Numbering,
-    near: &StateSet,
-    number: usize,
-    edges: &mut Vec<Edge>,
-) -> Result<(), Memory>
-    requires { IsNonDecreasingBy arc_from loud.now }
-    ensures { OnOk result (AddsWhere (IsMovedFrom moves.now loud.now kept.now near.now number)
-        edges.old.items edges.new.items) }
-{
-    for at in 0..near.len() {
-        add_near_at(alloc, moves, loud, kept, near, number, at, edges)?;
     }
+    rows.insert(state, row)?;
     Ok(())
 }
 
 fn add_number(
     alloc: Global,
     moves: &[Move],
-    quiet: &[Arc],
-    loud: &[Arc],
+    arcs: &MoveArcs,
+    leads: &[usize],
     kept: &Numbering,
     number: usize,
+    rows: &mut Rows,
     edges: &mut Vec<Edge>,
 ) -> Result<(), Memory>
-    requires quiet { IsNonDecreasingBy arc_from quiet.now }
-    requires loud { IsNonDecreasingBy arc_from loud.now }
-    ensures { OnOk result (AddsWhere (IsEdgeOut moves.now quiet.now loud.now kept.now number)
+    requires arcs { AreArcsOf moves.now arcs.now }
+    requires leads { AreLeads moves.now arcs.now.finish leads.now }
+    requires rows { AreRows moves.now arcs.now.finish (get nat_eq rows.now) }
+    ensures rows { OnOk result (AreRows moves.now arcs.now.finish (get nat_eq rows.new)) }
+    ensures edges { OnOk result (AddsEdges moves.now arcs.now.finish leads.now kept.now number
         edges.old.items edges.new.items) }
 {
     let Some(state) = kept.get(number) else {
         return Ok(());
     };
-    let near = reach_near(alloc, quiet, &[state])?;
-    add_near(alloc, moves, loud, kept, &near, number, edges)?;
+    let row = row_of(alloc, moves, arcs, leads, rows, state)?;
+    add_moves_of(alloc, moves, leads, kept, number, row.as_slice(), edges)?;
+    keep_row(rows, arcs, state, row)?;
     Ok(())
 }
 
+/// Edges of the labelled moves that follow the kept states. What follows in a draft is mostly kept
+/// later, so that the rows of later states serve those before them.
 fn all_edges(
     alloc: Global,
     moves: &[Move],
-    quiet: &[Arc],
-    loud: &[Arc],
+    arcs: &MoveArcs,
+    leads: &[usize],
     kept: &Numbering,
 ) -> Result<Vec<Edge>, Memory>
-    requires quiet { IsNonDecreasingBy arc_from quiet.now }
-    requires loud { IsNonDecreasingBy arc_from loud.now }
-    ensures { IfOk result (λ edges. (e : Edge) →
-        IsIn e edges.items ↔ IsEdgeOut moves.now quiet.now loud.now kept.now e.from e) }
+    requires arcs { AreArcsOf moves.now arcs.now }
+    requires leads { AreLeads moves.now arcs.now.finish leads.now }
+    ensures { IfOk result (λ edges. AreEdges moves.now arcs.now.finish leads.now kept.now
+        edges.items) }
 {
+    let mut rows = no_rows(alloc);
     let mut edges = Vec::new(alloc);
-    for number in 0..kept.len() {
-        add_number(alloc, moves, quiet, loud, kept, number, &mut edges)?;
+    for back in 0..kept.len() {
+        let number = kept.len() - 1 - back;
+        add_number(
+            alloc, moves, arcs, leads, kept, number, &mut rows, &mut edges,
+        )?;
     }
     Ok(edges)
 }
@@ -302,19 +279,19 @@ fn final_numbers(alloc: Global, kept: &Numbering, back: &StateSet) -> Result<Fin
 }
 
 /// The transducer of a draft: its label strings are those of the draft. States that only empty
-/// moves enter are left out; each of the others gets the labelled moves that follow empty ones from
-/// it.
+/// moves enter are left out, but for some that several leave. Each of the others gets labelled moves
+/// that follow empty ones from it, where an edge is left out if another with its label is found to
+/// lead to all that it leads to.
 pub fn without_empty(alloc: Global, draft: &Draft) -> Result<Fst, Memory>
     ensures { IfOk result (λ fst. (labels : List Label) → AcceptsLabels fst labels
         ↔ Accepts draft.now labels) }
 {
     let moves = draft.moves.as_slice();
-    let quiet = quiet_arcs(alloc, moves)?;
-    let loud = loud_arcs(alloc, moves)?;
-    let turned = turned_quiet_arcs(alloc, moves)?;
-    let kept = kept_states(alloc, draft.start, moves)?;
-    let back = reach(alloc, turned.as_slice(), &[draft.end])?;
-    let mut edges = all_edges(alloc, moves, quiet.as_slice(), loud.as_slice(), &kept)?;
+    let arcs = MoveArcs::of(alloc, moves, draft.end, draft.states)?;
+    let leads = leads_of(alloc, &arcs, moves)?;
+    let kept = kept_states(alloc, draft.start, moves, &arcs, leads.as_slice())?;
+    let back = arcs.reaching_the_end(alloc)?;
+    let mut edges = all_edges(alloc, moves, &arcs, leads.as_slice(), &kept)?;
     sort_edges(&mut edges);
     let finals = final_numbers(alloc, &kept, &back)?;
     Ok(Fst::build(kept.len(), Edges::from_vec(edges), finals))

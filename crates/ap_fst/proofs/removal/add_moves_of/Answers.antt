@@ -4,16 +4,17 @@ use Rattle.ap_fst.proofs.Adding.{adds_next}
 use Rattle.ap_fst.proofs.Removals.{MovedAt, moved_at, moved_by}
 use Rattle.ap_fst.proofs.removal.add_moves_of.Goals as goal
 
-pub loop-arc-preserved : goal.loop-arc-preserved
-loop-arc-preserved c = adds_next
-    (MovedAt c.args.moves.now c.args.kept.now c.args.number c.args.arcs.now) c.loop-arc.arc-index
-    c.args.edges.now.items c.loop-arc.edges.items c.add_move.new.edges.items c.loop-arc.invariant
-    (moved_at c.args.moves.now c.args.kept.now c.args.number c.args.arcs.now c.loop-arc.arc-index _
-    c.loop-arc.edges.items c.add_move.new.edges.items
-    (slice_get-get_or c.args.arcs.now c.loop-arc.arc-index _ c.loop-arc-test.true)
+pub loop-place-preserved : goal.loop-place-preserved
+loop-place-preserved c = adds_next
+    (MovedAt c.args.moves.now c.args.leads.now c.args.kept.now c.args.number c.args.row.now)
+    c.loop-place.place-index c.args.edges.now.items c.loop-place.edges.items
+    c.add_move.new.edges.items c.loop-place.invariant
+    (moved_at c.args.moves.now c.args.leads.now c.args.kept.now c.args.number c.args.row.now
+    c.loop-place.place-index _ c.loop-place.edges.items c.add_move.new.edges.items
+    (slice_get-get_or c.args.row.now c.loop-place.place-index _ c.loop-place-test.true)
     c.in_ok-add_move.ensures)
 
 pub returns : goal.returns
-returns c = moved_by c.args.moves.now c.args.kept.now c.args.number c.args.arcs.now
-    c.loop-arc.arc-index c.args.edges.now.items c.loop-arc.edges.items (omega arith)
-    c.loop-arc.invariant
+returns c = moved_by c.args.moves.now c.args.leads.now c.args.kept.now c.args.number c.args.row.now
+    c.loop-place.place-index c.args.edges.now.items c.loop-place.edges.items (omega arith)
+    c.loop-place.invariant

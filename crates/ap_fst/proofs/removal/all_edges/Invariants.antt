@@ -1,8 +1,11 @@
-use Rattle.ap_fst.specs.Removal.{AddsWhere, IsEdgeOut}
-use Rattle.ap_fst.proofs.Adding.{AtBelow}
+use Rattle.std.proofs.Common.{nat_eq}
+use Rattle.indexmap.specs.IndexMap.{get}
+use Rattle.ap_fst.specs.Covering.{AreRows}
+use Rattle.ap_fst.proofs.Removals.{AreLastEdges}
 use Rattle.ap_fst.proofs.removal.all_edges.Given as goal
 
-abbrev pub invariant-loop-number : goal.invariant-loop-number
-invariant-loop-number l =
-    AddsWhere (AtBelow (IsEdgeOut l.moves l.quiet l.loud l.kept) l.number) l.initial.edges.items
-    l.edges.items
+abbrev pub invariant-loop-back : goal.invariant-loop-back
+invariant-loop-back l = record {
+  rows : AreRows l.moves l.arcs.finish (get nat_eq l.rows);
+  edges : AreLastEdges l.moves l.arcs.finish l.leads l.kept l.back l.edges.items;
+}
