@@ -146,6 +146,11 @@ alone_condition s own inner tag cs e h =
     by (then_condition c no_conditions) k = (c, k.0)
     by (then_condition c (then_condition d more)) k = absurd k.1
 
+-- what is to be shown of an element of a name
+abbrev Case : Scope → Defined → Defined → List ℕ → Tag → Children → List ℕ → Type 0
+Case s all above parent tag own name =
+    Stands (outside s all parent) above (tag_as name tag) own → Condition s (tag_as name tag) own
+
 condition_stands : (s : Scope) (all above : Defined) (parent : List ℕ) (tag : Tag)
     (own : Children) → Numbers all s.names →
     ((name : List ℕ) → Conditions s all above name own) →
@@ -155,46 +160,25 @@ condition_stands s all above parent tag own same within h x =
     let a = outside s all parent in
     among_each (λ name. Stands a above (tag_as name tag) own → Condition s (tag_as name tag) own)
     condition_names tag.name (
-      λ z. (let r = as_row a above (tag_as (codes "and") tag) own _ refl z in
-          let cs = within (codes "and") 1 None 0 r.1 in
-          (all_of cs.0, (refl, some_conditions s own cs.0 r.0.enough cs.1, cs.1))),
+      of_and,
       (
-        λ z. (let r = as_row a above (tag_as (codes "or") tag) own _ refl z in
-            let cs = within (codes "or") 1 None 0 r.1 in
-            (one_of cs.0, (refl, some_conditions s own cs.0 r.0.enough cs.1, cs.1))),
+        of_or,
         (
-          λ z. (let r = as_row a above (tag_as (codes "not") tag) own _ refl z in
-              let it = single (outside s all (codes "not")) above condition_names own refl r.0.enough r.1 in
-              let cs = within (codes "not") 1 (Some 1) 0 r.1 in
-              let c = alone_condition s own it.1 it.0 cs.0 it.2 cs.1 in (negated c.0, (refl, c.1))),
+          of_not,
           (
-            λ z. (let r = as_row a above (tag_as (codes "equal") tag) own _ refl z in
-                let c = compared s all above (codes "equal") (tag_as (codes "equal") tag) own same
-                (λ e k. false_true k) r.0.enough r.1 in (equal c.0, (refl, c.1))),
+            of_equal,
             (
-              λ z. (let r = as_row a above (tag_as (codes "begins-with") tag) own _ refl z in
-                  let c = compared s all above (codes "begins-with") (tag_as (codes "begins-with") tag) own same
-                  (λ e k. false_true k) r.0.enough r.1 in (begins_with c.0, (refl, c.1))),
+              of_begins_with,
               (
-                λ z. (let r = as_row a above (tag_as (codes "begins-with-list") tag) own _ refl z in
-                    let m = listed s all above (codes "begins-with-list") (tag_as (codes "begins-with-list") tag)
-                    own same (λ e k. false_true k) r.0.enough r.1 in (begins_with_list m.0, (refl, m.1))),
+                of_begins_with_list,
                 (
-                  λ z. (let r = as_row a above (tag_as (codes "ends-with") tag) own _ refl z in
-                      let c = compared s all above (codes "ends-with") (tag_as (codes "ends-with") tag) own same
-                      (λ e k. false_true k) r.0.enough r.1 in (ends_with c.0, (refl, c.1))),
+                  of_ends_with,
                   (
-                    λ z. (let r = as_row a above (tag_as (codes "ends-with-list") tag) own _ refl z in
-                        let m = listed s all above (codes "ends-with-list") (tag_as (codes "ends-with-list") tag) own
-                        same (λ e k. false_true k) r.0.enough r.1 in (ends_with_list m.0, (refl, m.1))),
+                    of_ends_with_list,
                     (
-                      λ z. (let r = as_row a above (tag_as (codes "contains-substring") tag) own _ refl z in
-                          let c = compared s all above (codes "contains-substring") (tag_as (codes "contains-substring")
-                          tag) own same (λ e k. false_true k) r.0.enough r.1 in (contains_substring c.0, (refl, c.1))),
+                      of_contains_substring,
                       (
-                        λ z. (let r = as_row a above (tag_as (codes "in") tag) own _ refl z in
-                            let m = listed s all above (codes "in") (tag_as (codes "in") tag) own same
-                            (λ e k. false_true k) r.0.enough r.1 in (is_in m.0, (refl, m.1))),
+                        of_in,
                         tt,
                       ),
                     ),
@@ -206,6 +190,76 @@ condition_stands s all above parent tag own same within h x =
         ),
       ),
     ) h x
+  where
+    of_and : Case s all above parent tag own (codes "and")
+    of_and z =
+        let r = as_row (outside s all parent) above (tag_as (codes "and") tag) own _ refl z in
+        let cs = within (codes "and") 1 None 0 r.1 in
+        (all_of cs.0, (refl, some_conditions s own cs.0 r.0.enough cs.1, cs.1))
+
+    of_or : Case s all above parent tag own (codes "or")
+    of_or z =
+        let r = as_row (outside s all parent) above (tag_as (codes "or") tag) own _ refl z in
+        let cs = within (codes "or") 1 None 0 r.1 in
+        (one_of cs.0, (refl, some_conditions s own cs.0 r.0.enough cs.1, cs.1))
+
+    of_not : Case s all above parent tag own (codes "not")
+    of_not z =
+        let r = as_row (outside s all parent) above (tag_as (codes "not") tag) own _ refl z in
+        let it = single (outside s all (codes "not")) above condition_names own refl r.0.enough r.1
+        in
+        let cs = within (codes "not") 1 (Some 1) 0 r.1 in
+        let c = alone_condition s own it.1 it.0 cs.0 it.2 cs.1 in (negated c.0, (refl, c.1))
+
+    of_equal : Case s all above parent tag own (codes "equal")
+    of_equal z =
+        let r = as_row (outside s all parent) above (tag_as (codes "equal") tag) own _ refl z in
+        let c = compared s all above (codes "equal") (tag_as (codes "equal") tag) own same
+        (λ e k. false_true k) r.0.enough r.1 in (equal c.0, (refl, c.1))
+
+    of_begins_with : Case s all above parent tag own (codes "begins-with")
+    of_begins_with z =
+        let r = as_row (outside s all parent) above (tag_as (codes "begins-with") tag) own _ refl z
+        in
+        let c = compared s all above (codes "begins-with") (tag_as (codes "begins-with") tag) own
+        same
+        (λ e k. false_true k) r.0.enough r.1 in (begins_with c.0, (refl, c.1))
+
+    of_begins_with_list : Case s all above parent tag own (codes "begins-with-list")
+    of_begins_with_list z =
+        let r = as_row (outside s all parent) above (tag_as (codes "begins-with-list") tag) own _
+        refl z in
+        let m = listed s all above (codes "begins-with-list") (tag_as (codes "begins-with-list")
+        tag)
+        own same (λ e k. false_true k) r.0.enough r.1 in (begins_with_list m.0, (refl, m.1))
+
+    of_ends_with : Case s all above parent tag own (codes "ends-with")
+    of_ends_with z =
+        let r = as_row (outside s all parent) above (tag_as (codes "ends-with") tag) own _ refl z in
+        let c = compared s all above (codes "ends-with") (tag_as (codes "ends-with") tag) own same
+        (λ e k. false_true k) r.0.enough r.1 in (ends_with c.0, (refl, c.1))
+
+    of_ends_with_list : Case s all above parent tag own (codes "ends-with-list")
+    of_ends_with_list z =
+        let r = as_row (outside s all parent) above (tag_as (codes "ends-with-list") tag) own _
+        refl z in
+        let m = listed s all above (codes "ends-with-list") (tag_as (codes "ends-with-list") tag)
+        own
+        same (λ e k. false_true k) r.0.enough r.1 in (ends_with_list m.0, (refl, m.1))
+
+    of_contains_substring : Case s all above parent tag own (codes "contains-substring")
+    of_contains_substring z =
+        let r = as_row (outside s all parent) above (tag_as (codes "contains-substring") tag) own _
+        refl z in
+        let c = compared s all above (codes "contains-substring") (tag_as (codes
+        "contains-substring")
+        tag) own same (λ e k. false_true k) r.0.enough r.1 in (contains_substring c.0, (refl, c.1))
+
+    of_in : Case s all above parent tag own (codes "in")
+    of_in z =
+        let r = as_row (outside s all parent) above (tag_as (codes "in") tag) own _ refl z in
+        let m = listed s all above (codes "in") (tag_as (codes "in") tag) own same
+        (λ e k. false_true k) r.0.enough r.1 in (is_in m.0, (refl, m.1))
 
 pub conditions_stand : (s : Scope) (all above : Defined) (parent : List ℕ) (own : Children) →
     Numbers all s.names → Conditions s all above parent own

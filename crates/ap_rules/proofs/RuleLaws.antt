@@ -35,7 +35,7 @@ use Rattle.ap_rules.specs.declared.refusal.RuleKind.TheVariants.{NotUtf8, Syntax
 use Rattle.ap_rules.specs.declared.rules.Form.{Form}
 use Rattle.ap_rules.proofs.OwnFaults.{placed, IsRoot, root_least}
 use Rattle.ap_rules.proofs.Read.{spelled_is}
-use Rattle.ap_rules.proofs.SectionsRead.{tree_read}
+use Rattle.ap_rules.proofs.SectionsRead.{tree_read as rows_read}
 use Rattle.ap_rules.proofs.TreeStands.{root_of_text, tree_stands}
 
 -- one fault for one place and number
@@ -267,7 +267,7 @@ rules_read form text r g =
     (all_least form text g.whole o g.spelled least) g.faultless in
     tree_given form text g.whole g.utf8 g.spelled o least
     ∙ ap (decided form (children (pruned 200 g.whole))) (none_placed marks none)
-    ∙ ap Ok (tree_read form (children (pruned 200 g.whole)) r g.rules)
+    ∙ ap Ok (rows_read form (children (pruned 200 g.whole)) r g.rules)
 
 first_read : (form : Form) (text : List ℕ) (fault : RuleFault) → HasFirstFault form text fault →
     IsFirstFault form text fault
@@ -307,7 +307,7 @@ decided_sides form text whole u s None l least =
       spelled = s;
       faultless = least;
       rules =
-          subst (AreRules form tree) (sym (tree_read form tree rules.0 rules.1)) rules.1;
+          subst (AreRules form tree) (sym (rows_read form tree rules.0 rules.1)) rules.1;
     }
 decided_sides form text whole u s (Some m) l least =
     inr (record {

@@ -79,7 +79,13 @@ setting_stands s all above name own same other some c =
       (
         v.0,
         subst (λ (k : Children). AreValues s false k
-            (then_value (value_at p.0) (then_value v.0 no_values))) (sym them.own_is) (p.1, (v.1, tt)),
+            (then_value (value_at p.0) (then_value v.0 no_values))) (sym them.own_is) (
+              p.1,
+              (
+                v.1,
+                tt,
+              ),
+            ),
       ),
     )
 
@@ -115,7 +121,8 @@ params_stand s all above (element tag own more) used (here, (n, is, later)) =
     ) y.0 here in
     let rest = params_stand s all (defined_after tag (defined_in above own)) more (used + 1)
     (behind_one a above (params_group, used + 1) own more tag n y.2 later) in
-    let count : (cond (is_named (codes "with-param") tag) 1 0) + count_named (codes "with-param") more
+    let count : (cond (is_named (codes "with-param") tag) 1 0) + count_named (codes "with-param")
+    more
     ≡ length (first.0 ∷ rest.0) =
     ap (λ (b : Bool). cond b 1 0 + count_named (codes "with-param") more) first.1.2
     ∙ ap (λ (k : ℕ). 1 + k) rest.1.1 ∙ omega arith in
@@ -199,6 +206,11 @@ abbrev Choices : Scope → Defined → Defined → Children → Type 0
 Choices s all above own = (used : ℕ) →
     Clean (outside s all (codes "choose")) above (choose_groups, used) own → Choice s own
 
+-- what is to be shown of an element of a name
+abbrev Case : Scope → Defined → Defined → List ℕ → Tag → Children → List ℕ → Type 0
+Case s all above parent tag own name =
+    Stands (outside s all parent) above (tag_as name tag) own → Statement s (tag_as name tag) own
+
 statement_stands : (s : Scope) (all above : Defined) (parent : List ℕ) (tag : Tag)
     (own : Children) → Numbers all s.names → Calls above s.names → Choices s all above own →
     is_among tag.name statement_names ≡ true → Stands (outside s all parent) above tag own →
@@ -207,57 +219,83 @@ statement_stands s all above parent tag own same calls within h x =
     let a = outside s all parent in
     among_each (λ name. Stands a above (tag_as name tag) own → Statement s (tag_as name tag) own)
     statement_names tag.name (
-      λ z. (let r = as_row a above (tag_as (codes "choose") tag) own _ refl z in
-          let c = within 0 r.1 in (
-            choose c.whens (statements_of c.last),
-            (
-              refl,
-              has_when s all above own c.whens r.0.enough r.1 c.whens_are,
-              c.whens_are,
-              c.one,
-              c.last_are,
-            ),
-          )),
+      of_choose,
       (
-        λ z. (let r = as_row a above (tag_as (codes "let") tag) own _ refl z in
-            let p = setting_stands s all above (codes "let") own same refl r.0.enough r.1 in
-            (assign p.0 p.1.0, (refl, p.1.1))),
+        of_let,
         (
-          λ z. (let r = as_row a above (tag_as (codes "append") tag) own _ refl z in
-              let vs = values_stand s all above false (codes "append") own same (λ e k. false_true k) 1 None 0
-              r.1 in
-              let n = numbered all.vars s.names.vars (name_of tag.attributes) same.vars r.0.right.defined in
-              (append n.0 vs.0, (refl, some_values s own vs.0 r.0.enough vs.1, n.1, vs.1))),
+          of_append,
           (
-            λ z. (let r = as_row a above (tag_as (codes "out") tag) own _ refl z in
-                let ps = pieces_stand s all above own 0 same r.1 in (out ps.0, (refl, ps.1))),
+            of_out,
             (
-              λ z. (let r = as_row a above (tag_as (codes "modify-case") tag) own _ refl z in
-                  let p = setting_stands s all above (codes "modify-case") own same refl r.0.enough r.1 in
-                  (modify_case p.0 p.1.0, (refl, p.1.1))),
-              (
-                λ z. (let r = as_row a above (tag_as (codes "call-macro") tag) own _ refl z in
-                    let n = numbered above.macros s.names.macros (name_of tag.attributes) calls.macros
-                    r.0.right.defined in
-                    let positions = params_stand s all above own 0 r.1 in
-                    let count : is_other_than (length positions.0) (npar_named above (name_of tag.attributes))
-                    ≡ false = subst (λ (k : ℕ). is_other_than k (npar_named above (name_of tag.attributes)) ≡ false)
-                    positions.1.1 r.0.right.numbered in (
-                      call_macro n.0 positions.0,
-                      (
-                        refl,
-                        n.1,
-                        called above s.names (name_of tag.attributes) n.0 (length positions.0) calls n.1 count,
-                        positions.1.0,
-                      ),
-                    )),
-                tt,
-              ),
+              of_modify_case,
+              (of_call_macro, tt),
             ),
           ),
         ),
       ),
     ) h x
+  where
+    of_choose : Case s all above parent tag own (codes "choose")
+    of_choose z =
+        let r = as_row (outside s all parent) above (tag_as (codes "choose") tag) own _ refl z in
+        let c = within 0 r.1 in (
+          choose c.whens (statements_of c.last),
+          (
+            refl,
+            has_when s all above own c.whens r.0.enough r.1 c.whens_are,
+            c.whens_are,
+            c.one,
+            c.last_are,
+          ),
+        )
+
+    of_let : Case s all above parent tag own (codes "let")
+    of_let z =
+        let r = as_row (outside s all parent) above (tag_as (codes "let") tag) own _ refl z in
+        let p = setting_stands s all above (codes "let") own same refl r.0.enough r.1 in
+        (assign p.0 p.1.0, (refl, p.1.1))
+
+    of_append : Case s all above parent tag own (codes "append")
+    of_append z =
+        let r = as_row (outside s all parent) above (tag_as (codes "append") tag) own _ refl z in
+        let vs = values_stand s all above false (codes "append") own same (λ e k. false_true k) 1
+        None 0
+        r.1 in
+        let n = numbered all.vars s.names.vars (name_of tag.attributes) same.vars r.0.right.defined
+        in
+        (append n.0 vs.0, (refl, some_values s own vs.0 r.0.enough vs.1, n.1, vs.1))
+
+    of_out : Case s all above parent tag own (codes "out")
+    of_out z =
+        let r = as_row (outside s all parent) above (tag_as (codes "out") tag) own _ refl z in
+        let ps = pieces_stand s all above own 0 same r.1 in (out ps.0, (refl, ps.1))
+
+    of_modify_case : Case s all above parent tag own (codes "modify-case")
+    of_modify_case z =
+        let r = as_row (outside s all parent) above (tag_as (codes "modify-case") tag) own _ refl z
+        in
+        let p = setting_stands s all above (codes "modify-case") own same refl r.0.enough r.1 in
+        (modify_case p.0 p.1.0, (refl, p.1.1))
+
+    of_call_macro : Case s all above parent tag own (codes "call-macro")
+    of_call_macro z =
+        let r = as_row (outside s all parent) above (tag_as (codes "call-macro") tag) own _ refl z
+        in
+        let n = numbered above.macros s.names.macros (name_of tag.attributes) calls.macros
+        r.0.right.defined in
+        let positions = params_stand s all above own 0 r.1 in
+        let count : is_other_than (length positions.0) (npar_named above (name_of tag.attributes))
+        ≡ false = subst (λ (k : ℕ). is_other_than k (npar_named above (name_of tag.attributes)) ≡
+        false)
+        positions.1.1 r.0.right.numbered in (
+          call_macro n.0 positions.0,
+          (
+            refl,
+            n.1,
+            called above s.names (name_of tag.attributes) n.0 (length positions.0) calls n.1 count,
+            positions.1.0,
+          ),
+        )
 
 -- a test, and then statements
 test_stands : (s : Scope) (all above : Defined) (tag : Tag) (own : Children) →
@@ -344,7 +382,8 @@ mutual
             among_each (λ word. Stands a above (tag_as word tag) inner →
             Choice s (element (tag_as word tag) inner more)) (codes "otherwise" ∷ []) tag.name (
               λ z. (let r = as_row a above (tag_as (codes "otherwise") tag) inner _ refl z in
-                  let sts = statements_stand s all above (codes "otherwise") inner same calls 0 r.1 in
+                  let sts = statements_stand s all above (codes "otherwise") inner same calls 0 r.1
+                  in
                   otherwise_stands s tag inner more last sts.0 sts.1),
               tt,
             ) x.0 here)

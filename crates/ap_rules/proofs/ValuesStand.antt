@@ -197,6 +197,12 @@ alone_value s own inner tag vs e h =
     by (v ∷ []) k = (v, k.0)
     by (v ∷ w ∷ more) k = absurd k.1
 
+-- what is to be shown of an element of a name
+abbrev Case : Scope → Defined → Defined → Bool → List ℕ → Tag → Children → List ℕ → Type 0
+Case s all above content parent tag own name =
+    Stands (outside s all parent) above (tag_as name tag) own → Value s content (tag_as name tag)
+    own
+
 value_stands : (s : Scope) (all above : Defined) (content : Bool) (parent : List ℕ) (tag : Tag)
     (own : Children) → Numbers all s.names → Reads s content parent →
     ((name : List ℕ) → Reads s false name → Values s all above false name own) →
@@ -205,43 +211,55 @@ value_stands : (s : Scope) (all above : Defined) (content : Bool) (parent : List
 value_stands s all above content parent tag own same reads within h x =
     among_each (λ name. Stands (outside s all parent) above (tag_as name tag) own →
     Value s content (tag_as name tag) own) value_names tag.name (
-      λ z. (let c = clip_stands s all content parent above tag own same reads z.1.right in
-          (clip c.0, (refl, c.1))),
+      of_clip,
       (
-        λ z. (lit (word_of (given_text (value_of (codes "v") tag.attributes))), (refl, refl)),
+        of_lit,
         (
-          λ z. (let w = there (tags_of false (given_text (value_of (codes "v") tag.attributes)))
-              z.1.right.tagged in (lit_tag w.0, (refl, w.1))),
-          (
-            λ z. (let n = numbered all.vars s.names.vars (name_of tag.attributes) same.vars
-                z.1.right.defined in (var n.0, (refl, n.1))),
-            (
-              λ z. recased z,
-              (
-                λ z. (let c = case_stands s all parent above tag own same z.1.right in
-                    (case_of c.0, (refl, c.1))),
-                (
-                  λ z. (let r = as_row (outside s all parent) above (tag_as (codes "concat") tag) own
-                      (line_of (codes "concat") [] [] (any_of value_names ∷ [])) refl z in
-                      let vs = within (codes "concat") (λ e k. false_true k) 0 None 0 r.1 in
-                      (concat (values_of vs.0), (refl, vs.1))),
-                  (
-                    λ z. (let pos = blank_stands tag.attributes
-                        (neither _ _ (neither _ _ (neither _ _ z.1.right.numbered).0).0).0 in
-                        (blank_value pos.0, (refl, pos.1))),
-                    tt,
-                  ),
-                ),
-              ),
-            ),
-          ),
+          of_lit_tag,
+          (of_var, (of_get_case_from, (of_case_of, (of_concat, (of_b, tt))))),
         ),
       ),
     ) h x
   where
-    recased : Stands (outside s all parent) above (tag_as (codes "get-case-from") tag) own →
-        Value s content (tag_as (codes "get-case-from") tag) own
-    recased z =
+    of_clip : Case s all above content parent tag own (codes "clip")
+    of_clip z =
+        let c = clip_stands s all content parent above tag own same reads z.1.right in
+        (clip c.0, (refl, c.1))
+
+    of_lit : Case s all above content parent tag own (codes "lit")
+    of_lit z =
+        (lit (word_of (given_text (value_of (codes "v") tag.attributes))), (refl, refl))
+
+    of_lit_tag : Case s all above content parent tag own (codes "lit-tag")
+    of_lit_tag z =
+        let w = there (tags_of false (given_text (value_of (codes "v") tag.attributes)))
+        z.1.right.tagged in (lit_tag w.0, (refl, w.1))
+
+    of_var : Case s all above content parent tag own (codes "var")
+    of_var z =
+        let n = numbered all.vars s.names.vars (name_of tag.attributes) same.vars
+        z.1.right.defined in (var n.0, (refl, n.1))
+
+    of_case_of : Case s all above content parent tag own (codes "case-of")
+    of_case_of z =
+        let c = case_stands s all parent above tag own same z.1.right in
+        (case_of c.0, (refl, c.1))
+
+    of_concat : Case s all above content parent tag own (codes "concat")
+    of_concat z =
+        let r = as_row (outside s all parent) above (tag_as (codes "concat") tag) own
+        (line_of (codes "concat") [] [] (any_of value_names ∷ [])) refl z in
+        let vs = within (codes "concat") (λ e k. false_true k) 0 None 0 r.1 in
+        (concat (values_of vs.0), (refl, vs.1))
+
+    of_b : Case s all above content parent tag own (codes "b")
+    of_b z =
+        let pos = blank_stands tag.attributes
+        (neither _ _ (neither _ _ (neither _ _ z.1.right.numbered).0).0).0 in
+        (blank_value pos.0, (refl, pos.1))
+
+    of_get_case_from : Case s all above content parent tag own (codes "get-case-from")
+    of_get_case_from z =
         let r = as_row (outside s all parent) above (tag_as (codes "get-case-from") tag) own
         (line_of (codes "get-case-from") (free (codes "pos") ∷ []) needs_pos (one value_names ∷ []))
         refl z in
