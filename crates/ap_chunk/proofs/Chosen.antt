@@ -1,9 +1,8 @@
 -- What is chosen, with one more unit and where no rule is live.
-use Rattle.std.proofs.Common.{◌≡◌, ◌⊎◌, ℕ, zero, suc, ◌+◌, ◌<◌, ◌≤◌, Bool, true, List, [], ◌∷◌, ◌++◌, length, get_or, take, drop, slice_get, Vec, Global, Option, Some, None, refl, ap, sym, ◌∙◌, arith, inl, inr, subst, length-append}
+use Rattle.std.proofs.Common.{◌≡◌, ◌⊎◌, ℕ, suc, ◌+◌, ◌<◌, ◌≤◌, Bool, true, List, [], ◌∷◌, ◌++◌, length, slice_get, Option, Some, None, refl, ap, sym, ◌∙◌, arith, inl, inr, subst, length-append}
 use Rattle.std.proofs.lemmas.Bool.{false≢true, and_parts, and_from, cases_lt}
-use Rattle.std.proofs.lemmas.List.{take-append-le, take_all, take_more}
 use Rattle.ap_chunk.specs.declared.choice.Choice.{Choice}
-use Rattle.ap_chunk.specs.Choice.{fits, RuleFits, IsChosen, opens, SomeOpens, IsSpan, unit_of, units_of}
+use Rattle.ap_chunk.specs.Choice.{fits, RuleFits, IsChosen, opens, SomeOpens}
 use Rattle.ap_chunk.specs.Live.{goes_on, ends, of_rule, is_over, IsLeast, SomeLive, Standing, Stands}
 
 -- one pattern
@@ -76,18 +75,6 @@ opens_parts (c ∷ cs) (u ∷ units) h =
       | inl g ↦ inl (and_from (u c) (goes_on cs units) both.0 g)
       | inr e ↦ inr (and_from (u c) (ends cs units) both.0 e)
     ]
-
-opens_goes : (p : List ℕ) (units more : List (ℕ → Bool)) (m : ℕ) → opens p (take m (units ++ more))
-    ≡ true → length units < m → m ≤ length (units ++ more) → goes_on p units ≡ true
-opens_goes p units more zero h lt le = absurd (omega (arith, lt))
-opens_goes [] [] [] (suc m) h lt le = absurd (omega (arith, le))
-opens_goes [] [] (x ∷ more) (suc m) h lt le = absurd (false≢true h)
-opens_goes (c ∷ cs) [] more (suc m) h lt le = refl
-opens_goes [] (u ∷ units) more (suc m) h lt le = absurd (false≢true h)
-opens_goes (c ∷ cs) (u ∷ units) more (suc m) h lt le =
-    let both = and_parts (u c) (opens cs (take m (units ++ more))) h in
-    and_from (u c) (goes_on cs units) both.0
-    (opens_goes cs units more m both.1 (omega (arith, lt)) (omega (arith, le)))
 
 -- one rule
 shorter : (patterns : List (List ℕ)) (rule : ℕ) (units more : List (ℕ → Bool)) (n : ℕ) →
@@ -195,41 +182,7 @@ choice_dead patterns units more choice dead h =
       | inr k ↦ k
     ])
 
--- the span
-span_stays : (patterns : List (List ℕ)) (units more : List (ℕ → Bool)) (n : ℕ) →
-    IsSpan patterns units n →
-    ((m : ℕ) → m ≤ length (units ++ more) → SomeOpens patterns (take m (units ++ more)) →
-    m ≤ length units)
-    → IsSpan patterns (units ++ more) n
-span_stays patterns units more n h k =
-    let le : n ≤ length units = h.within in
-    let P : List (ℕ → Bool) → Type 0 = λ us. SomeOpens patterns us in
-    record {
-      within = omega (arith, le, length-append units more);
-      reached = elim h.reached [
-        | inl z ↦ inl z
-        | inr s ↦
-            inr (subst P (sym (take-append-le n units more le)) s)
-      ];
-      greatest = λ m l s. (let lm = k m l s in
-          h.greatest m lm (subst P (take-append-le m units more lm) s));
-    }
-
-pub span_none : (patterns : List (List ℕ)) → IsSpan patterns [] 0
-span_none patterns = record { within = omega arith; reached = inl refl; greatest = λ m h s. h }
-
-pub span_all : (patterns : List (List ℕ)) (units : List (ℕ → Bool)) (n : ℕ) → n ≡ length units →
-    SomeOpens patterns units → IsSpan patterns units n
-span_all patterns units n e s =
-    let P : List (ℕ → Bool) → Type 0 = λ us. SomeOpens patterns us in
-    record {
-      within = omega (arith, e);
-      reached =
-          inr (subst P (sym (take_all n units (omega (arith, e)))) s);
-      greatest =
-          λ m h o. omega (arith, h, e);
-    }
-
+-- a pattern that begins so
 live_at : (patterns : List (List ℕ)) (units : List (ℕ → Bool)) (rule : ℕ) (o : Option (List ℕ)) →
     slice_get patterns rule ≡ o → of_rule (λ p. goes_on p units) o ≡ true → SomeOpens patterns units
 live_at patterns units rule None e h = absurd (false≢true h)
@@ -260,43 +213,6 @@ opens_none patterns units dead none s = elim (opens_parts s.pattern units s.fit)
   | inr e ↦ false≢true (sym (none s.rule) ∙ ap (of_rule (λ p. ends p units)) s.at ∙ e)
 ]
 
-pub span_over : (patterns : List (List ℕ)) (units : List (ℕ → Bool)) (u : ℕ → Bool) (n : ℕ) →
-    (SomeLive patterns (units ++ u ∷ []) → ⊥) → IsLeast (is_over patterns (units ++ u ∷ [])) None →
-    IsSpan patterns units n
-    → IsSpan patterns (units ++ u ∷ []) n
-span_over patterns units u n dead none h = span_stays patterns units (u ∷ []) n h (λ m l s.
-    let more : length (units ++ u ∷ []) ≡ length units + 1 = length-append units (u ∷ []) in
-    let P : List (ℕ → Bool) → Type 0 = λ us. SomeOpens patterns us in
-    elim (cases_lt (length units) m) [
-      | inl lt ↦ absurd (opens_none patterns (units ++ u ∷ []) dead none
-          (subst P (take_all m (units ++ u ∷ []) (omega (arith, lt, more))) s))
-      | inr k ↦ k
-    ])
-
-pub span_dead : (patterns : List (List ℕ)) (units more : List (ℕ → Bool)) (n : ℕ) →
-    (SomeLive patterns units → ⊥) → IsSpan patterns units n → IsSpan patterns (units ++ more) n
-span_dead patterns units more n dead h =
-    span_stays patterns units more n h (λ m l s. elim (cases_lt (length units) m) [
-      | inl lt ↦ absurd (dead (record {
-        rule = s.rule;
-        live = ap (of_rule (λ p. goes_on p units)) s.at
-            ∙ opens_goes s.pattern units more m s.fit lt l;
-      }))
-      | inr k ↦ k
-    ])
-
--- rows, some of them taken
-pub rows_parts : (n : ℕ) (rows : List (Vec Bool Global)) →
-    units_of (take n rows) ++ units_of (drop n rows) ≡ units_of rows
-rows_parts zero rows = refl
-rows_parts (suc n) [] = refl
-rows_parts (suc n) (r ∷ rows) = ap (λ l. unit_of r.items ∷ l) (rows_parts n rows)
-
-pub rows_more : (rows : List (Vec Bool Global)) (r : Vec Bool Global) → units_of (rows ++ r ∷ [])
-    ≡ units_of rows ++ unit_of r.items ∷ []
-rows_more [] r = refl
-rows_more (x ∷ rows) r = ap (λ l. unit_of x.items ∷ l) (rows_more rows r)
-
 -- from how far a choice has come
 pub none_more : (s : Standing) (before : Option Choice) → s.over ≡ None →
     (units : List (ℕ → Bool)) (u : ℕ → Bool) → Stands s (units ++ u ∷ []) →
@@ -318,37 +234,3 @@ pub some_chosen : (s : Standing) (rule count : ℕ) → s.over ≡ Some rule →
 some_chosen s rule count e n units stands =
     let P : Option ℕ → Type 0 = λ o. IsLeast (is_over s.patterns units) o in
     choice_over s.patterns units rule count (sym n ∙ stands.counted) (subst P e stands.least)
-
-pub live_wider : (s : Standing) (count : ℕ) → s.count ≡ count → (units : List (ℕ → Bool)) →
-    Stands s units → SomeLive s.patterns units → IsSpan s.patterns units count
-live_wider s count n units stands live =
-    span_all s.patterns units count (sym n ∙ stands.counted) (live_opens s.patterns units live)
-
-pub over_wider : (s : Standing) (rule count : ℕ) → s.over ≡ Some rule → s.count ≡ count →
-    (units : List (ℕ → Bool)) → Stands s units → IsSpan s.patterns units count
-over_wider s rule count e n units stands =
-    let P : Option ℕ → Type 0 = λ o. IsLeast (is_over s.patterns units) o in
-    let least = subst P e stands.least in
-    span_all s.patterns units count (sym n ∙ stands.counted)
-    (over_opens s.patterns units rule least.0)
-
-pub none_wider : (s : Standing) (before : ℕ) → s.over ≡ None →
-    (units : List (ℕ → Bool)) (u : ℕ → Bool) → Stands s (units ++ u ∷ []) →
-    (SomeLive s.patterns (units ++ u ∷ []) → ⊥) → IsSpan s.patterns units before
-    → IsSpan s.patterns (units ++ u ∷ []) before
-none_wider s before e units u stands dead h =
-    let P : Option ℕ → Type 0 = λ o. IsLeast (is_over s.patterns (units ++ u ∷ [])) o in
-    span_over s.patterns units u before dead (subst P e stands.least) h
-
--- the rows of one more unit
-pub one_row_more : (rows : List (Vec Bool Global)) (at : ℕ) (r : Vec Bool Global) (row : List Bool)
-    → at < length rows → r ≡ get_or rows at r → row ≡ r.items →
-    units_of (take at rows) ++ unit_of row ∷ [] ≡ units_of (take (at + 1) rows)
-one_row_more rows at r row h is e = ap (λ l. units_of (take at rows) ++ unit_of l ∷ []) e
-    ∙ sym (rows_more (take at rows) r)
-    ∙ ap units_of (ap (λ v. take at rows ++ v ∷ []) is ∙ sym (take_more rows at r h))
-
-pub rows_length : (rows : List (Vec Bool Global)) (at : ℕ) → length (units_of (take at rows)) ≤ at
-rows_length rows zero = omega arith
-rows_length [] (suc at) = omega arith
-rows_length (r ∷ rows) (suc at) = let le = rows_length rows at in omega (arith, le)

@@ -5,7 +5,6 @@ pub mod Truths
 pub mod Indexing
 pub mod Lives
 pub mod Chosen
-pub mod Going
 pub mod Tried
 pub mod RowLaws
 mod Walks

@@ -1,9 +1,7 @@
 -- The choice of a rule: the longest pattern that fits, and among equally long ones the rule earlier
 -- in the file. A unit is the test of its categories, a rule the number of its pattern, counted from
 -- 0.
-use Rattle.std.specs.Prelude.{◌≡◌, ◌⊎◌, ℕ, ◌≤◌, Bool, true, false, ◌&&◌, List, [], ◌∷◌, length, take, map, Option, Some, None, slice_get}
-use Rattle.std.specs.declared.vec.Vec.{Vec}
-use Rattle.std.specs.declared.alloc.Global.{Global}
+use Rattle.std.specs.Prelude.{◌≡◌, ℕ, ◌≤◌, Bool, true, false, ◌&&◌, List, [], ◌∷◌, length, Option, Some, None, slice_get}
 use Rattle.ap_chunk.specs.declared.choice.Choice.{Choice}
 
 abbrev pub truth : Option Bool → Bool
@@ -13,9 +11,6 @@ truth (Some b) = b
 -- a unit whose categories are given as a row
 abbrev pub unit_of : List Bool → ℕ → Bool
 unit_of row category = truth (slice_get row category)
-
-abbrev pub units_of : List (Vec Bool Global) → List (ℕ → Bool)
-units_of rows = map (λ row. unit_of row.items) rows
 
 -- the first units are of these categories, each of its own
 abbrev pub fits : List ℕ → List (ℕ → Bool) → Bool
@@ -54,10 +49,3 @@ pub record SomeOpens (patterns : List (List ℕ)) (units : List (ℕ → Bool)) 
   pub pattern : List ℕ
   pub at : slice_get patterns rule ≡ Some pattern
   pub fit : opens pattern units ≡ true
-
--- the greatest number of units from the front that fit the beginning of the pattern of some rule; 0
--- where there is no rule
-pub record IsSpan (patterns : List (List ℕ)) (units : List (ℕ → Bool)) (n : ℕ) : Type 0 where
-  pub within : n ≤ length units
-  pub reached : (n ≡ 0) ⊎ SomeOpens patterns (take n units)
-  pub greatest : (m : ℕ) → m ≤ length units → SomeOpens patterns (take m units) → m ≤ n

@@ -1,5 +1,4 @@
--- The choice of a rule as a function that tries every rule on the whole list, and going on unit by
--- unit.
+-- The choice of a rule as a function that tries every rule on the whole list.
 use Rattle.std.specs.Prelude.{◌≡◌, ℕ, ◌+◌, List, [], ◌∷◌, length, Bool, if◌then◌else◌, nat_le, Option, Some, None}
 use Rattle.ap_chunk.specs.declared.choice.Choice.{Choice}
 use Rattle.ap_chunk.specs.Choice.{fits, IsChosen}
@@ -33,38 +32,7 @@ chosen n (p ∷ places) units = longer (fit n p units) (chosen n places units)
 abbrev pub chosen_of : List (List ℕ) → List (ℕ → Bool) → Option Choice
 chosen_of patterns units = chosen 0 (numbered 0 patterns) units
 
--- the places after one more unit
-abbrev pub stepped_one : (ℕ → Bool) → ℕ → List ℕ → List Place → List Place
-stepped_one u rule [] more = more
-stepped_one u rule (c ∷ cs) more = if u c then record { rule = rule; rest = cs } ∷ more else more
-
-abbrev pub stepped : (ℕ → Bool) → List Place → List Place
-stepped u [] = []
-stepped u (p ∷ places) = stepped_one u p.rule p.rest (stepped u places)
-
-abbrev pub done_one : ℕ → ℕ → List ℕ → Option Choice → Option Choice
-done_one n rule [] more = Some (record { rule = rule; size = n })
-done_one n rule (c ∷ cs) more = more
-
--- the first rule whose pattern is over
-abbrev pub done : ℕ → List Place → Option Choice
-done n [] = None
-done n (p ∷ places) = done_one n p.rule p.rest (done n places)
-
-abbrev pub or_else : Option Choice → Option Choice → Option Choice
-or_else (Some a) b = Some a
-or_else None b = b
-
--- going on unit by unit from the places that fit so far
-abbrev pub gone_on : ℕ → List Place → List (ℕ → Bool) → Option Choice
-gone_on n places [] = done n places
-gone_on n places (u ∷ units) = or_else (gone_on (n + 1) (stepped u places) units) (done n places)
-
 -- the laws
-abbrev pub GoesOnAlike : Type 0
-GoesOnAlike = (units : List (ℕ → Bool)) (places : List Place) →
-    gone_on 0 places units ≡ chosen 0 places units
-
 abbrev pub TriesAll : Type 0
 TriesAll = (patterns : List (List ℕ)) (units : List (ℕ → Bool)) →
     IsChosen patterns units (chosen_of patterns units)

@@ -1,10 +1,9 @@
 ghost use Rattle.std.specs.Prelude.{◌≡◌, ◌↔◌, ◌++◌, ◌∷◌, [], ℕ, ◌+◌, ◌<◌, ◌^◌, List, Bool, length, IsTrue, IfOk, OnOk, None};
-ghost use Rattle.ap_chunk.specs.Choice.{unit_of, units_of, IsChosen, IsSpan};
-ghost use Rattle.ap_chunk.specs.Going.{chosen_of};
+ghost use Rattle.ap_chunk.specs.Choice.{unit_of, IsChosen};
 ghost use Rattle.ap_chunk.specs.Live.{Stands, SomeLive};
 ghost use Rattle.ap_chunk.specs.Patterns.{patterns_of};
 
-use crate::choice::{Choice, Found};
+use crate::choice::Choice;
 use crate::keeping::go_on;
 use crate::patterns::Patterns;
 use ap_rules::Rules;
@@ -129,44 +128,5 @@ impl Choosing {
                 size: self.count,
             }),
         }
-    }
-
-    /// The span after one more unit: all units, where some rule is live or a pattern is over, and
-    /// else what it was before.
-    fn wider(&self, before: usize) -> usize
-        ensures { (units : List (ℕ → Bool)) (u : ℕ → Bool) → Stands self.now (units ++ u ∷ []) →
-            IsSpan self.now.patterns units before →
-            IsSpan self.now.patterns (units ++ u ∷ []) result }
-    {
-        match self.over {
-            None => { if self.goes_on() { self.count } else { before } }
-            Some(_) => self.count,
-        }
-    }
-
-    /// What is found in units with these rows: the rule with the longest pattern that fits the
-    /// units from the first on, among equally long ones the one earlier in the file; and the span.
-    /// The error means want of memory.
-    pub fn choose(&mut self, rows: &[Vec<bool>]) -> Result<Found, Memory>
-        ensures patterns { self.new.patterns ≡ self.old.patterns }
-        ensures choice { IfOk result
-            (λ found. IsChosen self.old.patterns (units_of rows.now) found.choice) }
-        ensures exact { IfOk result
-            (λ found. found.choice ≡ chosen_of self.old.patterns (units_of rows.now)) }
-        ensures span { IfOk result
-            (λ found. IsSpan self.old.patterns (units_of rows.now) found.span) }
-    {
-        self.begin();
-        let mut choice = self.better(None);
-        let mut span = 0;
-        'units: for unit in rows {
-            if !self.goes_on() {
-                return Ok(Found { choice, span });
-            }
-            self.step(unit.as_slice())?;
-            choice = self.better(choice);
-            span = self.wider(span);
-        }
-        Ok(Found { choice, span })
     }
 }

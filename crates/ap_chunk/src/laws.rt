@@ -1,13 +1,7 @@
-ghost use Rattle.ap_chunk.specs.Going.{GoesOnAlike, OneIsChosen, TriesAll};
+ghost use Rattle.ap_chunk.specs.Going.{OneIsChosen, TriesAll};
 ghost use Rattle.ap_chunk.specs.Laws.{PlainRulesDecide, TransferKeeps, SoundGivesWritten, SoundTransferKeeps, SoundInterchunkKeeps, SoundPostchunkKeeps, TransferIsRead, InterchunkIsRead, PostchunkIsRead};
 ghost use Rattle.ap_chunk.specs.Rows.{RowsTell, UnitsTell};
 ghost use Rattle.ap_chunk.specs.Spans.{SpanIsGreatest};
-
-/// The law that going on unit by unit, from the places in patterns that fit so far, chooses what
-/// trying every rule on the whole list chooses. It is a statement alone and does nothing.
-pub fn going_on_chooses()
-    ensures { GoesOnAlike }
-{}
 
 /// The law that trying every rule on the whole list chooses the rule with the longest pattern that
 /// fits, and among equally long ones the one earlier in the file. It is a statement alone and does

@@ -18,15 +18,14 @@
 //!
 //! - The stages: `Transfer`, `Interchunk`, `Postchunk`; `ChunkWork`, the handler of all three.
 //! - Categories: `takes`, whether one takes a word; `row`, which of all categories do.
-//! - The choice of a rule: `Choosing`, unit by unit, with `Choice` and `Found`.
+//! - The choice of a rule: `Choosing`, unit by unit, with `Choice`.
 //!
 //! # What is promised
 //!
 //! - A unit of a match passes as of a category exactly where that category takes its word: in
 //!   transfer its source, in interchunk and postchunk the name of the chunk (`rows_tell`).
 //! - The rule with the longest pattern that fits is chosen, and of equally long ones the first in
-//!   the file (`trying_all_chooses`), of which there is one (`one_is_chosen`); going on unit by
-//!   unit chooses what trying every rule on the whole list does (`going_on_chooses`).
+//!   the file (`trying_all_chooses`), of which there is one (`one_is_chosen`).
 //! - The span of a match is the greatest number of items from the front that may be seen together
 //!   (`span_is_greatest`).
 //! - The three stages give exactly the text of their definitions for every cut, with the variables
@@ -74,12 +73,12 @@ mod words;
 mod writing;
 
 pub use categories::{row, takes};
-pub use choice::{Choice, Found};
+pub use choice::Choice;
 pub use choosing::Choosing;
 pub use chunk_work::ChunkWork;
 pub use interchunk::Interchunk;
 pub use laws::{
-    going_on_chooses, interchunk_is_read, one_is_chosen, plain_rules_decide, postchunk_is_read,
+    interchunk_is_read, one_is_chosen, plain_rules_decide, postchunk_is_read,
     rows_tell, sound_interchunk_keeps_superblanks, sound_postchunk_keeps_superblanks,
     sound_transfer_keeps_superblanks, span_is_greatest, transfer_is_read,
     transfer_keeps_superblanks, trying_all_chooses,

@@ -9,6 +9,7 @@ pub mod TreeLaws
 pub mod Read
 pub mod OwnFaults
 pub mod RuleLaws
+pub mod Links
 pub mod Sound
 pub mod SectionsSound
 pub mod WordsMade
@@ -20,3 +21,13 @@ pub mod ConditionsRead
 pub mod PiecesRead
 pub mod StatementsRead
 pub mod SectionsRead
+pub mod Faultless
+pub mod Placing
+pub mod ValuesStand
+pub mod ConditionsStand
+pub mod PiecesStand
+pub mod StatementsStand
+pub mod DefinitionsStand
+pub mod RulesStand
+pub mod SectionsStand
+pub mod TreeStands

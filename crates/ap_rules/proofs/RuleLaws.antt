@@ -25,6 +25,7 @@ use Rattle.ap_rules.specs.Faults.{RuleMark, Around, tag_kind, marked, or_else, a
 use Rattle.ap_rules.specs.Mistakes.{Fault, order_of}
 use Rattle.ap_rules.specs.Plain.{PlainRules}
 use Rattle.ap_rules.specs.Refusals.{kind_number}
+use Rattle.ap_rules.specs.SectionRows.{AreRules}
 use Rattle.ap_rules.specs.Sentences.{HasNotationFault, HasOwnFault, HasAnyFault, SpellsRules, HasFirstFault, IsRefusedFor}
 use Rattle.ap_rules.specs.Spelling.{table_of, kind_of, mark_of, fault_of, rules_in, decided, judged, spelled, Spells, IsFirstFault}
 use Rattle.ap_rules.specs.declared.defined.Defined.{Defined}
@@ -34,6 +35,8 @@ use Rattle.ap_rules.specs.declared.refusal.RuleKind.TheVariants.{NotUtf8, Syntax
 use Rattle.ap_rules.specs.declared.rules.Form.{Form}
 use Rattle.ap_rules.proofs.OwnFaults.{placed, IsRoot, root_least}
 use Rattle.ap_rules.proofs.Read.{spelled_is}
+use Rattle.ap_rules.proofs.SectionsRead.{tree_read as rows_read}
+use Rattle.ap_rules.proofs.TreeStands.{root_of_text, tree_stands}
 
 -- one fault for one place and number
 kind_numbered : ℕ → RuleKind
@@ -115,10 +118,6 @@ marks_named : (text : List ℕ) (o : Option NotationFault) →
     option_map placed (option_map mark_of (at_places text o)) ≡ option_map named o
 marks_named text None = refl
 marks_named text (Some f) = refl
-
-root_of_text : (text : List ℕ) (whole : Parts) → SpellsText text whole → IsRoot (pruned 200 whole)
-unfolding pruned
-root_of_text text whole s = rw s.spelled.root_is refl
 
 all_least : (form : Form) (text : List ℕ) (whole : Parts) (o : Option NotationFault) →
     SpellsText text whole → IsLeast notation_order
@@ -268,7 +267,7 @@ rules_read form text r g =
     (all_least form text g.whole o g.spelled least) g.faultless in
     tree_given form text g.whole g.utf8 g.spelled o least
     ∙ ap (decided form (children (pruned 200 g.whole))) (none_placed marks none)
-    ∙ ap Ok (sym g.value)
+    ∙ ap Ok (rows_read form (children (pruned 200 g.whole)) r g.rules)
 
 first_read : (form : Form) (text : List ℕ) (fault : RuleFault) → HasFirstFault form text fault →
     IsFirstFault form text fault
@@ -300,7 +299,16 @@ decided_sides : (form : Form) (text : List ℕ) (whole : Parts) → IsUtf8 text 
     IsLeast order_of (HasAnyFault form whole) (option_map placed o) →
     Sides form text (decided form (children (pruned 200 whole)) o)
 decided_sides form text whole u s None l least =
-    record { whole = whole; utf8 = u; spelled = s; faultless = least; value = refl }
+    let tree = children (pruned 200 whole) in
+    let rules = tree_stands form text whole s least in
+    record {
+      whole = whole;
+      utf8 = u;
+      spelled = s;
+      faultless = least;
+      rules =
+          subst (AreRules form tree) (sym (rows_read form tree rules.0 rules.1)) rules.1;
+    }
 decided_sides form text whole u s (Some m) l least =
     inr (record {
       whole = whole;

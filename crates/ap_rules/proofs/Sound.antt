@@ -29,6 +29,7 @@ use Rattle.ap_rules.specs.declared.value.Clip.{Clip}
 use Rattle.ap_rules.specs.declared.value.ClipPart.{ClipPart}
 use Rattle.ap_rules.specs.declared.value.ClipPart.TheVariants.{Lem, Lemh, Lemq, Tags, Whole, Content, Attribute}
 use Rattle.ap_rules.specs.declared.value.Side.{Side}
+use Rattle.ap_rules.proofs.Links.{link_sound}
 
 -- what holds of options and lists
 
@@ -127,77 +128,6 @@ pub tags_sound : (stars : Bool) (text : List ℕ) → Opt (AreTags stars) (tags_
 tags_sound stars text = opt_if (AreTags stars) (length text == 0) (Some [])
     (tag_symbols stars (parts_after [] text)) tt (symbols_sound stars (parts_after [] text))
 
--- a link of a clip
-
-digit_number : (b : Bool) (k n : ℕ) → when_so b k ≡ Some n → (b ≡ true) × (k ≡ n)
-digit_number true k n e = (refl, (let same : k ≡ n = cc in same))
-digit_number false k n e = absurd (let no : ⊥ = cc in no)
-
-in_bounds : (least most k n : ℕ) → bounded least most (Some k) ≡ Some n → (k ≡ n) × (n ≤ most)
-in_bounds least most k n e = by (nat_le least k) (nat_le k most) refl refl e
-  where
-    by : (p q : Bool) → nat_le least k ≡ p → nat_le k most ≡ q →
-        cond {A = Option ℕ} (p && q) (Some k) None ≡ Some n → (k ≡ n) × (n ≤ most)
-    by true true f g h = let same : k ≡ n = cc in
-        (same, subst (λ (m : ℕ). m ≤ most) same (grind (arith, nat_tests)))
-    by true false f g h = absurd (let no : ⊥ = cc in no)
-    by false q f g h = absurd (let no : ⊥ = cc in no)
-
--- a text of one part gives one tag or none
-part_link : (text : List ℕ) (n : ℕ) → number_in 1 99 (Some text) ≡ Some n →
-    Opt IsLink (tag_symbols false (text ∷ []))
-part_link text n e = by (bytes_eq (codes "*") text) (is_tag_name (encode_utf8_all text))
-  where
-    by : (a b : Bool) → Opt IsLink (with_symbol
-        (cond {A = Option Symbol} a None (cond b (Some (tag_symbol_of (encode_utf8_all text))) None))
-        (Some []))
-    by true b = tt
-    by false true = (text, n, e, refl)
-    by false false = tt
-
-no_dot : (c : ℕ) → is_digit c ≡ true → (c == 46) ≡ false
-no_dot c e = grind (arith, nat_tests)
-
-leading_digit : (c : ℕ) → is_leading c ≡ true → (1 ≤ c - 48) × (is_digit c ≡ true)
-leading_digit c e = (grind (arith, nat_tests), grind (arith, nat_tests))
-
-both_true : (a b : Bool) → (a && b) ≡ true → (a ≡ true) × (b ≡ true)
-both_true true true e = (refl, refl)
-both_true true false e = absurd (let no : ⊥ = let q : ◌≡◌ {A = Bool} false true = e in cc in no)
-both_true false b e = absurd (let no : ⊥ = let q : ◌≡◌ {A = Bool} false true = e in cc in no)
-
--- the number of a text that is one
-number_of_text : (o : Option ℕ) (n : ℕ) → bounded 1 99 o ≡ Some n → (o ≡ Some n) × (n ≤ 99)
-number_of_text None n e = absurd (let no : ⊥ = cc in no)
-number_of_text (Some k) n e = let b = in_bounds 1 99 k n e in (ap Some b.0, b.1)
-
-pub link_sound : (text : List ℕ) (n : ℕ) → number_in 1 99 (Some text) ≡ Some n →
-    Opt IsLink (tags_of false text)
-link_sound [] n e = absurd (let no : ⊥ = cc in no)
-link_sound (a ∷ []) n e =
-    let d = digit_number (is_digit a) (a - 48) n (number_of_text (decimal (a ∷ [])) n e).0 in
-    subst (λ (b : Bool). Opt IsLink (tag_symbols false
-    (cond b ([] ∷ [] ∷ []) ((a ∷ []) ∷ [])))) (sym (no_dot a d.0)) (part_link (a ∷ []) n e)
-link_sound (a ∷ b ∷ []) n e =
-    let d = digit_number (is_leading a && is_digit b) ((a - 48) * 10 + (b - 48)) n
-    (number_of_text (decimal (a ∷ b ∷ [])) n e).0 in
-    let t = both_true (is_leading a) (is_digit b) d.0 in
-    subst (λ (x : Bool). Opt IsLink (tag_symbols false
-    (cond x ([] ∷ cond (b == 46) ([] ∷ [] ∷ []) ((b ∷ []) ∷ []))
-    (cond (b == 46) ((a ∷ []) ∷ [] ∷ []) ((a ∷ b ∷ []) ∷ [])))))
-    (sym (no_dot a (leading_digit a t.0).1))
-    (subst (λ (x : Bool). Opt IsLink (tag_symbols false
-    (cond x ((a ∷ []) ∷ [] ∷ []) ((a ∷ b ∷ []) ∷ [])))) (sym (no_dot b t.1))
-    (part_link (a ∷ b ∷ []) n e))
-link_sound (a ∷ b ∷ c ∷ []) n e =
-    let m = number_of_text (decimal (a ∷ b ∷ c ∷ [])) n e in
-    let d = digit_number (is_leading a && is_digit b && is_digit c)
-    ((a - 48) * 100 + (b - 48) * 10 + (c - 48)) n m.0 in
-    let t = both_true (is_leading a && is_digit b) (is_digit c) d.0 in
-    let u = both_true (is_leading a) (is_digit b) t.0 in
-    absurd (let no : ⊥ = omega (arith, d.1, m.1, (leading_digit a u.0).0) in no)
-link_sound (a ∷ b ∷ c ∷ d ∷ more) n e = absurd (let no : ⊥ = cc in no)
-
 -- what a scope lets be numbered
 pub record Counts : Type 0 where
   pub attributes : ℕ
@@ -249,15 +179,6 @@ part_sound content names part bound le =
     (content_sound content bound content refl)
     (opt_map (λ n. n < bound) P Attribute (number_of names.attrs part) (λ n h. h)
     (number_below names.attrs part bound le)))))))
-
--- a part and a link that stand together
-abbrev AreAlike : Bool → ℕ → Option (List Symbol) → ClipPart → Type 0
-AreAlike content bound link part = IsSoundPart (content && is_none link) bound part
-
-link_apart : (content : Bool) (bound : ℕ) (part : ClipPart) (word : List Symbol) →
-    IsSoundPart (content && false) bound part →
-    IsSoundPart (content && is_none (Some word)) bound part
-link_apart content bound part word h = h
 
 clip_with : (s : Scope) (n : Counts) (content : Bool) (given : List Pair) (o : Option (List ℕ)) →
     Fits s n → Opt (IsSoundClip (bounds s n) content)

@@ -12,7 +12,8 @@ use Rattle.ap_markup.specs.declared.elements.MarkupFault.{MarkupFault}
 use Rattle.ap_rules.specs.Children.{children}
 use Rattle.ap_rules.specs.Mistakes.{Fault, order_of, HasRootFault}
 use Rattle.ap_rules.specs.Plain.{PlainRules}
-use Rattle.ap_rules.specs.Spelling.{table_of, kind_of, rules_in}
+use Rattle.ap_rules.specs.SectionRows.{AreRules}
+use Rattle.ap_rules.specs.Spelling.{table_of, kind_of}
 use Rattle.ap_rules.specs.declared.refusal.RuleFault.{RuleFault}
 use Rattle.ap_rules.specs.declared.rules.Form.{Form}
 
@@ -30,13 +31,14 @@ HasOwnFault form root f = HasRootFault form (children root) f
 abbrev pub HasAnyFault : Form → Parts → Fault → Type 0
 HasAnyFault form whole f = HasNotationFault form whole f ⊎ HasOwnFault form (pruned 200 whole) f
 
--- The text is these rules: it spells a tree without fault, and these are the tree's rules.
+-- The text is these rules: it spells a tree without fault, whose elements are these rules by the
+-- table, each by its row.
 pub record SpellsRules (form : Form) (text : List ℕ) (r : PlainRules) : Type 0 where
   pub whole : Parts
   pub utf8 : IsUtf8 text
   pub spelled : SpellsText text whole
   pub faultless : (f : Fault) → HasAnyFault form whole f → ⊥
-  pub value : r ≡ rules_in form (children (pruned 200 whole))
+  pub rules : AreRules form (children (pruned 200 whole)) r
 
 -- The text spells a tree, and this is the least of its faults, with the line of its place.
 pub record HasFirstFault (form : Form) (text : List ℕ) (fault : RuleFault) : Type 0 where

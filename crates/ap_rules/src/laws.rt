@@ -1,8 +1,12 @@
 ghost use Rattle.std.specs.Prelude.{◌≡◌, ℕ, List};
-ghost use Rattle.ap_rules.specs.Children.{Children};
+ghost use Rattle.ap_markup.specs.Deep.{pruned};
+ghost use Rattle.ap_markup.specs.Forms.{SpellsText};
+ghost use Rattle.ap_markup.specs.Tree.{Parts};
+ghost use Rattle.ap_rules.specs.Children.{Children, children};
+ghost use Rattle.ap_rules.specs.Mistakes.{Fault};
 ghost use Rattle.ap_rules.specs.Plain.{PlainRules};
 ghost use Rattle.ap_rules.specs.SectionRows.{AreRules};
-ghost use Rattle.ap_rules.specs.Sentences.{SpellsRules, IsRefusedFor};
+ghost use Rattle.ap_rules.specs.Sentences.{HasAnyFault, SpellsRules, IsRefusedFor};
 ghost use Rattle.ap_rules.specs.Soundness.{IsSound};
 ghost use Rattle.ap_rules.specs.Spelling.{Spells, IsFirstFault, rules_in};
 ghost use Rattle.ap_rules.specs.Worded.{AreWorded};
@@ -28,9 +32,12 @@ pub fn refuses_by_the_first_fault()
         IsFirstFault form text f }
 {}
 
-/// The law of rows. A tree whose elements are these rules by the table, each by its row and none
-/// passed over, is read as them and no others.
+/// The law of rows. Every tree without fault is some rules by the table, each element by its row
+/// and none passed over; and a tree that is these rules by the table is read as them and no others.
 pub fn reads_each_row()
+    ensures every { (form : Form) (text : List ℕ) (whole : Parts) → SpellsText text whole →
+        ((f : Fault) → HasAnyFault form whole f → ⊥) →
+        (r : PlainRules) × AreRules form (children (pruned 200 whole)) r }
     ensures read { (form : Form) (tree : Children) (r : PlainRules) → AreRules form tree r →
         rules_in form tree ≡ r }
     ensures one { (form : Form) (tree : Children) (q r : PlainRules) → AreRules form tree q →
