@@ -1,3 +1,4 @@
+-- Of the inside: no public contract stands on this file.
 -- Where one standard entry alone reads a surface, in one way.
 use Rattle.std.specs.Prelude.{◌≡◌, ℕ, Bool, List, [], ◌++◌}
 use Rattle.ap_symbol.specs.declared.symbol.Symbol.{Symbol}

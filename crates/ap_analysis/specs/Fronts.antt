@@ -1,3 +1,4 @@
+-- Of the inside: no public contract stands on this file.
 -- Steps that are known by the bytes at the front of a text, each of which is an item by itself.
 use Rattle.std.specs.Prelude.{◌≡◌, ℕ, ◌<◌, ◌≤◌, Bool, true, List, ◌++◌, map, length, take}
 use Rattle.ap_stream.specs.Bare.{bare_item, bare_items, bare_run}

@@ -1,3 +1,4 @@
+-- Of the inside: no public contract stands on this file.
 -- Surfaces of small letters are not read into a word.
 use Rattle.std.specs.Prelude.{◌≡◌, ◌⊎◌, ℕ, Bool, true, false, List, [], ◌≤◌, length, take}
 use Rattle.ap_symbol.specs.Recasing.{case_of_lem}

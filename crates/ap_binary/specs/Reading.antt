@@ -1,3 +1,4 @@
+-- Of the inside: no public contract stands on this file.
 -- Reading from left to right: a value and the bytes behind it, or none.
 use Rattle.std.specs.Prelude.{◌≡◌, Option, Some, None, Result, Ok, Err}
 use Rattle.ap_binary.specs.declared.refusal.CutError.{CutError}

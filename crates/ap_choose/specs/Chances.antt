@@ -1,3 +1,4 @@
+-- Of the inside: no public contract stands on this file.
 -- The readings of a unit by the numbers of their first tags: of those with one number the first
 -- alone counts.
 use Rattle.std.specs.Prelude.{◌≡◌, ◌⊎◌, ℕ, Bool, true, false, eqb, List, [], ◌∷◌, ◌++◌, Option, Some, None}

@@ -1,3 +1,4 @@
+-- Of the inside: no public contract stands on this file.
 -- How a choice is found: backwards over the units, which of their readings can go on to the end,
 -- and then forwards, the
 -- first that may follow.

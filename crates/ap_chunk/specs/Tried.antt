@@ -1,3 +1,4 @@
+-- Of the inside: no public contract stands on this file.
 -- Tags with stars, tried from the left: how far a trial is.
 use Rattle.std.specs.Prelude.{◌≡◌, ℕ, ◌+◌, ◌-◌, ◌*◌, ◌≤◌, Bool, true, false, ◌||◌, List, length, drop, Option, Some, None, cond}
 use Rattle.ap_symbol.specs.declared.symbol.Symbol.{Symbol}

@@ -1,3 +1,4 @@
+-- Of the inside: no public contract stands on this file.
 -- Entries gathered by the parts that they end with.
 use Rattle.std.specs.Prelude.{◌≡◌, ◌↔◌, ◌⊎◌, ℕ, IsTrue, List, [], ◌∷◌, ◌++◌, Some, map, slice_get}
 use Rattle.std.specs.List.{list_all}

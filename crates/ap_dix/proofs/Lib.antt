@@ -1,3 +1,4 @@
+pub mod CodeLaws
 pub mod Walks
 pub mod Runs
 pub mod CutLaws

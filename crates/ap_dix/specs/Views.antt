@@ -1,3 +1,4 @@
+-- Of the inside: no public contract stands on this file.
 -- What the states of the reading of an expression stand for.
 use Rattle.std.specs.Prelude.{map, reverse}
 use Rattle.std.specs.Option.{option_map}

@@ -1,3 +1,4 @@
+-- Of the inside: no public contract stands on this file.
 -- Words that begin with a tag.
 use Rattle.std.specs.Prelude.{◌≡◌, ℕ, List, ◌∷◌}
 use Rattle.ap_symbol.specs.declared.symbol.Symbol.{Symbol}

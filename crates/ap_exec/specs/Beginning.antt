@@ -1,3 +1,4 @@
+-- Of the inside: no public contract stands on this file.
 -- What a run of a rule begins with, one after another.
 use Rattle.std.specs.Prelude.{ℕ, List, [], ◌∷◌, Bool, true, false, Option, Some, None}
 use Rattle.ap_symbol.specs.declared.symbol.Symbol.{Symbol}

@@ -1,3 +1,4 @@
+-- Of the inside: no public contract stands on this file.
 -- Which statements a choice runs.
 use Rattle.std.specs.Prelude.{Bool, true, false, Ok}
 use Rattle.ap_rules.specs.Plain.{PlainStatements, PlainWhens, no_whens, then_when}

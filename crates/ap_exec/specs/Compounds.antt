@@ -1,3 +1,4 @@
+-- Of the inside: no public contract stands on this file.
 -- Words joined one after another.
 use Rattle.std.specs.Prelude.{List, [], ◌∷◌, ◌++◌}
 use Rattle.ap_symbol.specs.declared.symbol.Symbol.{Symbol}

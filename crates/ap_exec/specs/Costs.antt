@@ -1,3 +1,4 @@
+-- Of the inside: no public contract stands on this file.
 -- How many steps there may be to run, for the proof that a run ends: each call counts with all that
 -- it calls.
 use Rattle.std.specs.Prelude.{ℕ, zero, suc, ◌+◌, ◌==◌, if◌then◌else◌}

@@ -1,3 +1,4 @@
+-- Of the inside: no public contract stands on this file.
 use Rattle.ap_exec.specs.Parts.{Span}
 use Rattle.ap_exec.specs.declared.clips.Range.{Range}
 

@@ -1,3 +1,4 @@
+-- Of the inside: no public contract stands on this file.
 -- What becomes of letters when a word is put into a case.
 use Rattle.std.specs.Prelude.{ℕ, Bool, true, false, List, [], ◌∷◌}
 use Rattle.ap_symbol.specs.Case.{lower_lem, upper_lem}

@@ -1,3 +1,4 @@
+-- Of the inside: no public contract stands on this file.
 -- What a variable holds before it is set.
 use Rattle.std.specs.Prelude.{◌≡◌, Ok, slice_get}
 use Rattle.ap_rules.specs.Plain.{PlainValue}

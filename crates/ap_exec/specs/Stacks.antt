@@ -1,3 +1,4 @@
+-- Of the inside: no public contract stands on this file.
 -- What a stack of frames stands for: the innermost frame is run first, and then those below it.
 use Rattle.std.specs.Prelude.{◌≡◌, ℕ, ◌+◌, ◌-◌, ◌≤◌, List, [], ◌∷◌, length, take, drop, Option, Result, Ok, Err}
 use Rattle.ap_rules.specs.Plain.{PlainStatement, PlainStatements, statements_of}

@@ -1,3 +1,4 @@
+-- Of the inside: no public contract stands on this file.
 -- What the state of a run stands for.
 use Rattle.std.specs.Prelude.{List, [], ◌∷◌, map, Option, Some, None}
 use Rattle.ap_symbol.specs.declared.symbol.Symbol.{Symbol}

@@ -1,3 +1,4 @@
+-- Of the inside: no public contract stands on this file.
 use Rattle.std.specs.Prelude.{◌≡◌, ℕ, ◌≤◌, Bool, List, [], ◌∷◌, ◌++◌, Option, Some, None, length}
 use Rattle.ap_symbol.specs.Rendering.{rendering}
 use Rattle.ap_dix.specs.declared.dictionary.EntryPart.{EntryPart}

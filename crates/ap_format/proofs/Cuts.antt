@@ -6,14 +6,16 @@ use Rattle.std.proofs.lemmas.List.{append-nil}
 use Rattle.std.proofs.Math.Seq.{drop-append_seam, take-append_seam}
 use Rattle.ap_symbol.specs.Rendering.{letter_bytes, is_escaped_lem}
 use Rattle.ap_stream.specs.Blanks.{is_white}
-use Rattle.ap_stream.specs.Chars.{Front, Part, NotChar, Char, char_at, char_stays, is_tail, is_second}
+use Rattle.ap_stream.specs.Chars.{Front, Part, NotChar, Char, char_at, is_tail, is_second}
+use Rattle.ap_stream.proofs.CharLaws.{char_stays}
 use Rattle.ap_stream.specs.Reading.{counted}
 use Rattle.ap_stream.specs.Told.{Told, Ending, Clean, Cut, behind, ends_in}
 use Rattle.ap_stream.specs.declared.fault.StreamFault.TheVariants.{Malformed, Limit}
 use Rattle.ap_stream.specs.declared.fault.MalformedKind.TheVariants.{NotUtf8, Unfinished}
 use Rattle.ap_stream.specs.declared.fault.LimitKind.TheVariants.{ItemTooLong}
 use Rattle.ap_stream.proofs.Cut.{char_bytes}
-use Rattle.ap_format.specs.Pieces.{Piece, Run, Letter, Pieces, nothing, stopped, followed, run_max, run_max_is, white_size, cut, pieces_of}
+use Rattle.ap_format.specs.Pieces.{Piece, Run, Letter, Pieces, nothing, stopped, followed, run_max, white_size, cut, pieces_of}
+use Rattle.ap_format.proofs.PieceLaws.{run_max_is}
 use Rattle.ap_format.specs.Deformatted.{piece_bytes, written, des_from}
 use Rattle.ap_format.specs.Standing.{IsWhite, IsBare, AreCopied}
 use Rattle.ap_format.proofs.Runs.{white_parts, white_more, first_dark, dark_front, white_low}

@@ -1,3 +1,4 @@
+pub mod PieceLaws
 pub mod Runs
 pub mod Cuts
 pub mod Bare

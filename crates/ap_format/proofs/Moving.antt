@@ -5,7 +5,8 @@ use Rattle.std.specs.Result.{IfOk}
 use Rattle.std.proofs.lemmas.List.{append-nil, take-take, length-take, length-take-le, take-append-drop, drop-drop}
 use Rattle.ap_symbol.specs.Rendering.{letter_bytes, is_escaped_lem}
 use Rattle.ap_stream.specs.Blanks.{is_white}
-use Rattle.ap_stream.specs.Chars.{Part, NotChar, Char, char_at, char_length}
+use Rattle.ap_stream.specs.Chars.{Part, NotChar, Char, char_at}
+use Rattle.ap_stream.proofs.CharLaws.{char_length}
 use Rattle.ap_stream.specs.Limits.{unit_max}
 use Rattle.ap_stream.specs.Reading.{counted}
 use Rattle.ap_stream.specs.Told.{Ending, Clean, silent, behind, ends_in}
@@ -13,7 +14,8 @@ use Rattle.ap_stream.specs.declared.fault.StreamFault.{StreamFault}
 use Rattle.ap_stream.specs.declared.fault.StreamFault.TheVariants.{Malformed, Limit}
 use Rattle.ap_stream.specs.declared.fault.MalformedKind.TheVariants.{NotUtf8, Unfinished}
 use Rattle.ap_stream.specs.declared.fault.LimitKind.TheVariants.{ItemTooLong}
-use Rattle.ap_format.specs.Pieces.{Pieces, run_max, run_max_is, white_size}
+use Rattle.ap_format.specs.Pieces.{Pieces, run_max, white_size}
+use Rattle.ap_format.proofs.PieceLaws.{run_max_is}
 use Rattle.ap_format.specs.Deformatted.{is_space, run_bytes, written, des_from, Uncut, Deformatting, des_rest, des_rest_from}
 use Rattle.ap_format.specs.declared.cutter.Begun.TheVariants as begun
 use Rattle.ap_format.specs.Standing.{IsWhite, Stands, Stops, Cuts, Closes, AreCopied, kind_of_white}

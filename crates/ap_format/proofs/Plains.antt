@@ -11,14 +11,18 @@ use Rattle.ap_symbol.specs.Coded.{IsCode}
 use Rattle.ap_stream.specs.declared.dialect.Dialect.TheVariants.{Generated}
 use Rattle.ap_stream.specs.declared.item.Item.{Item}
 use Rattle.ap_stream.specs.declared.item.Item.TheVariants as item
-use Rattle.ap_stream.specs.Blanks.{is_white, begins_blank, blank, closes, escapes, further, further_further}
+use Rattle.ap_stream.specs.Blanks.{is_white, begins_blank, blank, closes, escapes, further}
+use Rattle.ap_stream.proofs.BlankLaws.{further_further}
 use Rattle.ap_stream.specs.Chars.{Char, char_at}
 use Rattle.ap_stream.specs.Dialects.{is_reserved_generated}
-use Rattle.ap_stream.specs.Limits.{item_max, item_max_is}
-use Rattle.ap_stream.specs.Limited.{limited_decided}
-use Rattle.ap_stream.specs.Reading.{Whole, plain, Reads, reads, reads_whole, read_at, followed, counted}
-use Rattle.ap_stream.specs.Stands.{InBlank, Within, begin_white, begin_bracket, blank_first, escaped_whole, within_char}
-use Rattle.ap_stream.specs.Step.{nothing_part}
+use Rattle.ap_stream.specs.Limits.{item_max}
+use Rattle.ap_stream.proofs.LimitLaws.{item_max_is}
+use Rattle.ap_stream.proofs.LimitedLaws.{limited_decided}
+use Rattle.ap_stream.specs.Reading.{Whole, plain, Reads, reads, read_at, followed, counted}
+use Rattle.ap_stream.proofs.ReadingLaws.{reads_whole}
+use Rattle.ap_stream.specs.Stands.{InBlank, Within, blank_first}
+use Rattle.ap_stream.proofs.StandLaws.{begin_white, begin_bracket, escaped_whole, within_char}
+use Rattle.ap_stream.proofs.ByteLaws.{nothing_part}
 use Rattle.ap_stream.specs.Rest.{worked}
 use Rattle.ap_stream.specs.Told.{Ending, behind}
 use Rattle.ap_stream.proofs.Cut.{char_size, char_bytes, char_code, char_cut}

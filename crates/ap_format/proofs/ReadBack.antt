@@ -14,17 +14,22 @@ use Rattle.ap_stream.specs.declared.dialect.Dialect.TheVariants.{Raw, Generated}
 use Rattle.ap_stream.specs.declared.item.Item.{Item}
 use Rattle.ap_stream.specs.declared.item.Item.TheVariants as item
 use Rattle.ap_stream.specs.declared.item.Read.{Read}
-use Rattle.ap_stream.specs.Blanks.{Run, Open, Close, is_white, begins_blank, blank, blank_bracket, blank_at, further, further_further, behind_close}
+use Rattle.ap_stream.specs.Blanks.{Run, Open, Close, is_white, begins_blank, blank, further, behind_close}
+use Rattle.ap_stream.proofs.BlankLaws.{blank_bracket, blank_at, further_further}
 use Rattle.ap_stream.specs.Dialects.{is_refused, has_units}
-use Rattle.ap_stream.specs.Limits.{item_max, item_max_is}
-use Rattle.ap_stream.specs.Limited.{limited_within, limited_decided, limited_past}
-use Rattle.ap_stream.specs.Reading.{Needs, Whole, Complete, at_end, first, last, limited, at_limit, Reads, reads, reads_nil, reads_whole, reads_needs, followed, read_at, counted, plain}
-use Rattle.ap_stream.specs.Stands.{Always, InBlank, begin_white, blank_ends, blank_first, escaped_whole}
+use Rattle.ap_stream.specs.Limits.{item_max}
+use Rattle.ap_stream.proofs.LimitLaws.{item_max_is}
+use Rattle.ap_stream.proofs.LimitedLaws.{limited_within, limited_decided, limited_past}
+use Rattle.ap_stream.specs.Reading.{Needs, Whole, Complete, at_end, first, last, limited, at_limit, Reads, reads, followed, read_at, counted, plain}
+use Rattle.ap_stream.proofs.ReadingLaws.{reads_nil, reads_whole, reads_needs}
+use Rattle.ap_stream.specs.Stands.{Always, InBlank, blank_first}
+use Rattle.ap_stream.proofs.StandLaws.{begin_white, blank_ends, escaped_whole}
 use Rattle.ap_stream.specs.Pieces.{IsToBracket, closed, bare}
 use Rattle.ap_stream.specs.Told.{behind}
 use Rattle.ap_stream.proofs.Fronts.{IsFree, alone, alone_some, free_whole, free_blank, to_bracket}
 use Rattle.ap_format.specs.declared.blanks.Spot.TheVariants as spot
-use Rattle.ap_format.specs.Pieces.{Pieces, run_max_is, white_size}
+use Rattle.ap_format.specs.Pieces.{Pieces, white_size}
+use Rattle.ap_format.proofs.PieceLaws.{run_max_is}
 use Rattle.ap_format.specs.Deformatted.{is_space, run_bytes, piece_bytes}
 use Rattle.ap_format.specs.Reformatted.{bare_blank, bare_item, bare_items}
 use Rattle.ap_format.specs.Standing.{IsWhite}

@@ -21,7 +21,8 @@ use Rattle.ap_stream.specs.declared.fault.MalformedKind.TheVariants.{NotUtf8, Un
 use Rattle.ap_stream.specs.declared.fault.LimitKind.TheVariants.{ItemTooLong}
 use Rattle.ap_stream.proofs.Back.{char_back}
 use Rattle.ap_stream.proofs.Cut.{char_size, char_bytes, char_code, first_byte}
-use Rattle.ap_format.specs.Pieces.{Piece, Run, Letter, Pieces, nothing, stopped, followed, run_max, run_max_is, white_size, cut, pieces_of, of_run, of_char}
+use Rattle.ap_format.specs.Pieces.{Piece, Run, Letter, Pieces, nothing, stopped, followed, run_max, white_size, cut, pieces_of, of_run, of_char}
+use Rattle.ap_format.proofs.PieceLaws.{run_max_is}
 use Rattle.ap_format.specs.Standing.{IsWhite}
 use Rattle.ap_format.specs.Laws.{IsPlainText}
 use Rattle.ap_format.proofs.Runs.{white_dark, white_step, white_take, white_within, white_parts, white_low}

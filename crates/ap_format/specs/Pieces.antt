@@ -1,6 +1,6 @@
 -- The pieces of a plain text, and what stops it: each piece is a maximal run of white space, or a
 -- character that is none. Places are in bytes.
-use Rattle.std.specs.Prelude.{ℕ, zero, suc, ◌+◌, ◌-◌, pred, nat_lt, cond, if◌then◌else◌, List, [], ◌∷◌, take, Option, Some, None, ◌≡◌, refl}
+use Rattle.std.specs.Prelude.{ℕ, zero, suc, ◌+◌, ◌-◌, pred, nat_lt, cond, if◌then◌else◌, List, [], ◌∷◌, take, Option, Some, None}
 use Rattle.ap_stream.specs.Blanks.{is_white}
 use Rattle.ap_stream.specs.Chars.{Front, Part, NotChar, Char, char_at}
 use Rattle.ap_stream.specs.Limits.{unit_max}
@@ -31,10 +31,6 @@ followed piece more = record { pieces = piece ∷ more.pieces; stop = more.stop 
 -- the most bytes of a run of white space: between brackets it is an item of the stream
 unfoldable pub run_max : ℕ
 run_max = unit_max - 2
-
-pub run_max_is : run_max ≡ unit_max - 2
-unfolding run_max
-run_max_is = refl
 
 -- how many bytes of white space stand at the front
 unfoldable pub white_size : List ℕ → ℕ

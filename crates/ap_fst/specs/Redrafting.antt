@@ -1,3 +1,4 @@
+-- Of the inside: no public contract stands on this file.
 use Rattle.std.specs.Prelude.{ℕ, ◌+◌, List, ◌∷◌, ◌++◌, None, Some, map}
 use Rattle.ap_fst.specs.Machines.{Machine}
 use Rattle.ap_fst.specs.declared.draft.Move.{Move}

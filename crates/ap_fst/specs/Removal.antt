@@ -1,3 +1,4 @@
+-- Of the inside: no public contract stands on this file.
 use Rattle.std.specs.Prelude.{◌++◌, ◌≡◌, ◌⊎◌, ℕ, List, [], ◌∷◌, Bool, not, false, Some, slice_get}
 use Rattle.std.specs.Option.{is_some}
 use Rattle.ap_fst.specs.Lists.{IsIn}

@@ -1,3 +1,4 @@
+-- Of the inside: no public contract stands on this file.
 -- The paths from the start to a state, gone back from there, and what edges write.
 use Rattle.std.specs.Prelude.{◌≡◌, ℕ, List, [], ◌∷◌, ◌++◌, Option, Some, None, slice_get}
 use Rattle.std.specs.List.{flat_map}

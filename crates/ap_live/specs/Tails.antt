@@ -1,3 +1,4 @@
+-- Of the inside: no public contract stands on this file.
 use Rattle.std.specs.Prelude.{◌≡◌, ℕ, Bool, true, List, [], ◌∷◌, ◌++◌, Some, None, slice_get}
 use Rattle.std.specs.Option.{option_to_list}
 use Rattle.ap_symbol.specs.declared.symbol.Symbol.{Symbol}

@@ -1,3 +1,4 @@
+-- Of the inside: no public contract stands on this file.
 use Rattle.std.specs.Prelude.{◌≡◌, ℕ, ◌<◌, List, [], Some, length, All, slice_index, slice_get}
 use Rattle.ap_fst.specs.Lists.{IsIn}
 use Rattle.ap_min.specs.declared.rows.Arc.{Arc}

@@ -1,3 +1,4 @@
+-- Of the inside: no public contract stands on this file.
 -- What of the files of a system stands on more than one call of it.
 use Rattle.std.specs.Prelude.{◌≡◌, ℕ, List, Option, Result, Ok}
 use Rattle.std.specs.Io.KnownBytes.{Appends}

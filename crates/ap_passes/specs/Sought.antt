@@ -1,3 +1,4 @@
+-- Of the inside: no public contract stands on this file.
 -- What is sought in a word, as a test.
 use Rattle.std.specs.Prelude.{Bool}
 use Rattle.ap_symbol.specs.Kinds.{is_tag, is_queue, is_joint}

@@ -1,3 +1,4 @@
+-- Of the inside: no public contract stands on this file.
 -- Words as units behind those that stand already.
 use Rattle.std.specs.Prelude.{ℕ, Bool, true, false, List}
 use Rattle.std.specs.List.{flat_map}

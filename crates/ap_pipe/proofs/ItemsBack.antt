@@ -6,16 +6,20 @@ use Rattle.std.proofs.lemmas.Bool.Decides.{nat_tests}
 use Rattle.std.proofs.lemmas.List.{append-nil}
 use Rattle.std.proofs.Math.Seq.{take-append_seam, drop-append_seam, drop-length}
 use Rattle.ap_symbol.specs.Coded.{IsCode}
-use Rattle.ap_stream.specs.AtEnd.{begun_blank}
+use Rattle.ap_stream.proofs.AtEndLaws.{begun_blank}
 use Rattle.ap_stream.specs.Blanks.{is_white}
-use Rattle.ap_stream.specs.Given.{gives_whole}
+use Rattle.ap_stream.proofs.GivenLaws.{gives_whole}
 use Rattle.ap_stream.specs.Laws.{AreWords, IsBlank}
-use Rattle.ap_stream.specs.Limited.{limited_within, limited_decided, limited_past, Surely}
-use Rattle.ap_stream.specs.Limits.{unit_max, item_max, item_max_is}
+use Rattle.ap_stream.specs.Limited.{Surely}
+use Rattle.ap_stream.proofs.LimitedLaws.{limited_within, limited_decided, limited_past}
+use Rattle.ap_stream.specs.Limits.{unit_max, item_max}
+use Rattle.ap_stream.proofs.LimitLaws.{item_max_is}
 use Rattle.ap_stream.specs.Pieces.{is_bare}
-use Rattle.ap_stream.specs.Reading.{Whole, Needs, Reads, first, limited, reads, reads_nil, reads_whole, reads_needs, read_at, followed, counted, at_end, nothing}
+use Rattle.ap_stream.specs.Reading.{Whole, Needs, Reads, first, limited, reads, read_at, followed, counted, at_end, nothing}
+use Rattle.ap_stream.proofs.ReadingLaws.{reads_nil, reads_whole, reads_needs}
 use Rattle.ap_stream.specs.Spelling.{spelled}
-use Rattle.ap_stream.specs.Stands.{Always, InBlank, blank_first, blank_ends, escaped_whole}
+use Rattle.ap_stream.specs.Stands.{Always, InBlank, blank_first}
+use Rattle.ap_stream.proofs.StandLaws.{blank_ends, escaped_whole}
 use Rattle.ap_stream.specs.declared.dialect.Dialect.{Dialect}
 use Rattle.ap_stream.specs.declared.item.Item.{Item}
 use Rattle.ap_stream.specs.declared.item.Item.TheVariants as item

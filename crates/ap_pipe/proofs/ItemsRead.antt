@@ -7,13 +7,15 @@ use Rattle.std.proofs.lemmas.List.{append-nil, length-take, take-take}
 use Rattle.std.proofs.lemmas.Str.{length-encode, len_utf8_bounds}
 use Rattle.ap_symbol.specs.Kinds.{first_word}
 use Rattle.ap_symbol.specs.declared.symbol.Symbol.{Symbol}
-use Rattle.ap_stream.specs.Blanks.{Run, Open, Inside, BadChar, Done, blank, begins_blank, blank_some}
+use Rattle.ap_stream.specs.Blanks.{Run, Open, Inside, BadChar, Done, blank, begins_blank}
+use Rattle.ap_stream.proofs.BlankLaws.{blank_some}
 use Rattle.ap_stream.specs.Chars.{Front, Part, NotChar, Char, char_at}
 use Rattle.ap_stream.specs.Chunks.{Body, Opens, Fails, Closes, body}
 use Rattle.ap_stream.specs.Dialects.{is_refused, has_chunks}
 use Rattle.ap_stream.specs.Each.{each, item_text, is_over}
 use Rattle.ap_stream.specs.Laws.{AreWords, IsBlank}
-use Rattle.ap_stream.specs.Limits.{unit_max, item_max, item_max_is}
+use Rattle.ap_stream.specs.Limits.{unit_max, item_max}
+use Rattle.ap_stream.proofs.LimitLaws.{item_max_is}
 use Rattle.ap_stream.specs.Reading.{First, Needs, Whole, Faulty, Bad, Past, first, last, Broken, last_run, begins_unit, of_run, of_escaped, of_char, of_unit, of_caret, of_chunk, of_body, plain as plain_item, limited, at_limit, past, walk, walked, reads, at_end, counted}
 use Rattle.ap_stream.specs.Spelling.{spelled, character_bytes, unit_bytes}
 use Rattle.ap_stream.specs.Stands.{blank_first}

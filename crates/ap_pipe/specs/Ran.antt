@@ -1,3 +1,4 @@
+-- Of the inside: no public contract stands on this file.
 -- A row in which stages had turns and bytes went on.
 use Rattle.std.specs.Prelude.{List, Bool}
 use Rattle.ap_stream.specs.declared.stage.Stage.{Ghosts}

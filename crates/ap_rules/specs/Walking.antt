@@ -1,3 +1,4 @@
+-- Of the inside: no public contract stands on this file.
 -- What the walk over a tree keeps.
 use Rattle.ap_rules.specs.Faults.{Around}
 use Rattle.ap_rules.specs.declared.faults.Around.{Around as Held}

@@ -7,7 +7,8 @@ use Rattle.std.proofs.lemmas.List.{length-drop, take-append-drop}
 use Rattle.std.proofs.lemmas.Str.{encode_ascii}
 use Rattle.std.proofs.Math.Seq.{take-add, drop-append_seam}
 use Rattle.ap_symbol.specs.Coded.{IsCode}
-use Rattle.ap_stream.specs.Blanks.{Run, Open, Inside, BadChar, Done, further, further_further, further_zero, behind_close, blank, Close, Within, Bad, Closed, closing, closing_by, closes, escapes, longer, is_white, begins_blank, blank_white, blank_bracket, blank_at}
+use Rattle.ap_stream.specs.Blanks.{Run, Open, Inside, BadChar, Done, further, behind_close, blank, Close, Within, Bad, Closed, closing, closing_by, closes, escapes, longer, is_white, begins_blank}
+use Rattle.ap_stream.proofs.BlankLaws.{further_further, further_zero, blank_white, blank_bracket, blank_at}
 use Rattle.ap_stream.specs.Chars.{Front, Part, NotChar, Char, char_at}
 use Rattle.ap_stream.specs.Notation.{IsToBracket, closed, bare, escaped, AreBlanks, none, space, bracketed, IsBlankText}
 use Rattle.ap_stream.specs.Stands.{blank_first}

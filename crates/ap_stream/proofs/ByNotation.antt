@@ -6,7 +6,7 @@ use Rattle.ap_symbol.specs.declared.symbol.Symbol.{Symbol}
 use Rattle.ap_stream.specs.declared.dialect.Dialect.{Dialect}
 use Rattle.ap_stream.specs.declared.item.Chunk.{Chunk}
 use Rattle.ap_stream.specs.declared.item.Item.TheVariants as item
-use Rattle.ap_stream.specs.InUnits.{unit_always}
+use Rattle.ap_stream.proofs.InUnitLaws.{unit_always}
 use Rattle.ap_stream.specs.Laws.{AreWords, UnitsAreRead, ReadAreUnits, AreOneUnit, ChunksAreRead, ReadAreChunks, AreOneChunk}
 use Rattle.ap_stream.specs.Notation.{IsUnitText}
 use Rattle.ap_stream.specs.Reading.{Whole, first}

@@ -14,13 +14,17 @@ use Rattle.ap_stream.specs.declared.item.Chunk.{Chunk}
 use Rattle.ap_stream.specs.declared.item.Inner.{Inner}
 use Rattle.ap_stream.specs.declared.item.Inner.TheVariants as inner
 use Rattle.ap_stream.specs.declared.item.Item.TheVariants as item
-use Rattle.ap_stream.specs.Blanks.{Run, Open, Inside, BadChar, Done, blank, further, further_further, blank_white, blank_bracket, blank_done, blank_skip, begins_blank, is_white, Close, Within, Bad, Closed, closing, closing_by, closes, escapes, longer, behind_close, blank_some}
+use Rattle.ap_stream.specs.Blanks.{Run, Open, Inside, BadChar, Done, blank, further, begins_blank, is_white, Close, Within, Bad, Closed, closing, closing_by, closes, escapes, longer, behind_close}
+use Rattle.ap_stream.proofs.BlankLaws.{further_further, blank_white, blank_bracket, blank_done, blank_skip, blank_some}
 use Rattle.ap_stream.specs.Chars.{Front, Part, NotChar, Char, char_at}
-use Rattle.ap_stream.specs.Units.{form_of, Ends, rest, rest_brace, longer as later}
+use Rattle.ap_stream.specs.Units.{form_of, Ends, rest, longer as later}
+use Rattle.ap_stream.proofs.UnitLaws.{rest_brace}
 use Rattle.ap_stream.specs.UnitBytes.{UnitOf}
-use Rattle.ap_stream.specs.Chunks.{Held, portion, Body, Opens, Fails, Closes, behind_part, closed, body, body_skip, body_brace, wrong_byte}
-use Rattle.ap_stream.specs.InUnits.{unit_always, first_caret}
-use Rattle.ap_stream.specs.InChunks.{part_first, portion_of, part_agrees, part_on, part_some, body_held}
+use Rattle.ap_stream.specs.Chunks.{Held, portion, Body, Opens, Fails, Closes, behind_part, closed, body, wrong_byte}
+use Rattle.ap_stream.proofs.ChunkLaws.{body_skip, body_brace}
+use Rattle.ap_stream.proofs.InUnitLaws.{unit_always, first_caret}
+use Rattle.ap_stream.specs.InChunks.{part_first, portion_of}
+use Rattle.ap_stream.proofs.InChunkLaws.{part_agrees, part_on, part_some, body_held}
 use Rattle.ap_stream.specs.Laws.{AreSpelt, IsBlank, NoBlankFirst, AreParts}
 use Rattle.ap_stream.specs.Notation.{IsContentText, IsChunkText}
 use Rattle.ap_symbol.specs.Kinds.{first_word}

@@ -10,14 +10,16 @@ use Rattle.ap_stream.specs.declared.item.Inner.{Inner}
 use Rattle.ap_stream.specs.declared.item.Inner.TheVariants as inner
 use Rattle.ap_stream.specs.declared.item.Item.TheVariants as item
 use Rattle.ap_stream.specs.ChunkBytes.{ChunkOf}
-use Rattle.ap_stream.specs.Chunks.{Closes, behind_part, body, body_skip, body_brace}
-use Rattle.ap_stream.specs.InUnits.{first_caret}
+use Rattle.ap_stream.specs.Chunks.{Closes, behind_part, body}
+use Rattle.ap_stream.proofs.ChunkLaws.{body_skip, body_brace}
+use Rattle.ap_stream.proofs.InUnitLaws.{first_caret}
 use Rattle.ap_stream.specs.Laws.{AreSpelt, AreParts}
 use Rattle.ap_stream.specs.Notation.{IsContentText, IsChunkText, NoBlankFirst}
 use Rattle.ap_stream.specs.Reading.{Whole, first, of_chunk, of_body}
 use Rattle.ap_stream.specs.Spelling.{chunk_bytes}
 use Rattle.ap_stream.specs.Stands.{blank_first}
-use Rattle.ap_stream.specs.Units.{form_of, Ends, rest, rest_brace, longer}
+use Rattle.ap_stream.specs.Units.{form_of, Ends, rest, longer}
+use Rattle.ap_stream.proofs.UnitLaws.{rest_brace}
 use Rattle.ap_stream.proofs.BlankTexts.{blanks_on, text_begins}
 use Rattle.ap_stream.proofs.ChunkCut.{unit_body, run_body, chunk_cut, chunk_back}
 use Rattle.ap_stream.proofs.UnitTexts.{text_unit, word_on}

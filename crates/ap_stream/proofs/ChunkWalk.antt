@@ -11,12 +11,15 @@ use Rattle.ap_stream.specs.declared.item.Chunk.{Chunk}
 use Rattle.ap_stream.specs.declared.item.Inner.{Inner}
 use Rattle.ap_stream.specs.declared.item.Inner.TheVariants as inner
 use Rattle.ap_stream.specs.declared.item.Item.TheVariants as item
-use Rattle.ap_stream.specs.Blanks.{Run, Open, Inside, BadChar, Done, blank, further, further_further, inside, blank_white, blank_bracket, blank_done, blank_skip, begins_blank, is_white, Close, Within, Bad, Closed, closing, behind_close, blank_some}
+use Rattle.ap_stream.specs.Blanks.{Run, Open, Inside, BadChar, Done, blank, further, inside, begins_blank, is_white, Close, Within, Bad, Closed, closing, behind_close}
+use Rattle.ap_stream.proofs.BlankLaws.{further_further, blank_white, blank_bracket, blank_done, blank_skip, blank_some}
 use Rattle.ap_stream.specs.Chars.{Front, Part, NotChar, Char, char_at}
 use Rattle.ap_stream.specs.Dialects.{is_refused}
-use Rattle.ap_stream.specs.Units.{form_of, Name, Runs, Breaks, Stops, name, Sign, Awaits, Bars, Reads, Slash, Dollar, Brace, sign, of_name, of_escape, of_bare, bare_of, is_barred, may_end, early, Rest, Lacks, Wrong, Ends, rest, longer, longer_longer, rest_dollar}
+use Rattle.ap_stream.specs.Units.{form_of, Name, Runs, Breaks, Stops, name, Sign, Awaits, Bars, Reads, Slash, Dollar, Brace, sign, of_name, of_escape, of_bare, bare_of, is_barred, may_end, early, Rest, Lacks, Wrong, Ends, rest, longer}
+use Rattle.ap_stream.proofs.UnitLaws.{longer_longer, rest_dollar}
 use Rattle.ap_stream.specs.UnitBytes.{UnitOf}
-use Rattle.ap_stream.specs.Chunks.{Barred, Braced, portion, blank_portion, unit_portion, Body, Opens, Fails, Closes, behind_part, behind_portion, closed, body, body_skip, body_nil, body_brace, wrong_byte}
+use Rattle.ap_stream.specs.Chunks.{Barred, Braced, portion, blank_portion, unit_portion, Body, Opens, Fails, Closes, behind_part, behind_portion, closed, body, wrong_byte}
+use Rattle.ap_stream.proofs.ChunkLaws.{body_skip, body_nil, body_brace}
 use Rattle.ap_stream.specs.ChunkBytes.{ChunkOf, CharSize}
 use Rattle.ap_symbol.specs.Kinds.{first_word}
 use Rattle.ap_stream.specs.Reading.{Whole, Faulty, Bad as OfKind, first, of_run, of_escaped, of_char, of_chunk, of_body, plain}

@@ -20,14 +20,18 @@ use Rattle.ap_stream.specs.Chars.{Char, char_at}
 use Rattle.ap_stream.specs.Copying.{is_common, IsCommon, is_copied, AreCopied, spelling, preceded, IsRun, IsWhite, GivesUnit, Gives}
 use Rattle.ap_stream.specs.Crossing.{stops_word}
 use Rattle.ap_stream.specs.Dialects.{is_refused, has_units}
-use Rattle.ap_stream.specs.Limited.{limited_decided, Looks}
-use Rattle.ap_stream.specs.InUnits.{unit_always}
-use Rattle.ap_stream.specs.Limits.{item_max, item_max_is, unit_max}
-use Rattle.ap_stream.specs.Reading.{Whole, limited, plain, Reads, reads, reads_whole, read_at, counted}
+use Rattle.ap_stream.specs.Limited.{Looks}
+use Rattle.ap_stream.proofs.LimitedLaws.{limited_decided}
+use Rattle.ap_stream.proofs.InUnitLaws.{unit_always}
+use Rattle.ap_stream.specs.Limits.{item_max, unit_max}
+use Rattle.ap_stream.proofs.LimitLaws.{item_max_is}
+use Rattle.ap_stream.specs.Reading.{Whole, limited, plain, Reads, reads, read_at, counted}
+use Rattle.ap_stream.proofs.ReadingLaws.{reads_whole}
 use Rattle.ap_stream.specs.Rest.{rest_of, worked, rest_pending_first}
 use Rattle.ap_stream.specs.Seat.{Seat}
 use Rattle.ap_stream.specs.Spelling.{spelled}
-use Rattle.ap_stream.specs.Stands.{Always, begin_white, blank_ends, blank_first}
+use Rattle.ap_stream.specs.Stands.{Always, blank_first}
+use Rattle.ap_stream.proofs.StandLaws.{begin_white, blank_ends}
 use Rattle.ap_stream.specs.Told.{Told, Ending, Begins, behind, ends_in}
 use Rattle.ap_stream.specs.declared.fault.StreamFault.{StreamFault}
 use Rattle.ap_stream.specs.declared.fault.StreamFault.TheVariants.{Memory}

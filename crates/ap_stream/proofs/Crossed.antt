@@ -10,15 +10,20 @@ use Rattle.ap_stream.specs.declared.examine.Mode.TheVariants as mode
 use Rattle.ap_stream.specs.declared.examine.Spot.{Spot}
 use Rattle.ap_stream.specs.declared.dialect.Dialect.{Dialect}
 use Rattle.ap_stream.specs.Chars.{Char, char_at}
-use Rattle.ap_stream.specs.Units.{form_of, Reads, sign, sign_bare, bare_of, is_barred, in_surface, may_part}
-use Rattle.ap_stream.specs.InUnits.{InUnit, InTag, spot, grown_spot, surface_at, several_in, unit_symbol, unit_slash}
+use Rattle.ap_stream.specs.Units.{form_of, Reads, sign, bare_of, is_barred, in_surface, may_part}
+use Rattle.ap_stream.proofs.UnitLaws.{sign_bare}
+use Rattle.ap_stream.specs.InUnits.{InUnit, InTag, spot, grown_spot, surface_at, several_in}
+use Rattle.ap_stream.proofs.InUnitLaws.{unit_symbol, unit_slash}
 use Rattle.ap_stream.proofs.WordSteps as words
-use Rattle.ap_stream.specs.Stands.{Stands, Within, within_on}
+use Rattle.ap_stream.specs.Stands.{Stands, Within}
+use Rattle.ap_stream.proofs.StandLaws.{within_on}
 use Rattle.ap_symbol.specs.TagNames.{is_reserved_lem}
-use Rattle.ap_stream.specs.Step.{nothing_part}
+use Rattle.ap_stream.proofs.ByteLaws.{nothing_part}
 use Rattle.ap_stream.specs.Given.{Standing}
-use Rattle.ap_stream.specs.InChunks.{InPart, part_grows, inner_on, part_on}
-use Rattle.ap_stream.specs.Levels.{StandsIn, StandsPart, between, part_begins, part_stands, stands_part}
+use Rattle.ap_stream.specs.InChunks.{InPart}
+use Rattle.ap_stream.proofs.InChunkLaws.{part_grows, inner_on, part_on}
+use Rattle.ap_stream.specs.Levels.{StandsIn, StandsPart, between}
+use Rattle.ap_stream.proofs.LevelLaws.{part_begins, part_stands, stands_part}
 use Rattle.ap_stream.specs.declared.dialect.Dialect.TheVariants.{Lexical}
 use Rattle.ap_stream.specs.declared.level.Level.{Level}
 use Rattle.ap_stream.specs.declared.level.Level.TheVariants as level

@@ -11,8 +11,10 @@ use Rattle.ap_symbol.specs.TagNames.{is_reserved_lem}
 use Rattle.ap_symbol.specs.declared.symbol.Symbol.{Symbol}
 use Rattle.ap_symbol.specs.declared.symbol.Symbol.TheVariants.{Tag}
 use Rattle.ap_stream.specs.declared.fault.MalformedKind.TheVariants.{Stray, BadTag, EmptyWord}
-use Rattle.ap_stream.specs.Chars.{Front, Part, NotChar, Char, char_at, char_fits}
-use Rattle.ap_stream.specs.Units.{Form, Name, Runs, Breaks, Stops, name, name_by, name_char, behind_name, Sign, Awaits, Bars, Reads, Slash, Dollar, sign, of_bare, of_name, of_escape, bare_of, is_barred, begins_tag, in_surface, may_part, may_end, Rest, Lacks, Wrong, Ends, rest, longer, gone, rest_symbol, rest_slash, rest_dollar, Brace, early, rest_brace}
+use Rattle.ap_stream.specs.Chars.{Front, Part, NotChar, Char, char_at}
+use Rattle.ap_stream.proofs.CharLaws.{char_fits}
+use Rattle.ap_stream.specs.Units.{Form, Name, Runs, Breaks, Stops, name, name_by, behind_name, Sign, Awaits, Bars, Reads, Slash, Dollar, sign, of_bare, of_name, of_escape, bare_of, is_barred, begins_tag, in_surface, may_part, may_end, Rest, Lacks, Wrong, Ends, rest, longer, gone, Brace, early}
+use Rattle.ap_stream.proofs.UnitLaws.{name_char, rest_symbol, rest_slash, rest_dollar, rest_brace}
 use Rattle.ap_stream.proofs.Back.{char_back}
 use Rattle.ap_stream.proofs.Encoding.{char_encodes}
 use Rattle.ap_stream.proofs.WordsRead.{char_coded}

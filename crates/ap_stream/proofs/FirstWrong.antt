@@ -13,7 +13,8 @@ use Rattle.ap_stream.specs.Blanks.{Run, Open, Inside, BadChar, Done, blank, begi
 use Rattle.ap_stream.specs.Limits.{item_max}
 use Rattle.ap_stream.specs.Pieces.{HasSuperblanks, nothing}
 use Rattle.ap_stream.specs.ReadOn.{ArePieces, IsFirstWrong, IsUnfinished, MalformedAreWrong, IsNoneOrTooLong}
-use Rattle.ap_stream.specs.Reading.{First, Needs, Whole, Faulty, Kind, Bad, Past, Last, Complete, Broken, first, first_nil, last, last_run, limited, reads, reads_nil, reads_whole, reads_faulty, reads_needs, at_end, fault_at, counted, Reads, followed, read_at}
+use Rattle.ap_stream.specs.Reading.{First, Needs, Whole, Faulty, Kind, Bad, Past, Last, Complete, Broken, first, last, last_run, limited, reads, at_end, fault_at, counted, Reads, followed, read_at}
+use Rattle.ap_stream.proofs.ReadingLaws.{first_nil, reads_nil, reads_whole, reads_faulty, reads_needs}
 use Rattle.ap_stream.specs.Supers.{item_supers}
 use Rattle.ap_stream.proofs.Copied.{counted_twice, counted_is}
 use Rattle.ap_stream.proofs.Fronts.{pieces_left}

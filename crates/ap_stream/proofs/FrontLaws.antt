@@ -7,7 +7,8 @@ use Rattle.ap_stream.specs.declared.dialect.Dialect.{Dialect}
 use Rattle.ap_stream.specs.declared.item.Read.{Read}
 use Rattle.ap_stream.specs.declared.examine.Mode.TheVariants as mode
 use Rattle.ap_stream.specs.declared.level.Level.TheVariants as level
-use Rattle.ap_stream.specs.Given.{Standing, stands_new, stands_byte}
+use Rattle.ap_stream.specs.Given.{Standing}
+use Rattle.ap_stream.proofs.GivenLaws.{stands_new, stands_byte}
 use Rattle.ap_stream.specs.Fronts.{GivesFront, GaveFront}
 use Rattle.ap_stream.specs.Reading.{reads, counted}
 use Rattle.ap_stream.specs.Rest.{rest_of, worked}

@@ -14,7 +14,7 @@ use Rattle.ap_stream.specs.declared.item.Item.TheVariants as item
 use Rattle.ap_stream.specs.Blanks.{Run, Open, Inside, BadChar, Done, Close, Within, Bad, Closed, closing, is_white, blank, begins_blank}
 use Rattle.ap_stream.specs.Chars.{Front, Part, NotChar, Char, char_at}
 use Rattle.ap_stream.specs.Dialects.{is_refused, has_words, has_chunks, has_units}
-use Rattle.ap_stream.specs.InUnits.{unit_always, units_words, braced_chunks}
+use Rattle.ap_stream.proofs.InUnitLaws.{unit_always, units_words, braced_chunks}
 use Rattle.ap_stream.specs.UnitBytes.{UnitOf}
 use Rattle.ap_stream.specs.Pieces.{HaveSameSuperblanks, HasSuperblanks, nothing, piece, IsPiece, plain, white, superblank, unit, IsPlain, IsUnit, escaped, is_bare, IsChunk, chunk}
 use Rattle.ap_stream.specs.declared.fault.MalformedKind.TheVariants.{Stray}
@@ -22,13 +22,14 @@ use Rattle.ap_stream.specs.ReadOn.{ArePieces}
 use Rattle.ap_symbol.specs.Kinds.{first_word}
 use Rattle.ap_stream.specs.Reading.{First, Needs, Whole, Faulty, Bad as OfKind, first, begins_unit, of_run, of_escaped, of_char, of_unit, plain as plain_item, of_body, of_chunk, of_caret}
 use Rattle.ap_stream.specs.Supers.{item_supers, inner_supers}
-use Rattle.ap_stream.specs.Stands.{blank_first, escape_first, unit_first, letter_whole, escaped_whole}
+use Rattle.ap_stream.specs.Stands.{blank_first, escape_first, unit_first}
+use Rattle.ap_stream.proofs.StandLaws.{letter_whole, escaped_whole}
 use Rattle.ap_stream.specs.Units.{Rest, Lacks, Wrong, Ends, rest, form_of}
 use Rattle.ap_stream.proofs.Back.{char_back}
 use Rattle.ap_stream.proofs.Cut.{first_byte, char_size, rest_cut}
 use Rattle.ap_stream.specs.Chunks.{Body, Opens, Fails, Closes, body}
 use Rattle.ap_stream.specs.declared.item.Inner.{Inner}
-use Rattle.ap_stream.specs.InChunks.{only_chunked}
+use Rattle.ap_stream.proofs.InChunkLaws.{only_chunked}
 use Rattle.ap_stream.proofs.ChunkTexts.{text_chunk}
 use Rattle.ap_stream.proofs.UnitTexts.{text_unit}
 pub use Rattle.ap_stream.proofs.BlankTexts.{to_bracket}

@@ -10,7 +10,8 @@ use Rattle.ap_symbol.specs.declared.symbol.Symbol.{Symbol}
 use Rattle.ap_symbol.specs.declared.symbol.Symbol.TheVariants as symbol
 use Rattle.ap_stream.specs.declared.fault.MalformedKind.TheVariants.{Stray, BadTag, EmptyWord}
 use Rattle.ap_stream.specs.Chars.{Front, Part, NotChar, Char, char_at, tail2, tail3, tail4, is_tail, is_second}
-use Rattle.ap_stream.specs.Units.{Form, Name, Runs, Breaks, Stops, name, name_char, behind_name, Sign, Awaits, Bars, Reads, Slash, Dollar, Brace, sign, sign_bare, sign_escape, sign_tag, of_bare, of_name, of_escape, bare_of, is_barred, begins_tag, in_surface, is_none, may_part, may_end, early, Rest, Lacks, Wrong, Ends, rest, longer, rest_symbol, rest_slash, rest_dollar, rest_brace}
+use Rattle.ap_stream.specs.Units.{Form, Name, Runs, Breaks, Stops, name, behind_name, Sign, Awaits, Bars, Reads, Slash, Dollar, Brace, sign, of_bare, of_name, of_escape, bare_of, is_barred, begins_tag, in_surface, is_none, may_part, may_end, early, Rest, Lacks, Wrong, Ends, rest, longer}
+use Rattle.ap_stream.proofs.UnitLaws.{name_char, sign_bare, sign_escape, sign_tag, rest_symbol, rest_slash, rest_dollar, rest_brace}
 use Rattle.ap_stream.proofs.Cut.{char_size, char_cut, first_byte, sign_cut_at, sign_ends, EndsIn}
 use Rattle.ap_stream.proofs.SignLaws.{front_reads}
 

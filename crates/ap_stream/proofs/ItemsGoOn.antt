@@ -13,11 +13,14 @@ use Rattle.ap_stream.specs.declared.item.Inner.{Inner}
 use Rattle.ap_stream.specs.declared.item.Inner.TheVariants as inner
 use Rattle.ap_stream.specs.declared.item.Item.{Item}
 use Rattle.ap_stream.specs.declared.item.Item.TheVariants as item
-use Rattle.ap_stream.specs.Blanks.{Run, Open, Inside, BadChar, Done, further, behind_close, blank, Close, Within, Bad, Closed, closing, closes, escapes, longer, is_white, begins_blank, blank_white, blank_bracket, blank_skip, blank_some}
-use Rattle.ap_stream.specs.Chars.{Front, Part, NotChar, Char, char_at, char_stays}
-use Rattle.ap_stream.specs.Chunks.{portion, Body, Opens, Fails, Closes, behind_part, body, body_skip, body_nil, body_brace, body_wrong, wrong_byte}
+use Rattle.ap_stream.specs.Blanks.{Run, Open, Inside, BadChar, Done, further, behind_close, blank, Close, Within, Bad, Closed, closing, closes, escapes, longer, is_white, begins_blank}
+use Rattle.ap_stream.proofs.BlankLaws.{blank_white, blank_bracket, blank_skip, blank_some}
+use Rattle.ap_stream.specs.Chars.{Front, Part, NotChar, Char, char_at}
+use Rattle.ap_stream.proofs.CharLaws.{char_stays}
+use Rattle.ap_stream.specs.Chunks.{portion, Body, Opens, Fails, Closes, behind_part, body, wrong_byte}
+use Rattle.ap_stream.proofs.ChunkLaws.{body_skip, body_nil, body_brace, body_wrong}
 use Rattle.ap_stream.specs.Dialects.{is_refused, is_reserved, has_units, has_chunks}
-use Rattle.ap_stream.specs.InUnits.{first_caret}
+use Rattle.ap_stream.proofs.InUnitLaws.{first_caret}
 use Rattle.ap_stream.specs.Pieces.{HasSuperblanks, nothing}
 use Rattle.ap_stream.specs.ReadOn.{ArePieces, BeginsText}
 use Rattle.ap_symbol.specs.Kinds.{first_word}

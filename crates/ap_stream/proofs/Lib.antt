@@ -1,3 +1,17 @@
+pub mod GivenLaws
+pub mod LimitLaws
+pub mod LimitedLaws
+pub mod LevelLaws
+pub mod AtEndLaws
+pub mod ByteLaws
+pub mod StandLaws
+pub mod InChunkLaws
+pub mod InUnitLaws
+pub mod ReadingLaws
+pub mod ChunkLaws
+pub mod UnitLaws
+pub mod BlankLaws
+pub mod CharLaws
 pub mod Stop
 pub mod Encoding
 pub mod WordSteps

@@ -16,8 +16,10 @@ use Rattle.ap_symbol.specs.Words.{is_white}
 use Rattle.ap_symbol.specs.TagNames.{is_reserved_lem}
 use Rattle.ap_symbol.specs.TextWord.{bare_symbol}
 use Rattle.ap_stream.specs.declared.fault.MalformedKind.TheVariants.{Stray, BadTag}
-use Rattle.ap_stream.specs.Chars.{Front, Part, NotChar, Char, char_at, tail2, tail3, tail4, is_tail, is_second, Fits, char_fits}
-use Rattle.ap_stream.specs.Units.{Form, Name, Runs, Breaks, Stops, name, name_by, behind_name, Sign, Awaits, Bars, Reads, Slash, Dollar, sign, of_bare, of_name, bare_of, is_barred, begins_tag, in_surface, rest, longer, longer_longer, longer_zero, Brace}
+use Rattle.ap_stream.specs.Chars.{Front, Part, NotChar, Char, char_at, tail2, tail3, tail4, is_tail, is_second, Fits}
+use Rattle.ap_stream.proofs.CharLaws.{char_fits}
+use Rattle.ap_stream.specs.Units.{Form, Name, Runs, Breaks, Stops, name, name_by, behind_name, Sign, Awaits, Bars, Reads, Slash, Dollar, sign, of_bare, of_name, bare_of, is_barred, begins_tag, in_surface, rest, longer, Brace}
+use Rattle.ap_stream.proofs.UnitLaws.{longer_longer, longer_zero}
 use Rattle.ap_stream.specs.PlainBytes.{is_stop, plain_size}
 use Rattle.ap_stream.specs.Signs.{Barren}
 use Rattle.ap_stream.proofs.Encoding.{tail_range, second_parts, char_encodes, Encodes}

@@ -4,7 +4,8 @@ use Rattle.std.proofs.Common.{arith, ap, sym, ◌∙◌, drop-drop, length-appen
 use Rattle.std.proofs.Math.Seq.{drop-cons}
 use Rattle.ap_symbol.specs.declared.symbol.Symbol.{Symbol}
 use Rattle.ap_stream.specs.declared.dialect.Dialect.{Dialect}
-use Rattle.ap_stream.specs.Units.{Form, form_of, Slash, Dollar, sign, in_surface, is_none, rest, longer, longer_longer}
+use Rattle.ap_stream.specs.Units.{Form, form_of, Slash, Dollar, sign, in_surface, is_none, rest, longer}
+use Rattle.ap_stream.proofs.UnitLaws.{longer_longer}
 use Rattle.ap_stream.specs.UnitBytes.{UnitOf, unit_words}
 use Rattle.ap_stream.specs.Chars.{char_at}
 use Rattle.ap_stream.specs.PlainBytes.{plain_size, IsRendered}
@@ -12,7 +13,7 @@ use Rattle.ap_stream.proofs.PlainBytes.{Run, run}
 use Rattle.ap_stream.proofs.Proper.{unit_proper}
 use Rattle.ap_stream.proofs.SignLaws as laws
 use Rattle.ap_stream.proofs.UnitWords as units
-use Rattle.ap_stream.specs.InUnits.{words_brace}
+use Rattle.ap_stream.proofs.InUnitLaws.{words_brace}
 
 -- so many words stand behind
 pub record Behind (dialect : Dialect) (held : List ℕ) (count from : ℕ) : Type 0 where

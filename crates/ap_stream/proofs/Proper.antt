@@ -15,7 +15,7 @@ use Rattle.ap_stream.specs.declared.dialect.Dialect.{Dialect}
 use Rattle.ap_stream.specs.Chars.{Front, Char}
 use Rattle.ap_stream.specs.Units.{form_of}
 use Rattle.ap_stream.specs.UnitBytes.{UnitOf}
-use Rattle.ap_stream.specs.InUnits.{unit_always}
+use Rattle.ap_stream.proofs.InUnitLaws.{unit_always}
 use Rattle.ap_stream.specs.Laws.{IsSpelt, AreSpelt, EachSpelt, AreWords}
 use Rattle.ap_stream.proofs.Back.{char_back, some_named}
 use Rattle.ap_stream.proofs.SignLaws.{KeepsPlain, char_plain}

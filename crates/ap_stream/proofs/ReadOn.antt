@@ -7,11 +7,13 @@ use Rattle.ap_stream.specs.declared.dialect.Dialect.{Dialect}
 use Rattle.ap_stream.specs.declared.fault.LimitKind.TheVariants.{ItemTooLong}
 use Rattle.ap_stream.specs.declared.item.Item.{Item}
 use Rattle.ap_stream.specs.declared.item.Item.TheVariants as item
-use Rattle.ap_stream.specs.Blanks.{Run, Open, Inside, BadChar, Done, blank, begins_blank, blank_some, is_white}
+use Rattle.ap_stream.specs.Blanks.{Run, Open, Inside, BadChar, Done, blank, begins_blank, is_white}
+use Rattle.ap_stream.proofs.BlankLaws.{blank_some}
 use Rattle.ap_stream.specs.Limits.{item_max}
 use Rattle.ap_stream.specs.Pieces.{HasSuperblanks, nothing, piece, IsPiece, plain, white, superblank, unit, chunk}
 use Rattle.ap_stream.specs.ReadOn.{IsNoneOrTooLong, IsReadOn, ArePieces}
-use Rattle.ap_stream.specs.Reading.{First, Reads, Needs, Whole, Faulty, Past, first, last, Complete, of_run, last_run, limited, past, at_limit, at_end, counted, followed, read_at, reads, reads_nil, reads_whole, reads_faulty, reads_needs}
+use Rattle.ap_stream.specs.Reading.{First, Reads, Needs, Whole, Faulty, Past, first, last, Complete, of_run, last_run, limited, past, at_limit, at_end, counted, followed, read_at, reads}
+use Rattle.ap_stream.proofs.ReadingLaws.{reads_nil, reads_whole, reads_faulty, reads_needs}
 use Rattle.ap_stream.specs.Stands.{blank_first}
 use Rattle.ap_stream.proofs.Fronts.{IsWhole, plain_whole, unit_whole, chunk_whole}
 use Rattle.ap_stream.proofs.Scan.{RunCut, run_cut, first_blank, last_blank}

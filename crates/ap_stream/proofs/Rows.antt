@@ -14,7 +14,8 @@ use Rattle.ap_stream.specs.declared.fault.MalformedKind.TheVariants.{Stray, Unfi
 use Rattle.ap_stream.specs.declared.item.Item.{Item}
 use Rattle.ap_stream.specs.declared.item.Item.TheVariants as item
 use Rattle.ap_stream.specs.declared.item.Read.{Read}
-use Rattle.ap_stream.specs.Blanks.{Run, Open, Inside, BadChar, Done, blank, begins_blank, blank_some}
+use Rattle.ap_stream.specs.Blanks.{Run, Open, Inside, BadChar, Done, blank, begins_blank}
+use Rattle.ap_stream.proofs.BlankLaws.{blank_some}
 use Rattle.ap_stream.specs.Chars.{Front, Part, NotChar, Char, char_at}
 use Rattle.ap_stream.specs.Dialects.{is_refused, has_chunks}
 use Rattle.ap_stream.specs.Laws.{AreWords, AreSpelt, AreParts}

@@ -8,7 +8,8 @@ use Rattle.std.proofs.Math.Seq.{drop-append_seam, take-append_seam, take-append-
 use Rattle.ap_stream.specs.declared.dialect.Dialect.{Dialect}
 use Rattle.ap_stream.specs.declared.item.Item.{Item}
 use Rattle.ap_stream.specs.declared.item.Item.TheVariants as item
-use Rattle.ap_stream.specs.Blanks.{Run, Open, Inside, BadChar, Done, further, blank, blank_white, blank_bracket, blank_done, blank_at, is_white, begins_blank, blank_some}
+use Rattle.ap_stream.specs.Blanks.{Run, Open, Inside, BadChar, Done, further, blank, is_white, begins_blank}
+use Rattle.ap_stream.proofs.BlankLaws.{blank_white, blank_bracket, blank_done, blank_at, blank_some}
 use Rattle.ap_stream.specs.Pieces.{HasSuperblanks, nothing, piece, IsPiece, plain, white, superblank, unit, IsToBracket, chunk}
 use Rattle.ap_stream.specs.Reading.{Needs, Whole, first, last, Complete, of_run, last_run}
 use Rattle.ap_stream.specs.Stands.{blank_first}

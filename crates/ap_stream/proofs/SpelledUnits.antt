@@ -9,14 +9,15 @@ use Rattle.ap_symbol.specs.declared.symbol.Symbol.{Symbol}
 use Rattle.ap_symbol.specs.Rendering.{rendering}
 use Rattle.ap_stream.specs.declared.dialect.Dialect.{Dialect}
 use Rattle.ap_stream.specs.declared.fault.MalformedKind.TheVariants.{Stray, EmptyWord}
-use Rattle.ap_stream.specs.Units.{Form, form_of, is_none, may_part, may_end, Rest, Lacks, Wrong, Ends, rest, longer, rest_slash, rest_dollar, early}
+use Rattle.ap_stream.specs.Units.{Form, form_of, is_none, may_part, may_end, Rest, Lacks, Wrong, Ends, rest, longer, early}
+use Rattle.ap_stream.proofs.UnitLaws.{rest_slash, rest_dollar}
 use Rattle.ap_stream.specs.UnitBytes.{UnitOf, ended_words, unit_words}
 use Rattle.ap_stream.specs.PlainBytes.{is_stop, is_odd, plain_size}
 use Rattle.ap_stream.specs.Spelling.{unit_bytes, joined}
 use Rattle.ap_stream.proofs.PlainBytes.{Run, run}
 use Rattle.ap_stream.proofs.SignLaws.{IsWhole}
 use Rattle.ap_stream.proofs.UnitWords.{words_are}
-use Rattle.ap_stream.specs.InUnits.{words_brace}
+use Rattle.ap_stream.proofs.InUnitLaws.{words_brace}
 use Rattle.ap_stream.specs.declared.fault.MalformedKind.{MalformedKind}
 
 rest_nil : (form : Form) (words : List (List Symbol)) (word : List Symbol) →

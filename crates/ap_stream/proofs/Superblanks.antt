@@ -3,8 +3,10 @@ use Rattle.std.proofs.Common.{arith, ap, sym, ◌∙◌, ◌≡◌, ◌≢◌, �
 use Rattle.std.specs.List.{flat_map}
 use Rattle.std.proofs.lemmas.List.{drop-drop, take_rest, drop_all}
 use Rattle.std.proofs.lemmas.Bool.Decides.{nat_tests}
-use Rattle.ap_stream.specs.Chars.{Front, Part, NotChar, Char, char_at, char_fits}
-use Rattle.ap_stream.specs.Blanks.{Close, Within, Bad, Closed, closing, closes, escapes, longer, closing_skip}
+use Rattle.ap_stream.specs.Chars.{Front, Part, NotChar, Char, char_at}
+use Rattle.ap_stream.proofs.CharLaws.{char_fits}
+use Rattle.ap_stream.specs.Blanks.{Close, Within, Bad, Closed, closing, closes, escapes, longer}
+use Rattle.ap_stream.proofs.BlankLaws.{closing_skip}
 use Rattle.ap_stream.specs.Supers.{blank_supers, closed_super}
 
 pub closing_nil : (e : Bool) → closing e 0 [] ≡ Within

@@ -10,7 +10,8 @@ use Rattle.ap_symbol.specs.declared.symbol.Symbol.TheVariants as symbol
 use Rattle.ap_stream.specs.declared.fault.MalformedKind.TheVariants.{Stray, BadTag}
 use Rattle.ap_stream.specs.Chars.{Front, Part, NotChar, Char, char_at}
 use Rattle.ap_stream.specs.Notation.{must_be_escaped, bare_in, IsSymbolText, bare_character, escaped_character, named_tag}
-use Rattle.ap_stream.specs.Units.{Name, Runs, Breaks, Stops, name, Sign, Awaits, Bars, Reads, Slash, Dollar, Brace, sign, of_bare, of_name, of_escape, bare_of, is_barred, begins_tag, sign_bare, sign_escape}
+use Rattle.ap_stream.specs.Units.{Name, Runs, Breaks, Stops, name, Sign, Awaits, Bars, Reads, Slash, Dollar, Brace, sign, of_bare, of_name, of_escape, bare_of, is_barred, begins_tag}
+use Rattle.ap_stream.proofs.UnitLaws.{sign_bare, sign_escape}
 use Rattle.ap_stream.proofs.Back.{char_back, some_bytes, not_first, tag_sign}
 use Rattle.ap_stream.proofs.Cut.{char_bytes, char_code, first_byte}
 use Rattle.ap_stream.proofs.WordsRead.{NameIs, named_by}

@@ -9,12 +9,13 @@ use Rattle.ap_stream.specs.declared.dialect.Dialect.{Dialect}
 use Rattle.ap_stream.specs.declared.dialect.Dialect.TheVariants.{Raw, Analysed, Lexical, Bilingual, Chunked, Generated}
 use Rattle.ap_stream.specs.declared.fault.MalformedKind.TheVariants.{Stray, EmptyWord}
 use Rattle.ap_stream.specs.Dialects.{has_words}
-use Rattle.ap_stream.specs.InUnits.{words_brace, unit_always}
+use Rattle.ap_stream.proofs.InUnitLaws.{words_brace, unit_always}
 use Rattle.ap_stream.specs.Laws.{AreWords, AreAsMany}
 use Rattle.ap_stream.specs.Notation.{IsWordText, AreWordTexts, IsWordedText, IsUnitText}
 use Rattle.ap_symbol.specs.Kinds.{first_word}
 use Rattle.ap_stream.specs.UnitBytes.{UnitOf}
-use Rattle.ap_stream.specs.Units.{Form, form_of, Sign, Awaits, Bars, Reads, Slash, Dollar, Brace, sign, in_surface, is_none, may_part, may_end, early, Rest, Lacks, Wrong, Ends, rest, gone, longer, longer_longer, longer_zero, rest_symbol, rest_slash, rest_dollar}
+use Rattle.ap_stream.specs.Units.{Form, form_of, Sign, Awaits, Bars, Reads, Slash, Dollar, Brace, sign, in_surface, is_none, may_part, may_end, early, Rest, Lacks, Wrong, Ends, rest, gone, longer}
+use Rattle.ap_stream.proofs.UnitLaws.{longer_longer, longer_zero, rest_symbol, rest_slash, rest_dollar}
 use Rattle.ap_stream.proofs.Back.{none_after, not_surface, first_surface}
 use Rattle.ap_stream.proofs.Cut.{sign_cut_at, sign_ends, EndsIn}
 use Rattle.ap_stream.proofs.SymbolTexts.{text_some, text_sign, sign_text}

@@ -12,7 +12,7 @@ use Rattle.ap_stream.specs.UnitBytes.{UnitOf, ended_words, unit_words, IsAt}
 use Rattle.ap_stream.specs.UnitHeld.{held_words, IsHeld}
 use Rattle.ap_stream.specs.declared.unit.Held.{Held}
 use Rattle.ap_stream.specs.declared.unit.Held.TheVariants as held
-use Rattle.ap_stream.specs.InUnits.{unit_always}
+use Rattle.ap_stream.proofs.InUnitLaws.{unit_always}
 use Rattle.ap_stream.specs.Laws.{AreWords}
 use Rattle.ap_stream.proofs.WordsRead.{unit_words as read_words}
 use Rattle.ap_stream.proofs.SignLaws as laws

@@ -13,7 +13,8 @@ use Rattle.ap_stream.specs.declared.fault.MalformedKind.TheVariants.{Stray, Empt
 use Rattle.ap_stream.specs.Copying.{EndsUnit}
 use Rattle.ap_stream.specs.Crossing.{crossing}
 use Rattle.ap_stream.specs.Dialects.{has_units}
-use Rattle.ap_stream.specs.InUnits.{InUnit, spot, braced_in, several_in, unit_begins, unit_ends}
+use Rattle.ap_stream.specs.InUnits.{InUnit, spot, braced_in, several_in}
+use Rattle.ap_stream.proofs.InUnitLaws.{unit_begins, unit_ends}
 use Rattle.ap_stream.specs.Step.{dollar_seen}
 use Rattle.ap_stream.specs.UnitBytes.{UnitOf}
 use Rattle.ap_stream.specs.Units.{form_of, is_none, may_end}

@@ -1,3 +1,4 @@
+-- Of the inside: no public contract stands on this file.
 -- The chunk that bytes are.
 use Rattle.std.specs.Prelude.{◌≡◌, ℕ, List, ◌++◌, length}
 use Rattle.ap_stream.specs.Chars.{Char, char_at}

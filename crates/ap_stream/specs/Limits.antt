@@ -1,5 +1,5 @@
 -- What bounds the stream. Each number stands at its constant alone.
-use Rattle.std.specs.Prelude.{◌≡◌, ℕ, ◌+◌, refl}
+use Rattle.std.specs.Prelude.{◌≡◌, ℕ, ◌+◌}
 use Rattle.ap_stream.specs.declared.TheConstants.{UNIT_MAX, SPAN_MAX, ROOM_MAX}
 
 -- the most bytes of an item, and of what is written for a unit
@@ -25,10 +25,6 @@ stage_max = SPAN_MAX + UNIT_MAX + 2
 -- the most bytes of an item, where it isn't to be counted down
 unfoldable pub item_max : ℕ
 item_max = UNIT_MAX
-
-pub item_max_is : item_max ≡ unit_max
-unfolding item_max
-item_max_is = refl
 
 -- the numbers
 abbrev pub LimitsAre : Type 0

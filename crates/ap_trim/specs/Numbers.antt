@@ -1,3 +1,4 @@
+-- Of the inside: no public contract stands on this file.
 -- Things that are numbered in the order in which they came.
 use Rattle.std.specs.Prelude.{◌≡◌, ◌⊎◌, ℕ, List, [], ◌∷◌, ◌++◌, Some, length, slice_get}
 

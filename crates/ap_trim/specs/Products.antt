@@ -1,3 +1,4 @@
+-- Of the inside: no public contract stands on this file.
 -- A transducer whose states are pairs: of a state of an analyser, and of what is known of the right
 -- word so far.
 use Rattle.std.specs.Prelude.{◌≡◌, ℕ, ◌<◌, ◌≤◌, ◌↔◌, List, [], ◌∷◌, ◌++◌, Some, slice_get, length}

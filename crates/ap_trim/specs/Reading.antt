@@ -1,3 +1,4 @@
+-- Of the inside: no public contract stands on this file.
 -- What of a word a transducer reads, where a small letter fits its capital too.
 use Rattle.std.specs.Prelude.{◌≡◌, ◌↔◌, ℕ, false, IsTrue, List, Option, Some, None}
 use Rattle.ap_symbol.specs.Fitting.{fits_lem, lists_fit}

@@ -1,3 +1,4 @@
+-- Of the inside: no public contract stands on this file.
 -- What is kept of one section of an analyser.
 use Rattle.std.specs.Prelude.{◌↔◌, List}
 use Rattle.ap_fst.specs.Machines.{Machine}

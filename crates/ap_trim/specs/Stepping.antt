@@ -1,3 +1,4 @@
+-- Of the inside: no public contract stands on this file.
 -- What a step from a watch to the next one says.
 use Rattle.std.specs.Prelude.{◌≡◌, ℕ, ◌≤◌, true, false, List, [], ◌∷◌, ◌++◌, Some, length, slice_get}
 use Rattle.ap_symbol.specs.declared.symbol.Symbol.{Symbol}

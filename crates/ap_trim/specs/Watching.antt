@@ -1,3 +1,4 @@
+-- Of the inside: no public contract stands on this file.
 -- What is known of a right word so far, as far as it decides whether the word is kept.
 use Rattle.std.specs.Prelude.{◌≡◌, ◌⊎◌, ℕ, ◌≤◌, true, false, Bool, List, ◌++◌, Option, Some, option_map, slice_get, length, take}
 use Rattle.std.specs.List.{list_any}

@@ -1,6 +1,6 @@
 use Rattle.std.proofs.Common.{arith}
 use Rattle.std.proofs.lemmas.List.{take_rest}
-use Rattle.ap_stream.specs.Limits.{item_max_is}
+use Rattle.ap_stream.proofs.LimitLaws.{item_max_is}
 use Rattle.ap_format.proofs.Plains.{item_short, item_wrote}
 use Rattle.ap_format.proofs.given.give_item.Goals as goal
 

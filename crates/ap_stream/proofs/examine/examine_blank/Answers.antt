@@ -1,5 +1,5 @@
 use Rattle.std.proofs.Common.{sym, ◌∙◌, refl}
-use Rattle.ap_stream.specs.Step as step
+use Rattle.ap_stream.proofs.ByteLaws as step
 use Rattle.ap_stream.proofs.examine.examine_blank.Goals as goal
 
 pub returns-then-is_white : goal.returns-then-is_white

@@ -1,7 +1,7 @@
 use Rattle.std.proofs.Common.{sym, ◌∙◌, refl, ◌≡◌, length}
 use Rattle.ap_stream.specs.Chars.{Char, char_at}
-use Rattle.ap_stream.specs.Stands as stands
-use Rattle.ap_stream.specs.Step as step
+use Rattle.ap_stream.proofs.StandLaws as stands
+use Rattle.ap_stream.proofs.ByteLaws as step
 use Rattle.ap_stream.proofs.examine.examine_inside.Goals as goal
 use Rattle.ap_stream.proofs.examine.examine_inside.Goals.{In-Char}
 

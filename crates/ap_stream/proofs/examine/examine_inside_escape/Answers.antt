@@ -1,6 +1,6 @@
 use Rattle.std.proofs.Common.{sym}
-use Rattle.ap_stream.specs.Stands as stands
-use Rattle.ap_stream.specs.Step as step
+use Rattle.ap_stream.proofs.StandLaws as stands
+use Rattle.ap_stream.proofs.ByteLaws as step
 use Rattle.ap_stream.proofs.examine.examine_inside_escape.Goals as goal
 
 pub returns-in-NotChar : goal.returns-in-NotChar

@@ -1,5 +1,5 @@
 use Rattle.std.proofs.Common.{arith}
-use Rattle.ap_stream.specs.Limited as limited
+use Rattle.ap_stream.proofs.LimitedLaws as limited
 use Rattle.ap_stream.proofs.level.look.Goals as goal
 
 pub returns-then-held-le-UNIT_MAX : goal.returns-then-held-le-UNIT_MAX

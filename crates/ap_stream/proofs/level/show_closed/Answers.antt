@@ -1,5 +1,5 @@
 use Rattle.std.proofs.Common.{sym, ◌∙◌}
-use Rattle.ap_stream.specs.Levels as levels
+use Rattle.ap_stream.proofs.LevelLaws as levels
 use Rattle.ap_stream.proofs.level.show_closed.Goals as goal
 
 pub returns-then-is_byte : goal.returns-then-is_byte

@@ -1,5 +1,5 @@
 use Rattle.std.proofs.Common.{sym, ◌∙◌}
-use Rattle.ap_stream.specs.Levels as levels
+use Rattle.ap_stream.proofs.LevelLaws as levels
 use Rattle.ap_stream.proofs.SignLaws.{slice_rest}
 use Rattle.ap_stream.proofs.level.show_part.Goals as goal
 

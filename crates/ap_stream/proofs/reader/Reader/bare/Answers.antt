@@ -1,5 +1,5 @@
 use Rattle.std.proofs.Common.{rules, ◌≡◌, ◌∙◌, sym, [], length, take, refl}
-use Rattle.ap_stream.specs.Given as given
+use Rattle.ap_stream.proofs.GivenLaws as given
 use Rattle.ap_stream.proofs.Copied.{common_looks}
 use Rattle.ap_stream.proofs.reader.Reader.bare.Goals as goal
 

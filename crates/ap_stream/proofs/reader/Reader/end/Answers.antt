@@ -1,6 +1,6 @@
 use Rattle.std.proofs.Common.{[]}
 use Rattle.std.proofs.lemmas.List.{append-nil}
-use Rattle.ap_stream.specs.Given as given
+use Rattle.ap_stream.proofs.GivenLaws as given
 use Rattle.ap_stream.proofs.reader.Reader.end.Goals as goal
 
 pub returns-in-Ok-Some-clause-given : goal.returns-in-Ok-Some-clause-given

@@ -1,6 +1,6 @@
 use Rattle.std.proofs.Common.{arith, ◌∙◌, refl, ◌+◌}
 use Rattle.std.proofs.lemmas.Grind.{common_steps}
-use Rattle.ap_stream.specs.Given as given
+use Rattle.ap_stream.proofs.GivenLaws as given
 use Rattle.ap_stream.proofs.reader.Reader.feed.Goals as goal
 
 pub returns-in-Ok-Some-step-clause-given : goal.returns-in-Ok-Some-step-clause-given
