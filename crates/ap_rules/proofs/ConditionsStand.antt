@@ -1,6 +1,5 @@
 -- Elements that are to be conditions, in a tree without fault, are conditions by the table.
-use Rattle.std.proofs.Common.{◌≡◌, ℕ, ◌+◌, Bool, true, false, List, [], ◌∷◌, refl, sym, ap, ◌∙◌, subst, Option, Some, None, codes}
-use Rattle.ap_markup.specs.Faults.{Expected, next}
+use Rattle.std.proofs.Common.{◌≡◌, ℕ, ◌+◌, true, false, List, [], ◌∷◌, refl, sym, subst, Option, Some, None, codes}
 use Rattle.ap_markup.specs.NameLists.{number_of}
 use Rattle.ap_markup.specs.Names.{is_among}
 use Rattle.ap_markup.specs.Rules.{values as value_names, conditions as condition_names}
@@ -14,11 +13,11 @@ use Rattle.ap_rules.specs.Conditions.{is_caseless}
 use Rattle.ap_rules.specs.Defining.{defined_after, defined_in}
 use Rattle.ap_rules.specs.Plain.{no_values, then_value, PlainComparison, PlainMembership, PlainCondition, PlainConditions, all_of, one_of, negated, equal, begins_with, ends_with, contains_substring, is_in, begins_with_list, ends_with_list, no_conditions, then_condition}
 use Rattle.ap_rules.specs.Soundness.{HasCondition}
-use Rattle.ap_rules.specs.ValueRows.{IsNamed, IsAlone, AreValues}
+use Rattle.ap_rules.specs.ValueRows.{IsAlone, AreValues}
 use Rattle.ap_rules.specs.Values.{Scope}
 use Rattle.ap_rules.specs.declared.defined.Defined.{Defined}
 use Rattle.ap_rules.proofs.Faultless.{Clean, Stands, lacks_some, false_true, true_false}
-use Rattle.ap_rules.proofs.Placing.{among_each, in_last, single, behind_one, as_row, AreFew, AreTwo, pair, one_each}
+use Rattle.ap_rules.proofs.Placing.{among_each, in_last, single, behind_one, as_row, AreFew, pair, one_each}
 use Rattle.ap_rules.proofs.ValuesRead.{tag_as}
 use Rattle.ap_rules.proofs.ValuesStand.{outside, Numbers, Reads, numbered, value_alone}
 

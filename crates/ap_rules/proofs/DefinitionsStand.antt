@@ -1,13 +1,11 @@
 -- The definitions of a tree without fault are definitions by the table, and what they define is
 -- what stands above what follows.
-use Rattle.std.proofs.Common.{◌≡◌, ◌⊎◌, inl, inr, ℕ, ◌+◌, Bool, true, false, not, ◌&&◌, ◌||◌, cond, List, [], ◌∷◌, ◌++◌, length, refl, sym, ap, ◌∙◌, subst, arith, Option, Some, None, is_some, codes}
+use Rattle.std.proofs.Common.{◌≡◌, ℕ, ◌+◌, Bool, true, false, cond, List, [], ◌∷◌, ◌++◌, refl, sym, ap, ◌∙◌, subst, Option, Some, None, is_some, codes}
 use Rattle.std.specs.Option.{unwrap_or}
-use Rattle.ap_markup.specs.Faults.{Expected, next, have_all}
+use Rattle.ap_markup.specs.Faults.{have_all}
 use Rattle.ap_markup.specs.NameLists.{has_name, with_name}
-use Rattle.ap_markup.specs.Names.{is_among}
 use Rattle.ap_markup.specs.Pieces.{Pair}
 use Rattle.ap_markup.specs.Said.{value_of, name_of}
-use Rattle.ap_markup.specs.Table.{Content}
 use Rattle.ap_markup.specs.TableRows.{any_of, needs_n}
 use Rattle.ap_markup.specs.Tree.{Tag}
 use Rattle.ap_rules.specs.Children.{Children, nothing, element}
@@ -16,17 +14,11 @@ use Rattle.ap_rules.specs.Faults.{Around, has_attribute}
 use Rattle.ap_rules.specs.Pieces.{word_given}
 use Rattle.ap_rules.specs.SectionRows.{AreEach, AreNames, IsItemOf, IsCatItem, IsCategory, IsAttrItem, IsAttribute, IsVariable, IsListItem, IsList}
 use Rattle.ap_rules.specs.Texts.{word_of, tags_of, given_text}
-use Rattle.ap_rules.specs.ValueRows.{IsNamed}
-use Rattle.ap_rules.specs.declared.attribute.AttrItem.{AttrItem}
 use Rattle.ap_rules.specs.declared.defined.Defined.{Defined}
 use Rattle.ap_rules.specs.declared.rules.CatItem.{CatItem}
-use Rattle.ap_rules.specs.declared.rules.DefCat.{DefCat}
-use Rattle.ap_rules.specs.declared.rules.DefList.{DefList}
-use Rattle.ap_rules.specs.declared.rules.DefVar.{DefVar}
 use Rattle.ap_rules.specs.declared.rules.Form.{Form}
 use Rattle.ap_rules.specs.declared.rules.Form.TheVariants.{Transfer, Interchunk, Postchunk}
-use Rattle.ap_rules.specs.declared.rules.ListItem.{ListItem}
-use Rattle.ap_rules.proofs.Faultless.{Clean, Stands, false_true, true_false, neither, both}
+use Rattle.ap_rules.proofs.Faultless.{Clean, Stands, false_true, neither, both}
 use Rattle.ap_rules.proofs.PiecesStand.{one_given}
 use Rattle.ap_rules.proofs.Placing.{among_each, in_last, behind_one, as_row, are_inner, quiet}
 use Rattle.ap_rules.proofs.ValuesRead.{tag_as}
@@ -75,7 +67,8 @@ pub record Definers {A : Type 0} (kind : List ℕ) (get : Defined → List (List
   pub same : (d : Defined) → d ≡ set d (get d)
   pub got : (d : Defined) (names : List (List ℕ)) → get (set d names) ≡ names
   pub twice : (d : Defined) (names more : List (List ℕ)) → set (set d names) more ≡ set d more
-  pub sets : (name : List ℕ) (tag : Tag) (d : Defined) → defined_named (Some name) (tag_as kind tag) d
+  pub sets : (name : List ℕ) (tag : Tag) (d : Defined) → defined_named (Some name) (tag_as kind
+      tag) d
       ≡ set d (with_name (get d) name)
   pub named : (d : Defined) (tag : Tag) (own : Children) → Stands a d (tag_as kind tag) own →
       have_all needs_n tag.attributes ≡ true
@@ -223,7 +216,8 @@ attributes_define a = record {
       quiet _ d (any_of (codes "attr-item" ∷ []) ∷ [], 0) own d refl r.1);
   each = λ d tag own z. (let r = as_row a d (tag_as (codes "def-attr") tag) own _ refl z in
       let items = each_stand (codes "attr-item") IsAttrItem _ d own 0 refl
-      (λ t i w. (let tags = there (tags_of false (given_text (value_of (codes "tags") t.attributes)))
+      (λ t i w. (let tags = there (tags_of false (given_text (value_of (codes "tags")
+      t.attributes)))
       (neither _ _ w.1.right.tagged).0 in (record { tags = tags.0 }, (refl, tags.1)))) r.1 in
       (items.0, (refl, items.1)));
 }

@@ -1,14 +1,12 @@
 -- What stands in a tree without fault: what is said of each of its elements, from no fault of the
 -- notation and none of the names, positions, tags, patterns and uses.
-use Rattle.std.proofs.Common.{◌≡◌, ◌⊎◌, inl, inr, ℕ, ◌+◌, ◌-◌, Bool, true, false, not, ◌&&◌, ◌||◌, ◌==◌, cond, nat_lt, nat_le, List, [], ◌∷◌, refl, sym, ap, ◌∙◌, subst, arith, Option, Some, None, codes}
+use Rattle.std.proofs.Common.{◌≡◌, ℕ, ◌+◌, ◌-◌, Bool, true, false, not, ◌&&◌, ◌||◌, ◌==◌, cond, nat_lt, List, [], ◌∷◌, refl, sym, ap, ◌∙◌, subst, arith, Option, Some, None, codes}
 use Rattle.std.specs.Prelude.{if◌then◌else◌, is_none}
 use Rattle.std.specs.Str.{bytes_eq}
 use Rattle.std.proofs.lemmas.Bool.Decides.{nat_tests}
-use Rattle.std.proofs.lemmas.Slice.Eq.{bytes_eq-Decides}
 use Rattle.ap_markup.specs.Deep.{pruned}
 use Rattle.ap_markup.specs.Elements.{grammar}
-use Rattle.ap_markup.specs.Faults.{Expected, Fault, order_of, next, has_room, needed, count_in, is_lacking, elements_only, expected, is_misplaced, expected_after, lacks, are_listed, have_all, mistake, element_fault, sooner, text_fault, first_in as first_within}
-use Rattle.ap_markup.specs.Kinds.{number_of}
+use Rattle.ap_markup.specs.Faults.{Expected, Fault, order_of, next, needed, count_in, is_lacking, elements_only, expected, is_misplaced, expected_after, lacks, are_listed, have_all, mistake, element_fault, sooner, text_fault, first_in as first_within}
 use Rattle.ap_markup.specs.Names.{is_among}
 use Rattle.ap_markup.specs.Rules.{rule_sections, rule_tests, rule_values, transfer_rows, interchunk_rows, postchunk_rows}
 use Rattle.ap_markup.specs.Sooner.{is_before, when}
@@ -70,7 +68,8 @@ pub record Regular (a : Around) (above : Defined) (tag : Tag) (own : Children)
 abbrev pub Clean : Around → Defined → Expected → Children → Type 0
 Clean a above e nothing = Unit {0}
 Clean a above e (element tag own more) =
-    ((l : Line) × Regular a above tag own l × Clean (around_within a tag own) above (l.groups, 0) own)
+    ((l : Line) × Regular a above tag own l × Clean (around_within a tag own) above (l.groups, 0)
+    own)
     × ((n : Expected) × (next tag.name e.0 e.1 ≡ Some n)
     × Clean a (defined_after tag (defined_in above own)) n more)
 
@@ -194,7 +193,8 @@ pub not_false : (b : Bool) → not b ≡ false → b ≡ true
 not_false true e = refl
 not_false false e = true_false e
 
-pub clean_parts : (t : Grammar) (room : ℕ) (only : Bool) (e : Expected) (a : Around) (above : Defined)
+pub clean_parts : (t : Grammar) (room : ℕ) (only : Bool) (e : Expected) (a : Around) (above :
+    Defined)
     (parts : Parts) → IsOf a.form t → first_within t room only (Some e) parts ≡ None →
     first_in a above (children parts) ≡ None → Clean a above e (children parts)
 unfolding children first_within
@@ -249,7 +249,8 @@ clean_parts t room only e a above (Element tag kids more) is f g =
         (when (not (are_listed t.everywhere l.keys tag.attributes)) (tag.place, UnknownAttribute))
         (when (not (have_all l.needs tag.attributes)) (tag.place, MissingAttribute)) x.0 in
         let kept = neither (is_misplaced (Some l) tag.name (Some e) || lacks (Some l) kids)
-        (room == 0) (when_none (is_misplaced (Some l) tag.name (Some e) || lacks (Some l) kids || room == 0)
+        (room == 0) (when_none (is_misplaced (Some l) tag.name (Some e) || lacks (Some l) kids ||
+        room == 0)
         (tag.place, Misplaced) x.1) in
         let here = neither (is_misplaced (Some l) tag.name (Some e)) (lacks (Some l) kids) kept.0 in
         let n = placed (next tag.name e.0 e.1) here.0 in (

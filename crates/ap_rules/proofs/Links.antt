@@ -32,7 +32,8 @@ one_tag : (text : List ℕ) → bytes_eq (codes "*") text ≡ false →
     is_tag_name (encode_utf8_all text) ≡ true → IsTagOf text (tag_symbols false (text ∷ []))
 one_tag text e f =
     ap (λ (b : Bool). with_symbol (cond {A = Option Symbol} b None
-    (cond (is_tag_name (encode_utf8_all text)) (Some (Tag (encode_utf8_all text))) None)) (Some [])) e
+    (cond (is_tag_name (encode_utf8_all text)) (Some (Tag (encode_utf8_all text))) None)) (Some
+    [])) e
     ∙ ap (λ (b : Bool). with_symbol (cond b (Some (Tag (encode_utf8_all text))) None) (Some [])) f
 
 no_dot : (c : ℕ) → is_digit c ≡ true → (c == 46) ≡ false

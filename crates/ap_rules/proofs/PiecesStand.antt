@@ -1,9 +1,8 @@
 -- Elements that are to be pieces of an output, in a tree without fault, are pieces by the table.
-use Rattle.std.proofs.Common.{◌≡◌, ◌⊎◌, inl, inr, ℕ, ◌+◌, Bool, true, false, not, ◌&&◌, ◌||◌, cond, List, [], ◌∷◌, refl, sym, ap, ◌∙◌, subst, Option, Some, None, is_some, codes}
+use Rattle.std.proofs.Common.{◌≡◌, inl, inr, ℕ, ◌+◌, Bool, true, false, ◌&&◌, ◌||◌, cond, List, [], ◌∷◌, refl, sym, ap, ◌∙◌, subst, Option, Some, None, is_some, codes}
 use Rattle.std.specs.Str.{bytes_eq}
 use Rattle.std.proofs.lemmas.Slice.Eq.{bytes_eq-Decides}
-use Rattle.ap_symbol.specs.declared.symbol.Symbol.{Symbol}
-use Rattle.ap_markup.specs.Faults.{Expected, next, has_one}
+use Rattle.ap_markup.specs.Faults.{has_one}
 use Rattle.ap_markup.specs.Names.{is_among}
 use Rattle.ap_markup.specs.Pieces.{Pair}
 use Rattle.ap_markup.specs.Rules.{values as value_names}
@@ -14,10 +13,10 @@ use Rattle.ap_markup.specs.Tree.{Tag}
 use Rattle.ap_rules.specs.Children.{Children, nothing, element}
 use Rattle.ap_rules.specs.Defining.{defined_after, defined_in}
 use Rattle.ap_rules.specs.Faults.{is_transfer, has_attribute, is_no_variable}
-use Rattle.ap_rules.specs.PieceRows.{AreRows, IsChunkPiece, AreChunkPieces, AreTagsAndPieces, IsVariableNamed, IsChunk, IsPiece, ArePieces}
+use Rattle.ap_rules.specs.PieceRows.{AreRows, IsChunkPiece, AreChunkPieces, AreTagsAndPieces, IsVariableNamed, IsPiece, ArePieces}
 use Rattle.ap_rules.specs.Pieces.{word_given, is_named_once}
-use Rattle.ap_rules.specs.Plain.{PlainValue, values_of, PlainChunkPiece, chunk_unit, chunk_units, chunk_blank, PlainChunk, PlainPiece, blank, unit, units, chunk, value_chunk}
-use Rattle.ap_rules.specs.ValueRows.{IsNamed, IsBlankAt, AreValues}
+use Rattle.ap_rules.specs.Plain.{PlainValue, values_of, PlainChunkPiece, chunk_unit, chunk_units, chunk_blank, PlainPiece, blank, unit, units, chunk, value_chunk}
+use Rattle.ap_rules.specs.ValueRows.{AreValues}
 use Rattle.ap_rules.specs.Values.{Scope}
 use Rattle.ap_rules.specs.declared.defined.Defined.{Defined}
 use Rattle.ap_rules.specs.declared.rules.Form.{Form}
@@ -37,7 +36,8 @@ pub one_given : (names : List (List ℕ)) (given : List Pair) → has_one names 
 one_given names [] h = false_true h
 one_given names (p ∷ more) h = by (is_among p.0 names) refl h (λ k. one_given names more k)
   where
-    past_one : (name : List ℕ) → has_attribute name more ≡ true → has_attribute name (p ∷ more) ≡ true
+    past_one : (name : List ℕ) → has_attribute name more ≡ true → has_attribute name (p ∷ more) ≡
+        true
     past_one name k = other (bytes_eq name p.0)
       where
         other : (b : Bool) → is_some (cond b (Some p.1) (value_of name more)) ≡ true
@@ -102,7 +102,8 @@ chunk_piece_stands s all above parent tag own same h x =
       λ z. (let vs = lu_row s all same above parent tag own z in (chunk_unit vs.0, (refl, vs.1))),
       (
         λ z. (let r = as_row a above (tag_as (codes "mlu") tag) own _ refl z in
-            let us = rows_stand (codes "lu") s all above (codes "mlu") own 0 (lu_row s all same) r.1 in
+            let us = rows_stand (codes "lu") s all above (codes "mlu") own 0 (lu_row s all same)
+            r.1 in
             (chunk_units us.0, (refl, us.1))),
         (
           λ z. (let pos = blank_stands tag.attributes
@@ -156,10 +157,12 @@ parts_stand s all above parent (element tag own more) same (here, (n, is, later)
         let ps = chunk_pieces_stand s all (defined_after tag (defined_in above own)) parent more 0
         same c in
         let rows = among_each (λ word. Stands (outside s all parent) above (tag_as word tag) own →
-        (tags : List (List PlainValue)) × ((word ≡ codes "tags") × AreRows (codes "tag") s own tags))
+        (tags : List (List PlainValue)) × ((word ≡ codes "tags") × AreRows (codes "tag") s own
+        tags))
         (codes "tags" ∷ []) tag.name (
           λ z. (let r = as_row (outside s all parent) above (tag_as (codes "tags") tag) own _ refl z
-              in let ts = rows_stand (codes "tag") s all above (codes "tags") own 0 (tag_row s all same)
+              in let ts = rows_stand (codes "tag") s all above (codes "tags") own 0 (tag_row s
+              all same)
               r.1 in (ts.0, (refl, ts.1))),
           tt,
         ) h here in
@@ -204,7 +207,8 @@ either true b e = refl
 either false b e = e
 
 chunk_stands : (s : Scope) (all above : Defined) (tag : Tag) (own : Children) →
-    Numbers all s.names → Stands (outside s all (codes "out")) above (tag_as (codes "chunk") tag) own
+    Numbers all s.names → Stands (outside s all (codes "out")) above (tag_as (codes "chunk") tag)
+    own
     → (p : PlainPiece) × IsPiece s (tag_as (codes "chunk") tag) own p
 chunk_stands s all above tag own same z =
     by s.form refl (as_row (outside s all (codes "out")) above (tag_as (codes "chunk") tag) own
@@ -247,7 +251,8 @@ chunk_stands s all above tag own same z =
         (codes "name" ∷ codes "namefrom" ∷ []) named.0 (
           λ h. ap (λ (b : Bool). b || has_attribute (codes "namefrom") given) h,
           (
-            λ h. either (has_attribute (codes "name") given) (has_attribute (codes "namefrom") given) h,
+            λ h. either (has_attribute (codes "name") given) (has_attribute (codes "namefrom")
+                given) h,
             tt,
           ),
         ) named.1 named.2 in
@@ -298,7 +303,8 @@ piece_stands s all above tag own same h x =
             (unit vs.0, (refl, chunks, vs.1))),
         (
           λ z. (let r = as_row a above (tag_as (codes "mlu") tag) own _ refl z in
-              let us = rows_stand (codes "lu") s all above (codes "mlu") own 0 (lu_row s all same) r.1 in
+              let us = rows_stand (codes "lu") s all above (codes "mlu") own 0 (lu_row s all
+              same) r.1 in
               (units us.0, (refl, (neither _ _ (neither _ _ z.1.right.used).0).0, us.1))),
           (λ z. chunk_stands s all above tag own same z, tt),
         ),

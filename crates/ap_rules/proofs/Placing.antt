@@ -1,6 +1,6 @@
 -- What a row of the table says of the elements within one, and which elements define names.
-use Rattle.std.proofs.Common.{◌≡◌, ◌⊎◌, inl, inr, ℕ, suc, ◌+◌, ◌<◌, Bool, true, false, not, ◌&&◌, ◌||◌, cond, nat_lt, nat_le, List, [], ◌∷◌, length, refl, sym, ap, ◌∙◌, subst, arith, Option, Some, None, is_none, codes}
-use Rattle.std.specs.List.{list_all, list_any, position_or_len}
+use Rattle.std.proofs.Common.{◌≡◌, ◌⊎◌, inl, inr, ℕ, suc, ◌+◌, ◌<◌, Bool, true, false, not, ◌&&◌, ◌||◌, cond, nat_lt, nat_le, List, [], ◌∷◌, length, refl, sym, ap, ◌∙◌, subst, arith, Option, Some, None, codes}
+use Rattle.std.specs.List.{list_all, position_or_len}
 use Rattle.std.specs.Str.{bytes_eq}
 use Rattle.std.proofs.lemmas.Bool.Decides.{nat_tests}
 use Rattle.std.proofs.lemmas.Slice.Eq.{bytes_eq-Decides}
@@ -12,12 +12,12 @@ use Rattle.ap_markup.specs.Table.{Content, Line, line_in, line_named, or_else}
 use Rattle.ap_markup.specs.TableRows.{one, two}
 use Rattle.ap_markup.specs.Tree.{Tag}
 use Rattle.ap_rules.specs.Children.{Children, nothing, element}
-use Rattle.ap_rules.specs.Defining.{defined_named, defined_after, defined_in, npar_of, with_macro}
+use Rattle.ap_rules.specs.Defining.{defined_named, defined_after, defined_in}
 use Rattle.ap_rules.specs.Faults.{Around, around_within}
 use Rattle.ap_rules.specs.declared.defined.Defined.{Defined}
 use Rattle.ap_rules.specs.declared.rules.Form.{Form}
 use Rattle.ap_rules.specs.declared.rules.Form.TheVariants.{Transfer, Interchunk, Postchunk}
-use Rattle.ap_rules.proofs.Faultless.{rows_of, lacks_some, Regular, Clean, Stands, false_true, true_false, some_one, none_some, neither, both}
+use Rattle.ap_rules.proofs.Faultless.{rows_of, lacks_some, Regular, Clean, Stands, false_true, true_false, some_one, none_some, both}
 use Rattle.ap_rules.proofs.ValuesRead.{tag_as}
 
 -- what holds of each of the names holds of one among them
@@ -114,7 +114,8 @@ few : (all : List Content) (names : List (List ℕ)) (tag : Tag) (own : Children
     lacks_some all all (element tag own nothing) ≡ true
 few all names tag own fewer h =
     among_each (λ name. (tag : Tag) (own : Children) →
-    lacks_some all all (element (tag_as name tag) own nothing) ≡ true) names tag.name fewer h tag own
+    lacks_some all all (element (tag_as name tag) own nothing) ≡ true) names tag.name fewer h tag
+    own
 
 -- two elements side by side
 pub record AreTwo (a : Around) (above : Defined) (first second : List (List ℕ))

@@ -1,5 +1,5 @@
 -- A text is read as the grammar spells it, and refused as its sentences say.
-use Rattle.std.proofs.Common.{◌≡◌, ◌⊎◌, inl, inr, ℕ, ◌+◌, ◌<◌, ◌≤◌, Bool, cond, true, false, ◌==◌, List, [], length, refl, sym, ap, ◌∙◌, subst, Option, Some, None, Result, Ok, Err}
+use Rattle.std.proofs.Common.{◌≡◌, inl, inr, ℕ, ◌+◌, Bool, cond, true, false, ◌==◌, List, length, refl, sym, ap, ◌∙◌, subst, Option, Some, None, Result, Ok, Err}
 use Rattle.std.specs.Option.{option_map}
 use Rattle.std.specs.Str.{IsUtf8}
 use Rattle.ap_markup.specs.Deep.{pruned}
@@ -9,7 +9,7 @@ use Rattle.ap_markup.specs.Forms.{SpellsText}
 use Rattle.ap_markup.specs.Kinds.{number_of}
 use Rattle.ap_markup.specs.Least.{IsLeast}
 use Rattle.ap_markup.specs.Marks.{mark_order}
-use Rattle.ap_markup.specs.Sentences.{HasFaultUnder, GivesTree, IsRefusedBy}
+use Rattle.ap_markup.specs.Sentences.{HasFaultUnder, GivesTree}
 use Rattle.ap_markup.specs.Sooner.{is_before, sooner}
 use Rattle.ap_markup.specs.Spelling.{line_at}
 use Rattle.ap_markup.specs.Tree.{Tag, Parts, Done, Run, Element}
@@ -19,7 +19,7 @@ use Rattle.ap_markup.specs.declared.kind.MarkupKind.TheVariants as notation
 use Rattle.ap_markup.proofs.ElementLaws.{first_least, tree_found, tree_read, refusal_found, refusal_read}
 use Rattle.ap_markup.proofs.LeastOf.{least_of_both, least_mapped, least_one}
 use Rattle.ap_markup.proofs.Ordered.{InOrder, text_order, pruned_order}
-use Rattle.ap_rules.specs.Children.{Children, nothing, element, children}
+use Rattle.ap_rules.specs.Children.{Children, children}
 use Rattle.ap_rules.specs.Defining.{none_defined, defined_after, defined_in}
 use Rattle.ap_rules.specs.Faults.{RuleMark, Around, tag_kind, marked, or_else, around_root, around_within, first_in, first_mark}
 use Rattle.ap_rules.specs.Mistakes.{Fault, order_of}
@@ -27,7 +27,7 @@ use Rattle.ap_rules.specs.Plain.{PlainRules}
 use Rattle.ap_rules.specs.Refusals.{kind_number}
 use Rattle.ap_rules.specs.SectionRows.{AreRules}
 use Rattle.ap_rules.specs.Sentences.{HasNotationFault, HasOwnFault, HasAnyFault, SpellsRules, HasFirstFault, IsRefusedFor}
-use Rattle.ap_rules.specs.Spelling.{table_of, kind_of, mark_of, fault_of, rules_in, decided, judged, spelled, Spells, IsFirstFault}
+use Rattle.ap_rules.specs.Spelling.{table_of, kind_of, mark_of, fault_of, decided, judged, spelled, Spells, IsFirstFault}
 use Rattle.ap_rules.specs.declared.defined.Defined.{Defined}
 use Rattle.ap_rules.specs.declared.refusal.RuleFault.{RuleFault}
 use Rattle.ap_rules.specs.declared.refusal.RuleKind.{RuleKind}

@@ -1,10 +1,7 @@
 -- The macros and the rules of a tree without fault are macros and rules by the table.
-use Rattle.std.proofs.Common.{◌≡◌, ◌⊎◌, inl, inr, ℕ, ◌+◌, Bool, true, false, not, ◌&&◌, ◌||◌, cond, List, [], ◌∷◌, ◌++◌, length, length-append, refl, sym, ap, ◌∙◌, subst, arith, Option, Some, None, codes}
+use Rattle.std.proofs.Common.{◌≡◌, ℕ, ◌+◌, Bool, true, false, cond, List, [], ◌∷◌, ◌++◌, length, length-append, refl, sym, ap, ◌∙◌, subst, arith, Option, Some, None, codes}
 use Rattle.std.specs.Option.{unwrap_or}
-use Rattle.ap_markup.specs.Faults.{Expected, next}
 use Rattle.ap_markup.specs.NameLists.{has_name}
-use Rattle.ap_markup.specs.Names.{is_among}
-use Rattle.ap_markup.specs.Rules.{statements as statement_names}
 use Rattle.ap_markup.specs.Said.{value_of, name_of, is_named}
 use Rattle.ap_markup.specs.TableRows.{any_of, one}
 use Rattle.ap_markup.specs.Tree.{Tag}
@@ -16,14 +13,13 @@ use Rattle.ap_rules.specs.SectionRows.{AreEach, with_one, scope_of_macro, AreMac
 use Rattle.ap_rules.specs.Sections.{rule_scope}
 use Rattle.ap_rules.specs.StatementRows.{AreStatements}
 use Rattle.ap_rules.specs.Texts.{number_in}
-use Rattle.ap_rules.specs.ValueRows.{IsNamed}
 use Rattle.ap_rules.specs.Values.{Scope}
 use Rattle.ap_rules.specs.declared.defined.Defined.{Defined}
 use Rattle.ap_rules.specs.declared.faults.Reach.{Reach}
 use Rattle.ap_rules.specs.declared.rules.Form.{Form}
 use Rattle.ap_rules.specs.declared.rules.PatternItem.{PatternItem}
 use Rattle.ap_rules.proofs.DefinitionsStand.{each_stand, needed_name}
-use Rattle.ap_rules.proofs.Faultless.{Clean, Stands, not_false, false_true, true_false, neither, both}
+use Rattle.ap_rules.proofs.Faultless.{Clean, Stands, not_false, neither}
 use Rattle.ap_rules.proofs.Placing.{among_each, in_last, behind_one, as_row, AreFew, AreTwo, one_each, defines_nothing, quiet}
 use Rattle.ap_rules.proofs.StatementsStand.{Calls, statements_group, statements_stand}
 use Rattle.ap_rules.proofs.ValuesRead.{by_name, tag_as}
@@ -33,7 +29,8 @@ use Rattle.ap_rules.proofs.ValuesStand.{outside, Numbers, there, numbered}
 one_more : (names : List (List ℕ)) (npars : List ℕ) (name : List ℕ) (npar : ℕ) →
     length names ≡ length npars → length (names ++ name ∷ []) ≡ length (npars ++ npar ∷ [])
 one_more names npars name npar e =
-    length-append names (name ∷ []) ∙ ap (λ (k : ℕ). k + 1) e ∙ sym (length-append npars (npar ∷ []))
+    length-append names (name ∷ []) ∙ ap (λ (k : ℕ). k + 1) e ∙ sym (length-append npars (npar ∷
+    []))
 
 calls_more : (above names : Defined) (name : List ℕ) (npar : ℕ) → Calls above names →
     Calls (with_one above name npar) (with_one names name npar)
@@ -75,7 +72,8 @@ macro_stands : (form : Form) (chunks : Bool) (all names d : Defined) (parent : L
     parent) d (tag_as (codes "def-macro") tag) own →
     Macro form chunks names d (tag_as (codes "def-macro") tag) own
 macro_stands form chunks all names d parent reach tag own same calls z =
-    let a = outside (record { form = form; chunks = chunks; names = names; reach = reach }) all parent
+    let a = outside (record { form = form; chunks = chunks; names = names; reach = reach }) all
+    parent
     in
     let given = tag.attributes in
     let r = as_row a d (tag_as (codes "def-macro") tag) own _ refl z in
@@ -94,7 +92,8 @@ macro_stands form chunks all names d parent reach tag own same calls z =
       units = units.1 ∙ ap Some (sym npar);
       body = sts.1;
       after = ap (λ (e : Defined). defined_after (tag_as (codes "def-macro") tag) e)
-          (quiet (around_within a (tag_as (codes "def-macro") tag) own) d (statements_group, 0) own d
+          (quiet (around_within a (tag_as (codes "def-macro") tag) own) d (statements_group, 0)
+          own d
           refl r.1)
           ∙ ap (λ (o : Option (List ℕ)). defined_named o (tag_as (codes "def-macro") tag) d) name.1
           ∙ ap (λ (word : List ℕ). with_macro word (npar_of given) d) (sym named)
@@ -104,13 +103,15 @@ macro_stands form chunks all names d parent reach tag own same calls z =
 
 pub macros_stand : (form : Form) (chunks : Bool) (all names d : Defined) (parent : List ℕ)
     (reach : Reach) (own : Children) (used : ℕ) → Numbers all names → Calls d names →
-    Clean (outside (record { form = form; chunks = chunks; names = names; reach = reach }) all parent)
+    Clean (outside (record { form = form; chunks = chunks; names = names; reach = reach }) all
+    parent)
     d (any_of (codes "def-macro" ∷ []) ∷ [], used) own → Macros form chunks all names d own
 macros_stand form chunks all names d parent reach nothing used same calls c =
     record { macros = []; after = names; macros_are = refl; calls = calls; numbers = same }
 macros_stand form chunks all names d parent reach (element tag own more) used same calls
     (here, (n, is, later)) =
-    let a = outside (record { form = form; chunks = chunks; names = names; reach = reach }) all parent
+    let a = outside (record { form = form; chunks = chunks; names = names; reach = reach }) all
+    parent
     in
     let g = any_of (codes "def-macro" ∷ []) in
     let y = in_last tag.name g used n is in
@@ -127,7 +128,8 @@ macros_stand form chunks all names d parent reach (element tag own more) used sa
       macros = m.macro ∷ rest.macros;
       after = rest.after;
       macros_are = (m.kind_is, m.fresh, m.units, m.body, rest.macros_are);
-      calls = subst (λ (z : Defined). Calls (defined_in z more) rest.after) (sym m.after) rest.calls;
+      calls = subst (λ (z : Defined). Calls (defined_in z more) rest.after) (sym m.after)
+          rest.calls;
       numbers = rest.numbers;
     }
 
@@ -163,10 +165,12 @@ macros_alike a above (element tag own more) used d (here, (n, is, later)) =
     let g = any_of (codes "def-macro" ∷ []) in
     let y = in_last tag.name g used n is in
     let first = among_each (λ word. Stands a above (tag_as word tag) own →
-    Alike (defined_after (tag_as word tag) (defined_in d own)) d) (codes "def-macro" ∷ []) tag.name (
+    Alike (defined_after (tag_as word tag) (defined_in d own)) d) (codes "def-macro" ∷ [])
+    tag.name (
       λ z. (let r = as_row a above (tag_as (codes "def-macro") tag) own _ refl z in
           subst (λ (e : Defined). Alike (defined_after (tag_as (codes "def-macro") tag) e) d)
-          (sym (quiet (around_within a (tag_as (codes "def-macro") tag) own) above (statements_group, 0)
+          (sym (quiet (around_within a (tag_as (codes "def-macro") tag) own) above
+          (statements_group, 0)
           own d refl r.1)) (macro_alike (value_of (codes "n") tag.attributes) tag d)),
       tt,
     ) y.0 here in
@@ -232,7 +236,8 @@ action_stands s all d parent tag own same calls z =
     let r = as_row (outside s all parent) d (tag_as (codes "action") tag) own _ refl z in
     statements_stand s all d (codes "action") own same calls 0 r.1
 
-no_action : AreFew (one (codes "pattern" ∷ []) ∷ one (codes "action" ∷ []) ∷ []) (codes "pattern" ∷ [])
+no_action : AreFew (one (codes "pattern" ∷ []) ∷ one (codes "action" ∷ []) ∷ []) (codes "pattern"
+    ∷ [])
 no_action = (λ t o. refl, tt)
 
 -- what stands around a pattern and an action, by how many items there are
@@ -256,7 +261,8 @@ second_half s all d own same calls them p =
     let inside = outside (read_with s own) all (codes "rule") in
     among_each (λ word. Stands inside d (tag_as word them.other) them.within →
     Action s own (tag_as word them.other) them.within) (codes "action" ∷ []) them.other.name (
-      λ w. (let sts = action_stands (read_with s own) all d (codes "rule") them.other them.within same
+      λ w. (let sts = action_stands (read_with s own) all d (codes "rule") them.other them.within
+          same
           calls w in (sts.0, (refl, sts.1))),
       tt,
     ) them.other_in
@@ -276,7 +282,8 @@ reach_is s all d own them p =
 
 halves_stand : (s : Scope) (all d : Defined) (tag : Tag) (own : Children) →
     (them : Halves s all d own) → Pattern s d them.tag them.inner →
-    Action s own them.other them.within → (r : PlainRule) × IsRule s (tag_as (codes "rule") tag) own r
+    Action s own them.other them.within → (r : PlainRule) × IsRule s (tag_as (codes "rule") tag)
+    own r
 halves_stand s all d tag own them p act =
     let made : PlainRule = record { line = tag.line; pattern = p.items; action = act.0 } in
     let body : AreStatements (rule_scope s (length p.items)) them.within (statements_of act.0) =

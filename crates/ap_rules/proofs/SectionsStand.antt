@@ -1,5 +1,5 @@
 -- A tree without fault is rules by the table.
-use Rattle.std.proofs.Common.{◌≡◌, ◌⊎◌, inl, inr, ℕ, ◌+◌, Bool, true, false, not, ◌&&◌, ◌||◌, cond, List, [], ◌∷◌, refl, sym, ap, ◌∙◌, subst, Option, Some, None, codes}
+use Rattle.std.proofs.Common.{◌≡◌, inl, inr, ℕ, Bool, true, false, not, ◌&&◌, cond, List, [], ◌∷◌, refl, sym, ap, ◌∙◌, subst, Option, Some, None, codes}
 use Rattle.std.specs.Str.{bytes_eq}
 use Rattle.std.proofs.lemmas.Slice.Eq.{bytes_eq-Decides}
 use Rattle.ap_markup.specs.Faults.{Expected, next}
@@ -13,16 +13,15 @@ use Rattle.ap_rules.specs.Children.{Children, nothing, element, within}
 use Rattle.ap_rules.specs.Defining.{none_defined, defined_named, defined_after, defined_in}
 use Rattle.ap_rules.specs.Faults.{Around, around_within, holds_chunks, reach_to}
 use Rattle.ap_rules.specs.Plain.{PlainRules}
-use Rattle.ap_rules.specs.SectionRows.{AreEach, AreNames, IsCategory, IsAttribute, IsVariable, IsList, AreMacros, IsRule, AreInOrder, section_order, AreSections}
+use Rattle.ap_rules.specs.SectionRows.{AreEach, AreNames, IsCategory, IsAttribute, IsVariable, IsList, AreMacros, IsRule, AreInOrder, AreSections}
 use Rattle.ap_rules.specs.Sections.{default_of, rules_scope}
 use Rattle.ap_rules.specs.Values.{Scope}
 use Rattle.ap_rules.specs.declared.defined.Defined.{Defined}
 use Rattle.ap_rules.specs.declared.rules.Form.{Form}
-use Rattle.ap_rules.proofs.DefinitionsStand.{Definers, Defining, definitions_stand, categories_define, attributes_define, variables_define, lists_define}
-use Rattle.ap_rules.proofs.Faultless.{rows_of, Clean, Stands, false_true, true_false, none_some, both}
+use Rattle.ap_rules.proofs.DefinitionsStand.{Definers, definitions_stand, categories_define, attributes_define, variables_define, lists_define}
+use Rattle.ap_rules.proofs.Faultless.{rows_of, Clean, Stands, false_true, none_some, both}
 use Rattle.ap_rules.proofs.Placing.{among_each, step, past, behind_one, as_row, quiet}
-use Rattle.ap_rules.proofs.RulesStand.{Macros, macros_stand, Alike, macros_alike, rules_stand}
-use Rattle.ap_rules.proofs.StatementsStand.{Calls}
+use Rattle.ap_rules.proofs.RulesStand.{macros_stand, Alike, macros_alike, rules_stand}
 use Rattle.ap_rules.proofs.ValuesRead.{tag_as}
 use Rattle.ap_rules.proofs.ValuesStand.{outside, Numbers}
 
@@ -49,7 +48,8 @@ next_absent name other (g ∷ gs) used n none e =
         is_among other g.names ≡ true → bytes_eq name other ≡ false
     by false e h k = e
     by true e h k = false_true (sym (ap not
-        (ap (λ (word : List ℕ). is_among word g.names) ((bytes_eq-Decides name other).0 e) ∙ k)) ∙ h)
+        (ap (λ (word : List ℕ). is_among word g.names) ((bytes_eq-Decides name other).0 e) ∙ k))
+        ∙ h)
 
 nowhere : (a : Around) (d : Defined) (gs : List Content) (used : ℕ) (own : Children)
     (name : List ℕ) → is_absent name gs ≡ true → Clean a d (gs, used) own →
@@ -78,7 +78,8 @@ record IsSection (form : Form) (name : List ℕ) (l : Line) : Type 0 where
   row : line_in name (rows_of form) ≡ Some l
   plain : (s : Scope) (all : Defined) (root : List ℕ) (tag : Tag) (inner : Children) →
       around_within (outside s all root) (tag_as name tag) inner ≡ outside s all name
-  quietly : (o : Option (List ℕ)) (tag : Tag) (d : Defined) → defined_named o (tag_as name tag) d ≡ d
+  quietly : (o : Option (List ℕ)) (tag : Tag) (d : Defined) → defined_named o (tag_as name tag) d
+      ≡ d
 
 section_begun : (s : Scope) (all d : Defined) (root name : List ℕ) (l : Line) (gs : List Content)
     (tag : Tag) (inner more : Children) → IsSection s.form name l →
@@ -91,7 +92,8 @@ section_begun s all d root name l gs tag inner more is z c =
     record {
       inner = inner;
       more = more;
-      found = ap (λ (b : Bool). cond b inner (within name more)) ((bytes_eq-Decides name name).1 refl);
+      found = ap (λ (b : Bool). cond b inner (within name more)) ((bytes_eq-Decides name name).1
+          refl);
       others = λ other h. ap (λ (b : Bool). cond b inner (within other more)) h;
       order = λ names x. inl (refl, x);
       inside = subst (λ (a : Around). Clean a d (l.groups, 0) inner) (is.plain s all root tag inner)
@@ -118,11 +120,13 @@ section_next s all d root name l gs (element tag inner more) is none (here, (n, 
     let a = outside s all root in
     elim (step tag.name (at_most_one (name ∷ [])) gs 0 n e) [
       | inl y ↦
-          (let c = past a (defined_after tag (defined_in d inner)) (at_most_one (name ∷ [])) gs 1 more
+          (let c = past a (defined_after tag (defined_in d inner)) (at_most_one (name ∷ [])) gs 1
+          more
           refl (behind_one a d (at_most_one (name ∷ []) ∷ gs, 1) inner more tag n y.2 later) in
           among_each (λ word. Stands a d (tag_as word tag) inner →
           Clean a (defined_after (tag_as word tag) (defined_in d inner)) (gs, 0) more →
-          Section s all d root name l gs (element (tag_as word tag) inner more)) (name ∷ []) tag.name
+          Section s all d root name l gs (element (tag_as word tag) inner more)) (name ∷ [])
+          tag.name
           (λ z k. section_begun s all d root name l gs tag inner more is z k, tt) y.0 here c)
       | inr y ↦ record {
         inner = nothing;
@@ -195,17 +199,20 @@ stage : {A : Type 0} (s : Scope) (all d : Defined) (root name kind : List ℕ)
     Stage s all d root name kind get set Is gs own
 stage s all d root name kind get set Is gs own is none define c =
     let it = section_next s all d root name (section_line name kind) gs own is none c in
-    let made = definitions_stand kind get set Is (outside s all name) d it.inner 0 define it.inside in
+    let made = definitions_stand kind get set Is (outside s all name) d it.inner 0 define
+    it.inside in
     record {
       names = made.names;
       things = made.things;
       more = it.more;
       names_are = subst (λ (k : Children). AreNames kind (get d) k made.names) (sym it.found)
           made.names_are;
-      things_are = subst (λ (k : Children). AreEach Is k made.things) (sym it.found) made.things_are;
+      things_are = subst (λ (k : Children). AreEach Is k made.things) (sym it.found)
+          made.things_are;
       others = it.others;
       order = it.order;
-      later = behind_known s all (defined_in d it.inner) (set d made.names) root gs it.more made.after
+      later = behind_known s all (defined_in d it.inner) (set d made.names) root gs it.more
+          made.after
           it.later;
       through = it.through ∙ ap (λ (e : Defined). defined_in e it.more) made.after;
     }
@@ -282,7 +289,8 @@ with_all : (form : Form) (tag : Tag) (own : Children) →
     (ms : MacroSection (first_scope form tag) (defined_in none_defined own)
     (names_of cats.names attrs.names vars.names lists.names) tag.name lists.more) →
     (rs : RuleSection (first_scope form tag) (defined_in none_defined own)
-    (defined_in (names_of cats.names attrs.names vars.names lists.names) ms.inner) tag.name ms.more) →
+    (defined_in (names_of cats.names attrs.names vars.names lists.names) ms.inner) tag.name
+    ms.more) →
     (r : PlainRules) × AreSections form tag own r
 with_all form tag own cats attrs vars lists ms rs =
     let all = defined_in none_defined own in
@@ -290,16 +298,19 @@ with_all form tag own cats attrs vars lists ms rs =
     let names = names_of cats.names attrs.names vars.names lists.names in
     let last = defined_in names ms.inner in
     let s = first_scope form tag in
-    let over : rs.more ≡ nothing = no_more (outside s all tag.name) (defined_in last rs.inner) rs.more
+    let over : rs.more ≡ nothing = no_more (outside s all tag.name) (defined_in last rs.inner)
+    rs.more
     rs.later in
     let all_is : all ≡ last = cats.through ∙ attrs.through ∙ vars.through ∙ lists.through
     ∙ ms.through ∙ rs.through ∙ ap (defined_in (defined_in last rs.inner)) over
-    ∙ quiet (outside s all (codes "section-rules")) last (any_of (codes "rule" ∷ []) ∷ [], 0) rs.inner
+    ∙ quiet (outside s all (codes "section-rules")) last (any_of (codes "rule" ∷ []) ∷ [], 0)
+    rs.inner
     last refl rs.inside in
     let same = numbers_of all names last all_is
     (macros_alike (outside s all (codes "section-def-macros")) names ms.inner 0 names ms.inside) in
     let macros = macros_stand form chunks all names names (codes "section-def-macros")
-    (reach_to form 0) ms.inner 0 same (record { macros = refl; npars = refl; even = refl }) ms.inside
+    (reach_to form 0) ms.inner 0 same (record { macros = refl; npars = refl; even = refl })
+    ms.inside
     in
     let rules = rules_stand (rules_scope form chunks macros.after) all last (codes "section-rules")
     rs.inner 0 macros.numbers macros.calls rs.inside in
@@ -307,7 +318,8 @@ with_all form tag own cats attrs vars lists ms rs =
     let vars_in = cats.others (codes "section-def-vars") refl
     ∙ attrs.others (codes "section-def-vars") refl in
     let lists_in = cats.others (codes "section-def-lists") refl
-    ∙ attrs.others (codes "section-def-lists") refl ∙ vars.others (codes "section-def-lists") refl in
+    ∙ attrs.others (codes "section-def-lists") refl ∙ vars.others (codes "section-def-lists")
+    refl in
     let macros_in : within (codes "section-def-macros") own ≡ ms.inner =
     cats.others (codes "section-def-macros") refl
     ∙ attrs.others (codes "section-def-macros") refl ∙ vars.others (codes "section-def-macros") refl
@@ -336,7 +348,8 @@ with_all form tag own cats attrs vars lists ms rs =
         order = cats.order _ (attrs.order _ (vars.order _ (lists.order _ (ms.order _ (rs.order []
             (subst (AreInOrder []) (sym over) tt))))));
         cats = cats.names_are;
-        attrs = subst (λ (k : Children). AreNames (codes "def-attr") [] k attrs.names) (sym attrs_in)
+        attrs = subst (λ (k : Children). AreNames (codes "def-attr") [] k attrs.names) (sym
+            attrs_in)
             attrs.names_are;
         vars = subst (λ (k : Children). AreNames (codes "def-var") [] k vars.names) (sym vars_in)
             vars.names_are;
@@ -425,7 +438,8 @@ from_vars form tag own cats attrs vars =
 from_attrs : (form : Form) (tag : Tag) (own : Children) →
     (cats : Cats (first_scope form tag) (defined_in none_defined own) none_defined tag.name own) →
     Attrs (first_scope form tag) (defined_in none_defined own)
-    (names_of cats.names [] [] []) tag.name cats.more → (r : PlainRules) × AreSections form tag own r
+    (names_of cats.names [] [] []) tag.name cats.more → (r : PlainRules) × AreSections form tag
+    own r
 from_attrs form tag own cats attrs =
     from_vars form tag own cats attrs
     (stage (first_scope form tag) (defined_in none_defined own)
@@ -461,7 +475,8 @@ pub sections_stand : (form : Form) (tag : Tag) (own : Children) →
 sections_stand form tag own c =
     from_cats form tag own
     (stage (first_scope form tag) (defined_in none_defined own) none_defined tag.name
-    (codes "section-def-cats") (codes "def-cat") (λ e. e.cats) with_cats (IsCategory form) attrs_next
+    (codes "section-def-cats") (codes "def-cat") (λ e. e.cats) with_cats (IsCategory form)
+    attrs_next
     own
     (record {
       row = refl;

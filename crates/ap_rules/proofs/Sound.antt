@@ -1,34 +1,31 @@
 -- What a tree spells is sound.
-use Rattle.std.proofs.Common.{◌≡◌, ℕ, ◌+◌, ◌-◌, ◌*◌, ◌<◌, ◌≤◌, Bool, true, false, not, ◌&&◌, ◌==◌, cond, ltb, nat_le, List, [], ◌∷◌, ◌++◌, length, map, refl, sym, subst, ap, ◌∙◌, arith, Option, Some, None, Result, Ok, Err, codes, is_none, is_some}
-use Rattle.std.specs.Prelude.{slice_get, if◌then◌else◌}
-use Rattle.std.specs.Option.{option_map, option_to_list, unwrap_or}
+use Rattle.std.proofs.Common.{◌≡◌, ℕ, ◌<◌, ◌≤◌, Bool, true, false, not, ◌&&◌, ◌==◌, cond, ltb, nat_le, List, [], ◌∷◌, ◌++◌, length, refl, sym, ap, arith, Option, Some, None, codes, is_none, is_some}
+use Rattle.std.specs.Prelude.{slice_get}
+use Rattle.std.specs.Option.{option_map, option_to_list}
 use Rattle.std.specs.List.{position_or_len}
 use Rattle.std.specs.Str.{bytes_eq, encode_utf8_all}
 use Rattle.std.proofs.lemmas.Bool.Decides.{nat_tests}
 use Rattle.ap_symbol.specs.TagNames.{is_tag_name}
 use Rattle.ap_symbol.specs.declared.symbol.Symbol.{Symbol}
 use Rattle.ap_symbol.specs.declared.symbol.Symbol.TheVariants.{Tag as tag_symbol_of, Star}
-use Rattle.ap_markup.specs.NameLists.{has_name, with_name, number_of}
+use Rattle.ap_markup.specs.NameLists.{number_of}
 use Rattle.ap_markup.specs.Pieces.{Pair}
 use Rattle.ap_markup.specs.Said.{value_of, name_of, is_named}
 use Rattle.ap_markup.specs.Tree.{Tag}
 use Rattle.ap_rules.specs.Children.{Children, nothing, element, within, tag_within}
 use Rattle.ap_rules.specs.Conditions.{comparison, membership, list_number, list_in, conjunction, disjunction, negation, simple_condition, condition, conditions}
-use Rattle.ap_rules.specs.Faults.{is_transfer, has_attribute}
+use Rattle.ap_rules.specs.Faults.{is_transfer}
 use Rattle.ap_rules.specs.Pieces.{rows_named, chunk_piece, chunk_pieces, variable_given, word_given, is_named_once, chunk_of, any_chunk, piece, pieces}
-use Rattle.ap_rules.specs.Plain.{PlainValue, PlainValues, clip, lit, lit_tag, var, get_case_from, case_of, concat, blank_value, values_of, PlainComparison, PlainMembership, PlainCondition, PlainConditions, equal, begins_with, ends_with, contains_substring, is_in, begins_with_list, ends_with_list, conditions_of, PlainChunkPiece, chunk_unit, chunk_units, chunk_blank, PlainChunk, PlainPiece, blank, unit, units, chunk, value_chunk, PlainStatement, out, PlainWhen, assign, modify_case, call_macro, statements_of, whens_of}
-use Rattle.ap_rules.specs.Soundness.{Opt, Each, HasSome, Bounds, IsWithin, IsPosition, IsTag, IsLink, IsSoundPart, IsSoundClip, IsSoundCase, IsSoundBlank, IsSoundValue, AreSoundValues, AreSound, IsSoundComparison, IsSoundMembership, IsSoundCondition, AreSoundConditions, IsSoundChunkPiece, IsVariable, IsSoundChunk, IsSoundPiece, IsSoundPlace, IsSoundStatement, AreSoundStatements, AreSoundWhens}
+use Rattle.ap_rules.specs.Plain.{PlainValue, clip, lit, lit_tag, var, get_case_from, case_of, concat, blank_value, values_of, PlainComparison, PlainMembership, PlainCondition, equal, begins_with, ends_with, contains_substring, is_in, begins_with_list, ends_with_list, conditions_of, PlainChunkPiece, chunk_unit, chunk_units, chunk_blank, PlainChunk, PlainPiece, blank, unit, units, chunk, value_chunk, PlainStatement, out, PlainWhen, assign, modify_case, call_macro, statements_of, whens_of}
+use Rattle.ap_rules.specs.Soundness.{Opt, Each, Bounds, IsWithin, IsPosition, IsTag, IsLink, IsSoundPart, IsSoundClip, IsSoundCase, IsSoundBlank, IsSoundValue, AreSoundValues, AreSound, IsSoundComparison, IsSoundMembership, IsSoundCondition, AreSoundConditions, IsSoundChunkPiece, IsVariable, IsSoundChunk, IsSoundPiece, IsSoundPlace, IsSoundStatement, AreSoundStatements, AreSoundWhens}
 use Rattle.ap_rules.specs.Statements.{place_of, placed, setting, params, is_given, call_of, appended, choice, simple_statement, statement, tested, when_of, statements, whens, otherwise}
-use Rattle.ap_rules.specs.Texts.{is_digit, is_leading, when_so, decimal, bounded, number_in, word_of, tag_named, tag_symbol, parts_after, with_symbol, tag_symbols, tags_of, given_text}
+use Rattle.ap_rules.specs.Texts.{decimal, bounded, number_in, word_of, tag_named, tag_symbol, parts_after, with_symbol, tag_symbols, tags_of, given_text}
 use Rattle.ap_rules.specs.Values.{Scope, on_some, position_of, part_named, part_given, side_of, is_value, link_of, clip_of, case_given, recased, simple_value, value, values}
 use Rattle.ap_rules.specs.declared.defined.Defined.{Defined}
-use Rattle.ap_rules.specs.declared.faults.Reach.{Reach}
 use Rattle.ap_rules.specs.declared.statement.Place.{Place}
-use Rattle.ap_rules.specs.declared.value.CaseOf.{CaseOf}
 use Rattle.ap_rules.specs.declared.value.Clip.{Clip}
 use Rattle.ap_rules.specs.declared.value.ClipPart.{ClipPart}
 use Rattle.ap_rules.specs.declared.value.ClipPart.TheVariants.{Lem, Lemh, Lemq, Tags, Whole, Content, Attribute}
-use Rattle.ap_rules.specs.declared.value.Side.{Side}
 use Rattle.ap_rules.proofs.Links.{link_sound}
 
 -- what holds of options and lists

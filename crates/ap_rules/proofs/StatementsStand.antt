@@ -1,5 +1,5 @@
 -- Elements that are to be statements, in a tree without fault, are statements by the table.
-use Rattle.std.proofs.Common.{◌≡◌, ◌⊎◌, inl, inr, ℕ, ◌+◌, ◌<◌, Bool, true, false, not, ◌==◌, cond, nat_lt, nat_le, List, [], ◌∷◌, length, get_or, refl, sym, ap, ◌∙◌, subst, arith, Option, Some, None, codes}
+use Rattle.std.proofs.Common.{◌≡◌, inl, inr, ℕ, ◌+◌, ◌<◌, Bool, true, false, ◌==◌, cond, nat_lt, List, [], ◌∷◌, length, get_or, refl, sym, ap, ◌∙◌, subst, arith, Option, Some, None, codes}
 use Rattle.std.specs.Prelude.{slice_get}
 use Rattle.std.specs.List.{position_or_len}
 use Rattle.std.specs.Str.{bytes_eq}
@@ -8,7 +8,7 @@ use Rattle.std.proofs.lemmas.Option.{slice_get-get_or}
 use Rattle.ap_markup.specs.Faults.{Expected, next}
 use Rattle.ap_markup.specs.NameLists.{number_of}
 use Rattle.ap_markup.specs.Names.{is_among}
-use Rattle.ap_markup.specs.Rules.{values as value_names, statements as statement_names, conditions as condition_names}
+use Rattle.ap_markup.specs.Rules.{values as value_names, statements as statement_names}
 use Rattle.ap_markup.specs.Said.{name_of, is_named}
 use Rattle.ap_markup.specs.Table.{Content}
 use Rattle.ap_markup.specs.TableRows.{any_of, at_most_one, some_of, one}
@@ -17,10 +17,10 @@ use Rattle.ap_rules.specs.Children.{Children, nothing, element, within, count_na
 use Rattle.ap_rules.specs.ConditionRows.{IsCondition}
 use Rattle.ap_rules.specs.Defining.{defined_after, defined_in, npar_numbered, npar_named}
 use Rattle.ap_rules.specs.Faults.{Around, is_other_than}
-use Rattle.ap_rules.specs.Plain.{PlainValue, no_values, then_value, values_of, PlainCondition, PlainStatement, PlainStatements, PlainWhens, choose, assign, append, out, modify_case, call_macro, no_whens, then_when, statements_of}
+use Rattle.ap_rules.specs.Plain.{PlainValue, no_values, then_value, values_of, PlainCondition, PlainStatement, PlainWhens, choose, assign, append, out, modify_case, call_macro, no_whens, then_when, statements_of}
 use Rattle.ap_rules.specs.Soundness.{HasSome, HasWhen}
 use Rattle.ap_rules.specs.StatementRows.{value_at, IsSetting, AreParams, leading, behind, AreAtMostOne, IsTest, behind_first, IsStatement, AreStatements, AreWhens}
-use Rattle.ap_rules.specs.ValueRows.{IsNamed, IsAlone, IsValue, AreValues}
+use Rattle.ap_rules.specs.ValueRows.{IsAlone, IsValue, AreValues}
 use Rattle.ap_rules.specs.Values.{Scope, position_of}
 use Rattle.ap_rules.specs.declared.defined.Defined.{Defined}
 use Rattle.ap_rules.specs.declared.statement.Place.{Place}
@@ -113,7 +113,8 @@ params_stand s all above (element tag own more) used (here, (n, is, later)) =
     let y = in_last tag.name (any_of (codes "with-param" ∷ [])) used n is in
     let first = among_each (λ word. Stands a above (tag_as word tag) own →
     (pos : ℕ) × ((word ≡ codes "with-param") × (position_of s tag.attributes ≡ Some pos)
-    × (is_named (codes "with-param") (tag_as word tag) ≡ true))) (codes "with-param" ∷ []) tag.name (
+    × (is_named (codes "with-param") (tag_as word tag) ≡ true))) (codes "with-param" ∷ [])
+    tag.name (
       λ z. (let pos = there (position_of s tag.attributes)
           (neither _ _ (neither _ _ (neither _ _ (neither _ _ z.1.right.numbered).0).0).0).0 in
           (pos.0, (refl, pos.1, refl))),

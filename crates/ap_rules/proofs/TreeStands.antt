@@ -1,9 +1,9 @@
 -- Every tree without fault is rules by the table.
-use Rattle.std.proofs.Common.{◌≡◌, ◌⊎◌, inl, inr, ℕ, ◌+◌, Bool, true, List, [], ◌∷◌, length, refl, sym, ap, ◌∙◌, subst, Option, Some, None, codes}
+use Rattle.std.proofs.Common.{◌≡◌, inl, inr, ℕ, true, List, [], ◌∷◌, length, refl, sym, ap, ◌∙◌, subst, Option, Some, None, codes}
 use Rattle.std.specs.Option.{option_map}
 use Rattle.ap_markup.specs.Deep.{pruned}
 use Rattle.ap_markup.specs.Elements.{grammar}
-use Rattle.ap_markup.specs.Faults.{Fault as NotationFault, Expected, next, order_of as notation_order, first_in as notation_first}
+use Rattle.ap_markup.specs.Faults.{Fault as NotationFault, next, order_of as notation_order, first_in as notation_first}
 use Rattle.ap_markup.specs.Forms.{SpellsText}
 use Rattle.ap_markup.specs.Least.{IsLeast}
 use Rattle.ap_markup.specs.Sentences.{HasFaultUnder}
@@ -21,7 +21,7 @@ use Rattle.ap_rules.specs.Sentences.{HasAnyFault}
 use Rattle.ap_rules.specs.Spelling.{table_of, kind_of}
 use Rattle.ap_rules.specs.declared.rules.Form.{Form}
 use Rattle.ap_rules.specs.declared.rules.Form.TheVariants.{Transfer, Interchunk, Postchunk}
-use Rattle.ap_rules.proofs.Faultless.{Clean, Stands, some_one, none_some, or_none, grammar_is, clean_parts, not_deep}
+use Rattle.ap_rules.proofs.Faultless.{Clean, Stands, or_none, grammar_is, clean_parts, not_deep}
 use Rattle.ap_rules.proofs.OwnFaults.{placed, IsRoot, root_least}
 use Rattle.ap_rules.proofs.Placing.{among_each, in_last, as_row}
 use Rattle.ap_rules.proofs.SectionsStand.{sections_stand}
@@ -45,10 +45,12 @@ root_row Transfer tag own z =
     let r = as_row (around_root Transfer tag own) none_defined (tag_as (codes "transfer") tag) own _
     refl z in sections_stand Transfer (tag_as (codes "transfer") tag) own r.1
 root_row Interchunk tag own z =
-    let r = as_row (around_root Interchunk tag own) none_defined (tag_as (codes "interchunk") tag) own
+    let r = as_row (around_root Interchunk tag own) none_defined (tag_as (codes "interchunk")
+    tag) own
     _ refl z in sections_stand Interchunk (tag_as (codes "interchunk") tag) own r.1
 root_row Postchunk tag own z =
-    let r = as_row (around_root Postchunk tag own) none_defined (tag_as (codes "postchunk") tag) own _
+    let r = as_row (around_root Postchunk tag own) none_defined (tag_as (codes "postchunk") tag)
+    own _
     refl z in sections_stand Postchunk (tag_as (codes "postchunk") tag) own r.1
 
 document_is : (form : Form) → (grammar (table_of form)).document
@@ -105,12 +107,14 @@ first_none form whole faultless (Some g) least =
     absurd (faultless (g.0, kind_of g.1) (inl (g, least.0, refl)))
 
 mark_none : (form : Form) (root : Parts) → ((f : Fault) → HasRootFault form (children root) f → ⊥) →
-    (o : Option RuleMark) → IsLeast order_of (HasRootFault form (children root)) (option_map placed o)
+    (o : Option RuleMark) → IsLeast order_of (HasRootFault form (children root)) (option_map
+    placed o)
     → o ≡ None
 mark_none form root faultless None least = refl
 mark_none form root faultless (Some m) least = absurd (faultless (placed m) least.0)
 
-pub root_of_text : (text : List ℕ) (whole : Parts) → SpellsText text whole → IsRoot (pruned 200 whole)
+pub root_of_text : (text : List ℕ) (whole : Parts) → SpellsText text whole → IsRoot (pruned 200
+    whole)
 unfolding pruned
 root_of_text text whole s = rw s.spelled.root_is refl
 

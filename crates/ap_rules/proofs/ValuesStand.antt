@@ -1,30 +1,29 @@
 -- Elements that are to be values, in a tree without fault, are values by the table.
-use Rattle.std.proofs.Common.{◌≡◌, ◌⊎◌, inl, inr, ℕ, ◌+◌, Bool, true, false, not, ◌&&◌, ◌||◌, cond, List, [], ◌∷◌, refl, sym, ap, ◌∙◌, subst, Option, Some, None, is_none, codes}
+use Rattle.std.proofs.Common.{◌≡◌, ℕ, ◌+◌, Bool, true, false, not, ◌&&◌, List, [], ◌∷◌, refl, sym, ap, ◌∙◌, subst, Option, Some, None, is_none, codes}
 use Rattle.std.specs.Str.{bytes_eq}
 use Rattle.std.proofs.lemmas.Slice.Eq.{bytes_eq-Decides}
 use Rattle.ap_symbol.specs.declared.symbol.Symbol.{Symbol}
-use Rattle.ap_markup.specs.Faults.{Expected, next}
 use Rattle.ap_markup.specs.NameLists.{has_name, number_of}
 use Rattle.ap_markup.specs.Names.{is_among}
 use Rattle.ap_markup.specs.Pieces.{Pair}
 use Rattle.ap_markup.specs.Rules.{values as value_names}
-use Rattle.ap_markup.specs.Said.{value_of, name_of, is_named}
-use Rattle.ap_markup.specs.Table.{Content, Line}
+use Rattle.ap_markup.specs.Said.{value_of, name_of}
+use Rattle.ap_markup.specs.Table.{Content}
 use Rattle.ap_markup.specs.TableRows.{any_of, one, free, needs_pos, element as line_of}
 use Rattle.ap_markup.specs.Tree.{Tag}
 use Rattle.ap_rules.specs.Children.{Children, nothing, element}
 use Rattle.ap_rules.specs.Defining.{defined_after, defined_in}
-use Rattle.ap_rules.specs.Faults.{Around, is_interchunk, is_plain_part, has_attribute, part_of, is_no_link, may_read_content}
+use Rattle.ap_rules.specs.Faults.{Around, is_interchunk, is_plain_part, has_attribute, is_no_link}
 use Rattle.ap_rules.specs.Plain.{PlainValue, clip, lit, lit_tag, var, get_case_from, case_of, concat, blank_value, values_of}
 use Rattle.ap_rules.specs.Texts.{number_in, word_of, tags_of, given_text}
-use Rattle.ap_rules.specs.ValueRows.{IsNamed, IsAlone, IsPart, IsLinkText, IsClip, IsCaseOf, IsBlankAt, IsValue, AreValues}
+use Rattle.ap_rules.specs.ValueRows.{IsAlone, IsPart, IsLinkText, IsClip, IsCaseOf, IsBlankAt, IsValue, AreValues}
 use Rattle.ap_rules.specs.Values.{Scope, position_of, side_of, is_value}
 use Rattle.ap_rules.specs.declared.defined.Defined.{Defined}
 use Rattle.ap_rules.specs.declared.value.CaseOf.{CaseOf}
 use Rattle.ap_rules.specs.declared.value.Clip.{Clip}
 use Rattle.ap_rules.specs.declared.value.ClipPart.{ClipPart}
 use Rattle.ap_rules.specs.declared.value.ClipPart.TheVariants.{Lem, Lemh, Lemq, Tags, Whole, Content as ContentPart, Attribute}
-use Rattle.ap_rules.proofs.Faultless.{Right, Regular, Clean, Stands, count_of, lacks_some, not_false, false_true, true_false, neither, both}
+use Rattle.ap_rules.proofs.Faultless.{Right, Clean, Stands, not_false, false_true, true_false, neither, both}
 use Rattle.ap_rules.proofs.Links.{link_tags}
 use Rattle.ap_rules.proofs.Placing.{among_each, in_last, single, behind_one, as_row, has_number}
 use Rattle.ap_rules.proofs.ValuesRead.{tag_as}

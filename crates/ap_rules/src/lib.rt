@@ -28,9 +28,8 @@
 //! - It is refused exactly for its first wrong byte or piece, or for the least fault of its tree,
 //!   by place and then by number (`refuses_by_the_first_fault`, `has_one_fault`,
 //!   `spells_without_fault`).
-//! - A tree whose elements are some rules by the table, each by its row and none passed over, is
-//!   read as these rules and no others (`reads_each_row`). That every tree without fault is so is
-//!   tested, and not proved.
+//! - Every tree without fault is some rules by the table, each element by its row and none passed
+//!   over; it is read as these rules and no others (`reads_each_row`).
 //! - The rules are sound: each number is that of something defined, a macro calls those above it
 //!   alone, positions and lengths are those that may be (`spells_is_sound`).
 //! - The words of what a text spells are words of the program (`spells_words`).
