@@ -25,3 +25,4 @@ pub mod RunningKeeps
 pub mod RunningGives
 pub mod Borderless
 pub mod Rereading
+pub mod PartsRead

@@ -16,11 +16,11 @@ use Rattle.ap_exec.specs.WordLaws.{IsOnWhole, IsWrittenAt}
 use Rattle.ap_exec.specs.Writing.{spliced, written_at}
 
 -- a part of a word is read
-abbrev reread : List (List AttrItem) → ClipPart → List Symbol → List Symbol
+abbrev pub reread : List (List AttrItem) → ClipPart → List Symbol → List Symbol
 reread attributes part word = cut (span_of attributes part word) word
 
 -- a word with its part written over
-abbrev rewritten : List (List AttrItem) → ClipPart → List Symbol → List Symbol → List Symbol
+abbrev pub rewritten : List (List AttrItem) → ClipPart → List Symbol → List Symbol → List Symbol
 rewritten attributes part value word = spliced (span_of attributes part word) value word
 
 whole_word : (attributes : List (List AttrItem)) (value word : List Symbol) →
@@ -32,7 +32,7 @@ whole_word attributes value word =
     ∙ append-nil value
 
 -- behind the symbols that pass, one that doesn't stands, or none
-none_passes : (test : Symbol → Bool) (word : List Symbol) →
+pub none_passes : (test : Symbol → Bool) (word : List Symbol) →
     prefix_len test (drop (prefix_len test word) word) ≡ 0
 none_passes test [] = refl
 none_passes test (x ∷ word) = by (test x) refl (none_passes test word)
@@ -43,7 +43,7 @@ none_passes test (x ∷ word) = by (test x) refl (none_passes test word)
         ap (λ (k : ℕ). prefix_len test (drop k (x ∷ word))) next ∙ h
     by false e h = ap (λ (b : Bool). cond b (1 + prefix_len test word) 0) e
 
-all_pass : (test : Symbol → Bool) (value rest : List Symbol) → list_all test value ≡ true →
+pub all_pass : (test : Symbol → Bool) (value rest : List Symbol) → list_all test value ≡ true →
     prefix_len test rest ≡ 0 → prefix_len test (value ++ rest) ≡ length value
 all_pass test [] rest all none = none
 all_pass test (x ∷ value) rest all none =
@@ -63,16 +63,16 @@ lemma_word attributes value word all =
     ∙ take_at value rest (length value) refl
 
 -- on a whole word of a unit
-abbrev written_by : List (List AttrItem) → ClipPart → Side → Bool → List Symbol → Shown → Shown
+abbrev pub written_by : List (List AttrItem) → ClipPart → Side → Bool → List Symbol → Shown → Shown
 written_by attributes part side queue value unit =
     written_at part side (span_of attributes part (word_on side queue unit)) value unit
 
-abbrev Reads : List (List AttrItem) → Side → Bool → List Symbol → Shown → ClipPart → Type 0
+abbrev pub Reads : List (List AttrItem) → Side → Bool → List Symbol → Shown → ClipPart → Type 0
 Reads attributes side queue value unit part =
     reread attributes part (word_on side queue (written_by attributes part side queue value unit))
     ≡ value
 
-no_side : ◌≡◌ {A = Side} Target Source → ⊥
+pub no_side : ◌≡◌ {A = Side} Target Source → ⊥
 no_side e = let no : ⊥ = cc in no
 
 whole_by : (attributes : List (List AttrItem)) (side : Side) (queue : Bool) (value : List Symbol)
@@ -92,12 +92,12 @@ lemma_by attributes Target false value unit (inl e) all = absurd (no_side e)
 lemma_by attributes Target false value unit (inr e) all = absurd (false≢true e)
 
 -- what is read at the position
-read_at : (sight : Sight) (c : Clip) (value : List Symbol) → (w : IsWrittenAt sight c value) →
+pub read_at : (sight : Sight) (c : Clip) (value : List Symbol) → (w : IsWrittenAt sight c value) →
     Reads sight.attributes (side_in sight.form c.side) c.queue value w.before c.part →
     part_at sight c.pos c.part c.side c.queue ≡ value
 read_at sight c value w h =
     ap (λ (o : Option Shown). reread sight.attributes c.part
-    (word_of (side_in sight.form c.side) c.queue o)) w.here ∙ h
+    (word_of (side_in sight.form c.side) c.queue o)) w.stands ∙ h
 
 pub whole_is_read : (sight : Sight) (c : Clip) (value : List Symbol) → c.part ≡ Whole →
     IsOnWhole sight.form c → IsWrittenAt sight c value →

@@ -28,8 +28,9 @@
 //!   superblanks are those of the blanks, in order (`filling_keeps_superblanks`).
 //! - Words are compared as lists of symbols, lowered where case doesn't count
 //!   (`words_are_compared`).
-//! - What is written over a stretch of a word is read at that stretch, what stands around it stays,
-//!   and so does the other side of a border between head and queue (`written_parts_are_read`).
+//! - What is written to a part of a word is read there, by a condition on the value for each part;
+//!   it stands at the stretch that was written over, what stands around it stays, and so does the
+//!   other side of a border between head and queue (`written_parts_are_read`).
 //! - The limit on an output counts the bytes of its pieces (`pieces_are_counted`).
 //! - Of words of the program a rule makes such words alone (`running_keeps_words`); sound rules
 //!   give chunks where they make chunks, and else units (`sound_rules_give`).
