@@ -5,35 +5,38 @@ use crate::tests::long::{Long, check_all};
 use crate::tests::rows::bad_dictionary;
 use std::test::Fail;
 
-/// A million open elements, and ten thousand attributes.
-const OPEN: &[Long] = &[
-    Long {
-        words: "lt-proc -a F",
-        name: "F",
-        file: &[("<g>", 1_000_000)],
-        input: &[],
-        cut: 7,
-        take: 0,
-        status: bad_dictionary!(2, 2, 1),
-        out: &[],
-        message: "apertium: F: line 1: dictionary fault 2 Syntax\n",
-    },
-    Long {
-        words: "lt-proc -a F",
-        name: "F",
-        file: &[("<dictionary", 1), ("\na#=''", 10_000), (" a9999=''/>", 1)],
-        input: &[],
-        cut: 7,
-        take: 0,
-        status: bad_dictionary!(2, 2, 1),
-        out: &[],
-        message: "apertium: F: line 1: dictionary fault 2 Syntax\n",
-    },
-];
+const OPEN: &[Long] = &[Long {
+    words: "lt-proc -a F",
+    name: "F",
+    file: &[("<g>", 1_000_000)],
+    input: &[],
+    cut: 7,
+    take: 0,
+    status: bad_dictionary!(2, 2, 1),
+    out: &[],
+    message: "apertium: F: line 1: dictionary fault 2 Syntax\n",
+}];
 
 #[test]
-fn many_elements_and_attributes_are_read(rt: HostRuntime) -> Result<(), Fail> {
+fn a_million_open_elements_are_read(rt: HostRuntime) -> Result<(), Fail> {
     check_all(&rt, rt.alloc(), OPEN)
+}
+
+const ATTRIBUTES: &[Long] = &[Long {
+    words: "lt-proc -a F",
+    name: "F",
+    file: &[("<dictionary", 1), ("\na#=''", 10_000), (" a9999=''/>", 1)],
+    input: &[],
+    cut: 7,
+    take: 0,
+    status: bad_dictionary!(2, 2, 1),
+    out: &[],
+    message: "apertium: F: line 1: dictionary fault 2 Syntax\n",
+}];
+
+#[test]
+fn ten_thousand_attributes_are_read(rt: HostRuntime) -> Result<(), Fail> {
+    check_all(&rt, rt.alloc(), ATTRIBUTES)
 }
 
 /// A dictionary with one entry that names a paradigm forty times. The paradigm gives `ab` the
@@ -67,64 +70,67 @@ fn paths_with_one_output_go_on_as_one(rt: HostRuntime) -> Result<(), Fail> {
     check_all(&rt, rt.alloc(), CHAIN)
 }
 
-/// Ten thousand rules; and a rule that calls the last of a thousand macros, each of which calls the
-/// one before it.
-const RULES: &[Long] = &[
-    Long {
-        words: "interchunk F",
-        name: "F",
-        file: &[
-            ("<interchunk><section-def-cats>", 1),
-            ("<def-cat n='c#'><cat-item tags='c#'/></def-cat>", 10_000),
-            ("</section-def-cats><section-rules>", 1),
-            (
-                "<rule><pattern><pattern-item n='c#'/></pattern><action/></rule>",
-                10_000,
-            ),
-            ("</section-rules></interchunk>", 1),
-        ],
-        input: &[("^a<c9999>{}$^a<d>{}$", 1)],
-        cut: 7,
-        take: 0,
-        status: Status::Done,
-        out: &[("^a<d>{}$", 1)],
-        message: "",
-    },
-    Long {
-        words: "transfer -b F",
-        name: "F",
-        file: &[
-            (
-                "<transfer default=\"lu\"><section-def-cats><def-cat n=\"adj\"><cat-item tags=\"adj\"/></def-cat></section-def-cats>",
-                1,
-            ),
-            (
-                "<section-def-macros><def-macro n=\"m0\" npar=\"1\"><let><clip pos=\"1\" side=\"tl\" part=\"lem\"/><lit v=\"blanco\"/></let></def-macro>",
-                1,
-            ),
-            (
-                "<def-macro n=\"m%\" npar=\"1\"><call-macro n=\"m#\"><with-param pos=\"1\"/></call-macro></def-macro>",
-                999,
-            ),
-            (
-                "</section-def-macros><section-rules><rule><pattern><pattern-item n=\"adj\"/></pattern><action><call-macro n=\"m999\"><with-param pos=\"1\"/></call-macro>",
-                1,
-            ),
-            (
-                "<out><lu><clip pos=\"1\" side=\"tl\" part=\"whole\"/></lu></out></action></rule></section-rules></transfer>",
-                1,
-            ),
-        ],
-        input: &[("^black<adj>/negro<adj>$", 1)],
-        cut: 7,
-        take: 0,
-        status: Status::Done,
-        out: &[("^blanco<adj>$", 1)],
-        message: "",
-    },
-];
+const RULES: &[Long] = &[Long {
+    words: "interchunk F",
+    name: "F",
+    file: &[
+        ("<interchunk><section-def-cats>", 1),
+        ("<def-cat n='c#'><cat-item tags='c#'/></def-cat>", 10_000),
+        ("</section-def-cats><section-rules>", 1),
+        (
+            "<rule><pattern><pattern-item n='c#'/></pattern><action/></rule>",
+            10_000,
+        ),
+        ("</section-rules></interchunk>", 1),
+    ],
+    input: &[("^a<c9999>{}$^a<d>{}$", 1)],
+    cut: 7,
+    take: 0,
+    status: Status::Done,
+    out: &[("^a<d>{}$", 1)],
+    message: "",
+}];
 
 #[test]
-fn many_rules_and_macros_are_read(rt: HostRuntime) -> Result<(), Fail> {
+fn ten_thousand_rules_are_read(rt: HostRuntime) -> Result<(), Fail> {
     check_all(&rt, rt.alloc(), RULES)
+}
+
+/// A rule that calls the last of a thousand macros, each of which calls the one before it.
+const MACROS: &[Long] = &[Long {
+    words: "transfer -b F",
+    name: "F",
+    file: &[
+        (
+            "<transfer default=\"lu\"><section-def-cats><def-cat n=\"adj\"><cat-item tags=\"adj\"/></def-cat></section-def-cats>",
+            1,
+        ),
+        (
+            "<section-def-macros><def-macro n=\"m0\" npar=\"1\"><let><clip pos=\"1\" side=\"tl\" part=\"lem\"/><lit v=\"blanco\"/></let></def-macro>",
+            1,
+        ),
+        (
+            "<def-macro n=\"m%\" npar=\"1\"><call-macro n=\"m#\"><with-param pos=\"1\"/></call-macro></def-macro>",
+            999,
+        ),
+        (
+            "</section-def-macros><section-rules><rule><pattern><pattern-item n=\"adj\"/></pattern><action><call-macro n=\"m999\"><with-param pos=\"1\"/></call-macro>",
+            1,
+        ),
+        (
+            "<out><lu><clip pos=\"1\" side=\"tl\" part=\"whole\"/></lu></out></action></rule></section-rules></transfer>",
+            1,
+        ),
+    ],
+    input: &[("^black<adj>/negro<adj>$", 1)],
+    cut: 7,
+    take: 0,
+    status: Status::Done,
+    out: &[("^blanco<adj>$", 1)],
+    message: "",
+}];
+
+#[test]
+fn macros_call_one_another(rt: HostRuntime) -> Result<(), Fail> {
+    check_all(&rt, rt.alloc(), MACROS)
 }

@@ -70,8 +70,8 @@ fn a_file_is_too_long(rt: HostRuntime) -> Result<(), Fail> {
     check_all(&rt, rt.alloc(), FILE)
 }
 
-/// An item and a unit as long as may be, and one byte longer.
-const INPUTS: &[Long] = &[
+/// An item as long as may be, and one byte longer.
+const ITEMS: &[Long] = &[
     Long {
         words: "lt-proc -a M",
         name: "M",
@@ -94,6 +94,15 @@ const INPUTS: &[Long] = &[
         out: &[],
         message: "apertium: stage 1: byte 0: limit 1 ItemTooLong\n",
     },
+];
+
+#[test]
+fn an_item_is_too_long(rt: HostRuntime) -> Result<(), Fail> {
+    check_all(&rt, rt.alloc(), ITEMS)
+}
+
+/// A unit as long as may be, and one that is longer.
+const UNITS: &[Long] = &[
     Long {
         words: "lt-proc -a M",
         name: "M",
@@ -125,6 +134,6 @@ const INPUTS: &[Long] = &[
 ];
 
 #[test]
-fn an_item_and_a_unit_are_too_long(rt: HostRuntime) -> Result<(), Fail> {
-    check_all(&rt, rt.alloc(), INPUTS)
+fn a_unit_is_too_long(rt: HostRuntime) -> Result<(), Fail> {
+    check_all(&rt, rt.alloc(), UNITS)
 }
