@@ -1,218 +1,241 @@
 use crate::Status;
-use crate::tests::rows::{NONE, Row, case, check_over, done, files_of};
-use std::alloc::Global;
-use std::process::Abort;
+use crate::tests::rows::{
+    NONE, Row, bad_compiled, bad_dictionary, case, check_kept, check_over, done, file_fault,
+    files_of, malformed,
+};
 use std::test::Fail;
 
 /// What `lt-comp lr` writes of M.
 const M_LINES: &str = "standard 23 26\ninconditional 3 2\npostblank 1 0\npreblank 1 0\n";
 
-/// A row of a faulty dictionary.
-fn faulty<'a>(words: &'a str, fault: u8, line: u64, message: &'a str) -> Row<'a> {
-    let status = Status::BadDictionary {
-        file: 2,
-        fault,
-        line,
-    };
-    case(words, "", NONE, status, "", message)
-}
-
-/// A row in which OUT tells the other direction than the one that is needed.
-fn wrong_way<'a>() -> Row<'a> {
-    let status = Status::BadCompiled {
-        file: 1,
-        fault: 6,
-        line: 2,
-    };
-    let message = "apertium: OUT: line 2: compiled fault 6 WrongWay\n";
-    case("lt-proc OUT", "a bd", NONE, status, "", message)
-}
-
-/// A row over OUT of a text that is malformed at that byte.
-fn malformed<'a>(input: &'a str, kind: u8, place: u64, out: &'a str, message: &'a str) -> Row<'a> {
-    let status = Status::Malformed {
-        stage: 1,
-        kind,
-        place,
-    };
-    case("lt-proc -a OUT", input, NONE, status, out, message)
-}
+/// Each row of a table goes on with the files of the one before it.
+const ROWS: &[Row] = &[
+    done!("lt-comp lr M OUT", "not taken", M_LINES),
+    done!("lt-proc -a OUT", "houses", "^houses/house<n><pl>$"),
+    done!("lt-proc OUT", "", ""),
+    done!(
+        "lt-proc -a OUT",
+        "Houses HOUSES",
+        "^Houses/House<n><pl>$ ^HOUSES/HOUSE<n><pl>$",
+    ),
+    done!("lt-proc -a OUT", "housex", "^housex/*housex$"),
+    done!(
+        "lt-proc -a OUT",
+        "saw.",
+        "^saw/saw<n><sg>/see<vblex><past>$^./.<sent>$",
+    ),
+    done!(
+        "lt-proc -a OUT",
+        "in [<i>]front",
+        "^in front/in front<adv>$[<i>]",
+    ),
+    done!(
+        "lt-proc -a OUT",
+        "house[<b>]s",
+        "^house/house<n><sg>$[<b>]^s/*s$",
+    ),
+    case!(
+        "lt-proc -a OUT",
+        "house ^x",
+        NONE,
+        malformed!(1, 2, 6),
+        "^house/house<n><sg>$ ",
+        "apertium: stage 1: byte 6: malformed 2 Stray\n"
+    ),
+    case!(
+        "lt-proc -a OUT",
+        "house [<b",
+        NONE,
+        malformed!(1, 3, 5),
+        "^house/house<n><sg>$",
+        "apertium: stage 1: byte 5: malformed 3 Unfinished\n"
+    ),
+    done!(
+        "lt-proc -c OUT",
+        "Houses houses",
+        "^Houses/*Houses$ ^houses/house<n><pl>$",
+    ),
+    done!("lt-proc -a OUT", "a\\*b", "^a/*a$\\*^b/*b$"),
+];
 
 #[test]
 fn what_is_compiled_gives_the_rows_of_its_dictionary(rt: HostRuntime) -> Result<(), Fail> {
     let alloc = rt.alloc();
     let mut files = files_of(alloc, 0)?;
-    for row in [
-        done("lt-comp lr M OUT", "not taken", M_LINES),
-        done("lt-proc -a OUT", "houses", "^houses/house<n><pl>$"),
-        done("lt-proc OUT", "", ""),
-        done(
-            "lt-proc -a OUT",
-            "Houses HOUSES",
-            "^Houses/House<n><pl>$ ^HOUSES/HOUSE<n><pl>$",
-        ),
-        done("lt-proc -a OUT", "housex", "^housex/*housex$"),
-        done(
-            "lt-proc -a OUT",
-            "saw.",
-            "^saw/saw<n><sg>/see<vblex><past>$^./.<sent>$",
-        ),
-        done(
-            "lt-proc -a OUT",
-            "in [<i>]front",
-            "^in front/in front<adv>$[<i>]",
-        ),
-        done(
-            "lt-proc -a OUT",
-            "house[<b>]s",
-            "^house/house<n><sg>$[<b>]^s/*s$",
-        ),
-        malformed(
-            "house ^x",
-            2,
-            6,
-            "^house/house<n><sg>$ ",
-            "apertium: stage 1: byte 6: malformed 2 Stray\n",
-        ),
-        malformed(
-            "house [<b",
-            3,
-            5,
-            "^house/house<n><sg>$",
-            "apertium: stage 1: byte 5: malformed 3 Unfinished\n",
-        ),
-        done(
-            "lt-proc -c OUT",
-            "Houses houses",
-            "^Houses/*Houses$ ^houses/house<n><pl>$",
-        ),
-        done("lt-proc -a OUT", "a\\*b", "^a/*a$\\*^b/*b$"),
-    ] {
-        check_over(&rt, alloc, &mut files, &row, 7)?;
-    }
-    Ok(())
+    check_kept(&rt, alloc, &mut files, ROWS)
 }
+
+const SIDES: &[Row] = &[
+    done!(
+        "lt-comp lr X OUT",
+        "",
+        "standard 2 1\ninconditional 1 0\npostblank 1 0\npreblank 1 0\n",
+    ),
+    done!("lt-proc OUT", "a bd", "^a/a$ bd"),
+    done!(
+        "lt-comp rl X OUT",
+        "",
+        "standard 3 2\ninconditional 1 0\npostblank 1 0\npreblank 1 0\n",
+    ),
+    case!(
+        "lt-proc OUT",
+        "a bd",
+        NONE,
+        bad_compiled!(1, 6, 2),
+        "",
+        "apertium: OUT: line 2: compiled fault 6 WrongWay\n"
+    ),
+    done!(
+        "lt-comp lr G OUT",
+        "",
+        "standard 3 3\ninconditional 1 0\npostblank 1 0\npreblank 1 0\n",
+    ),
+    done!("lt-proc OUT", "ab c", "^ab/c$ c"),
+    done!(
+        "lt-comp rl E OUT",
+        "",
+        "standard 2 2\ninconditional 1 0\npostblank 1 0\npreblank 1 0\n",
+    ),
+    case!(
+        "lt-proc OUT",
+        "a bd",
+        NONE,
+        bad_compiled!(1, 6, 2),
+        "",
+        "apertium: OUT: line 2: compiled fault 6 WrongWay\n"
+    ),
+    done!("lt-expand X", "", "a:>:a\nbd:<:bd\n"),
+];
 
 #[test]
 fn the_direction_says_which_side_is_read(rt: HostRuntime) -> Result<(), Fail> {
     let alloc = rt.alloc();
     let mut files = files_of(alloc, 0)?;
-    for row in [
-        done(
-            "lt-comp lr X OUT",
-            "",
-            "standard 2 1\ninconditional 1 0\npostblank 1 0\npreblank 1 0\n",
-        ),
-        done("lt-proc OUT", "a bd", "^a/a$ bd"),
-        done(
-            "lt-comp rl X OUT",
-            "",
-            "standard 3 2\ninconditional 1 0\npostblank 1 0\npreblank 1 0\n",
-        ),
-        wrong_way(),
-        done(
-            "lt-comp lr G OUT",
-            "",
-            "standard 3 3\ninconditional 1 0\npostblank 1 0\npreblank 1 0\n",
-        ),
-        done("lt-proc OUT", "ab c", "^ab/c$ c"),
-        done(
-            "lt-comp rl E OUT",
-            "",
-            "standard 2 2\ninconditional 1 0\npostblank 1 0\npreblank 1 0\n",
-        ),
-        wrong_way(),
-        done("lt-expand X", "", "a:>:a\nbd:<:bd\n"),
-    ] {
-        check_over(&rt, alloc, &mut files, &row, 7)?;
-    }
-    Ok(())
+    check_kept(&rt, alloc, &mut files, SIDES)
 }
 
-/// The row leaves no file OUT.
-fn check_nothing_stored(rt: &impl Abort, alloc: Global, row: &Row) -> Result<(), Fail> {
-    let [number, _, _] = row.failing;
-    let mut files = files_of(alloc, number)?;
-    check_over(rt, alloc, &mut files, row, 4)?;
-    assert!(rt; files.get("OUT").is_none(), "of {}", row.words);
-    Ok(())
-}
+/// Each of these leaves no file OUT.
+const REFUSED: &[Row] = &[
+    case!("lt-comp", "", NONE, Status::Usage, "", "apertium: usage\n"),
+    case!(
+        "lt-comp xx M OUT",
+        "",
+        NONE,
+        Status::Usage,
+        "",
+        "apertium: usage\n"
+    ),
+    case!(
+        "lt-comp lr M",
+        "",
+        NONE,
+        Status::Usage,
+        "",
+        "apertium: usage\n"
+    ),
+    case!(
+        "lt-comp lr -M OUT",
+        "",
+        NONE,
+        Status::Usage,
+        "",
+        "apertium: usage\n"
+    ),
+    case!(
+        "lt-comp lr M -OUT",
+        "",
+        NONE,
+        Status::Usage,
+        "",
+        "apertium: usage\n"
+    ),
+    case!(
+        "lt-comp lr M OUT OUT",
+        "",
+        NONE,
+        Status::Usage,
+        "",
+        "apertium: usage\n"
+    ),
+    case!(
+        "lt-comp lr NOPE OUT",
+        "",
+        NONE,
+        file_fault!(2),
+        "",
+        "apertium: NOPE: file fault\n",
+    ),
+    case!(
+        "lt-comp lr M OUT",
+        "",
+        [2, 0, 0],
+        file_fault!(3),
+        "",
+        "apertium: OUT: file fault\n",
+    ),
+    case!(
+        "lt-comp lr F1 OUT",
+        "",
+        NONE,
+        bad_dictionary!(2, 8, 4),
+        "",
+        "apertium: F1: line 4: dictionary fault 8 UndeclaredSymbol\n"
+    ),
+    case!(
+        "lt-comp lr E OUT",
+        "",
+        NONE,
+        bad_dictionary!(2, 13, 4),
+        "",
+        "apertium: E: line 4: dictionary fault 13 EmptySide\n"
+    ),
+    case!(
+        "lt-comp rl G OUT",
+        "",
+        NONE,
+        bad_dictionary!(2, 13, 4),
+        "",
+        "apertium: G: line 4: dictionary fault 13 EmptySide\n"
+    ),
+    case!(
+        "lt-comp lr C OUT",
+        "",
+        NONE,
+        bad_dictionary!(2, 2, 1),
+        "",
+        "apertium: C: line 1: dictionary fault 2 Syntax\n"
+    ),
+];
 
 #[test]
 fn nothing_is_stored_after_a_refusal(rt: HostRuntime) -> Result<(), Fail> {
-    let usage = "apertium: usage\n";
-    for row in [
-        case("lt-comp", "", NONE, Status::Usage, "", usage),
-        case("lt-comp xx M OUT", "", NONE, Status::Usage, "", usage),
-        case("lt-comp lr M", "", NONE, Status::Usage, "", usage),
-        case("lt-comp lr -M OUT", "", NONE, Status::Usage, "", usage),
-        case("lt-comp lr M -OUT", "", NONE, Status::Usage, "", usage),
-        case("lt-comp lr M OUT OUT", "", NONE, Status::Usage, "", usage),
-        case(
-            "lt-comp lr NOPE OUT",
-            "",
-            NONE,
-            Status::FileFault { file: 2 },
-            "",
-            "apertium: NOPE: file fault\n",
-        ),
-        case(
-            "lt-comp lr M OUT",
-            "",
-            [2, 0, 0],
-            Status::FileFault { file: 3 },
-            "",
-            "apertium: OUT: file fault\n",
-        ),
-        faulty(
-            "lt-comp lr F1 OUT",
-            8,
-            4,
-            "apertium: F1: line 4: dictionary fault 8 UndeclaredSymbol\n",
-        ),
-        faulty(
-            "lt-comp lr E OUT",
-            13,
-            4,
-            "apertium: E: line 4: dictionary fault 13 EmptySide\n",
-        ),
-        faulty(
-            "lt-comp rl G OUT",
-            13,
-            4,
-            "apertium: G: line 4: dictionary fault 13 EmptySide\n",
-        ),
-        faulty(
-            "lt-comp lr C OUT",
-            2,
-            1,
-            "apertium: C: line 1: dictionary fault 2 Syntax\n",
-        ),
-    ] {
-        check_nothing_stored(&rt, rt.alloc(), &row)?;
+    let alloc = rt.alloc();
+    for row in REFUSED {
+        let [number, _, _] = row.failing;
+        let mut files = files_of(alloc, number)?;
+        check_over(&rt, alloc, &mut files, row, 4)?;
+        assert!(rt; files.get("OUT").is_none(), "of {}", row.words);
     }
     Ok(())
 }
+
+const STORED: &[Row] = &[
+    case!(
+        "lt-comp lr M OUT",
+        "",
+        [0, 0, 1],
+        Status::WriteFault,
+        "",
+        "apertium: write fault\n",
+    ),
+    done!("lt-proc OUT", "houses", "^houses/house<n><pl>$"),
+];
 
 #[test]
 fn a_failed_put_comes_after_the_store(rt: HostRuntime) -> Result<(), Fail> {
     let alloc = rt.alloc();
     let mut files = files_of(alloc, 0)?;
-    let write = "apertium: write fault\n";
-    for row in [
-        case(
-            "lt-comp lr M OUT",
-            "",
-            [0, 0, 1],
-            Status::WriteFault,
-            "",
-            write,
-        ),
-        done("lt-proc OUT", "houses", "^houses/house<n><pl>$"),
-    ] {
-        check_over(&rt, alloc, &mut files, &row, 7)?;
-    }
-    Ok(())
+    check_kept(&rt, alloc, &mut files, STORED)
 }
 
 /// M, its paradigm written out entry by entry.
@@ -226,21 +249,24 @@ const ONE: &str =
 const ONE_STORED: &str =
     "LTC2\nway lr\nalphabet 65 66 97 98\nsection standard 3 2 1\n0 L97 L97 1\n1 - Tn 2\n2\nsection inconditional 1 0 0\nsection postblank 1 0 0\nsection preblank 1 0 0\nend\n";
 
+/// What `lt-comp lr` writes of ONE.
+const ONE_LINES: &str = "standard 3 2\ninconditional 1 0\npostblank 1 0\npreblank 1 0\n";
+
+const EQUAL: &[Row] = &[
+    done!("lt-comp lr M OUT", "", M_LINES),
+    done!("lt-comp lr M2 OUT2", "", M_LINES),
+    done!("lt-comp lr ONE OUT3", "", ONE_LINES),
+];
+
 #[test]
 fn equal_strings_are_stored_as_equal_bytes(rt: HostRuntime) -> Result<(), Fail> {
     let alloc = rt.alloc();
     let mut files = files_of(alloc, 0)?;
     files.add("M2", M2.as_bytes())?;
     files.add("ONE", ONE.as_bytes())?;
-    let one = "standard 3 2\ninconditional 1 0\npostblank 1 0\npreblank 1 0\n";
-    for row in [
-        done("lt-comp lr M OUT", "", M_LINES),
-        done("lt-comp lr M2 OUT2", "", M_LINES),
-        done("lt-comp lr ONE OUT3", "", one),
-    ] {
-        check_over(&rt, alloc, &mut files, &row, 7)?;
-    }
-    assert_eq!(rt; files.get("OUT"), files.get("OUT2"));
-    assert_eq!(rt; files.get("OUT3"), Some(ONE_STORED.as_bytes()));
+    check_kept(&rt, alloc, &mut files, EQUAL)?;
+    assert!(rt; files.get("OUT").is_some());
+    assert!(rt; files.get("OUT") == files.get("OUT2"));
+    assert!(rt; files.get("OUT3") == Some(ONE_STORED.as_bytes()));
     Ok(())
 }

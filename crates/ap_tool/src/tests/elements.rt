@@ -1,9 +1,6 @@
 //! Rows in which every element and every attribute of rule files occurs: `bench/elements` lists
 //! those that don't.
-use crate::Status;
-use crate::tests::rows::{NONE, Row, case, check_over, done, files_of};
-use std::alloc::Global;
-use std::process::Abort;
+use crate::tests::rows::{NONE, Row, bad_rules, case_over, check_rows, done_over};
 use std::test::Fail;
 
 /// Each condition, on the lemma of a noun: it adds its letter to a variable, small where it holds
@@ -205,129 +202,96 @@ const MISUSING: &str = r#"<postchunk>
 </postchunk>
 "#;
 
-/// The row, where RULES is a file with these rules.
-fn check_with(rt: &impl Abort, alloc: Global, rules: &str, row: &Row) -> Result<(), Fail> {
-    let mut files = files_of(alloc, 0)?;
-    files.add("RULES", rules.as_bytes())?;
-    check_over(rt, alloc, &mut files, row, 7)
-}
+const ROWS: &[Row] = &[
+    done_over!(
+        &[("RULES", CONDITIONS)],
+        "transfer RULES BI",
+        "^dog<n><sg>$ ^Hound<n><sg>$",
+        "^abcdefgHiJKlmOPq<n><x>$ ^ABCdEFgHIjklnopq<n><x>$",
+    ),
+    done_over!(
+        &[("RULES", VALUES)],
+        "transfer RULES BI",
+        "^Dog<n><sg>$ ^TAKE# off<vblex>$",
+        "^Perro Aa<n><m><sg><7>$ ^Go# offTAKE<vblex>$",
+    ),
+    done_over!(
+        &[("RULES", STATEMENTS)],
+        "transfer RULES BI",
+        "^dog<n><sg>$ ^black<adj>$ ^cat<n><pl>$",
+        "^PERRO<n><m><pl>$ ^dogx<pl>$ ^Uno$ ^gato+negro<adj>$",
+    ),
+    done_over!(
+        &[("RULES", LEMMAS)],
+        "transfer RULES BI",
+        "^Dog<n><sg>$ ^cat<n><sg>$ ^black<adj>$",
+        "^hit$ ^gato<n><m><sg>$ ^hit$",
+    ),
+    done_over!(
+        &[("RULES", CHUNKS)],
+        "transfer RULES BI",
+        "^dog<n><sg>$ ^black<adj>$",
+        "^NOUN<SN><sg>{^perro$ ^a+b$}$ ^alone{^negro<adj>$}$",
+    ),
+    done_over!(
+        &[("RULES", BETWEEN)],
+        "interchunk RULES",
+        "^An<SN><sg>{^x<n>$}$ ^b<SN><sg>{^x<n>$}$",
+        "^AnbAa<SN><pl><5>{^x<n>$}$ ^b<SN><sg>{^x<n>$}$",
+    ),
+    done_over!(
+        &[("RULES", BEHIND)],
+        "postchunk RULES",
+        "^keep<SN><pl>{^x<n>$[<i>]^y<n>$}$ ^other<SN>{^x<n>$}$",
+        "^y<SN><pl><3>$[<i>]^aa$ ^x<n>$",
+    ),
+];
 
 #[test]
 fn every_element_of_rules_is_run(rt: HostRuntime) -> Result<(), Fail> {
-    for (rules, row) in [
-        (
-            CONDITIONS,
-            done(
-                "transfer RULES BI",
-                "^dog<n><sg>$ ^Hound<n><sg>$",
-                "^abcdefgHiJKlmOPq<n><x>$ ^ABCdEFgHIjklnopq<n><x>$",
-            ),
-        ),
-        (
-            VALUES,
-            done(
-                "transfer RULES BI",
-                "^Dog<n><sg>$ ^TAKE# off<vblex>$",
-                "^Perro Aa<n><m><sg><7>$ ^Go# offTAKE<vblex>$",
-            ),
-        ),
-        (
-            STATEMENTS,
-            done(
-                "transfer RULES BI",
-                "^dog<n><sg>$ ^black<adj>$ ^cat<n><pl>$",
-                "^PERRO<n><m><pl>$ ^dogx<pl>$ ^Uno$ ^gato+negro<adj>$",
-            ),
-        ),
-        (
-            LEMMAS,
-            done(
-                "transfer RULES BI",
-                "^Dog<n><sg>$ ^cat<n><sg>$ ^black<adj>$",
-                "^hit$ ^gato<n><m><sg>$ ^hit$",
-            ),
-        ),
-        (
-            CHUNKS,
-            done(
-                "transfer RULES BI",
-                "^dog<n><sg>$ ^black<adj>$",
-                "^NOUN<SN><sg>{^perro$ ^a+b$}$ ^alone{^negro<adj>$}$",
-            ),
-        ),
-        (
-            BETWEEN,
-            done(
-                "interchunk RULES",
-                "^An<SN><sg>{^x<n>$}$ ^b<SN><sg>{^x<n>$}$",
-                "^AnbAa<SN><pl><5>{^x<n>$}$ ^b<SN><sg>{^x<n>$}$",
-            ),
-        ),
-        (
-            BEHIND,
-            done(
-                "postchunk RULES",
-                "^keep<SN><pl>{^x<n>$[<i>]^y<n>$}$ ^other<SN>{^x<n>$}$",
-                "^y<SN><pl><3>$[<i>]^aa$ ^x<n>$",
-            ),
-        ),
-    ] {
-        check_with(&rt, rt.alloc(), rules, &row)?;
-    }
-    Ok(())
+    check_rows(&rt, rt.alloc(), ROWS, &[7])
 }
 
-/// A rule file that is refused, for this fault at this line.
-fn refused<'a>(words: &'a str, fault: u8, line: u64, message: &'a str) -> Row<'a> {
-    let status = Status::BadRules {
-        file: 1,
-        fault,
-        line,
-    };
-    case(words, "^dog<n>$", NONE, status, "", message)
-}
+const REFUSED: &[Row] = &[
+    case_over!(
+        &[("RULES", REJECTING)],
+        "transfer RULES BI",
+        "^dog<n>$",
+        NONE,
+        bad_rules!(1, 13, 4),
+        "",
+        "apertium: RULES: line 4: rule fault 13 Unsupported\n"
+    ),
+    case_over!(
+        &[("RULES", WEIGHED)],
+        "transfer RULES BI",
+        "^dog<n>$",
+        NONE,
+        bad_rules!(1, 13, 4),
+        "",
+        "apertium: RULES: line 4: rule fault 13 Unsupported\n"
+    ),
+    case_over!(
+        &[("RULES", NAMELESS)],
+        "transfer RULES BI",
+        "^dog<n>$",
+        NONE,
+        bad_rules!(1, 8, 2),
+        "",
+        "apertium: RULES: line 2: rule fault 8 UndefinedName\n"
+    ),
+    case_over!(
+        &[("RULES", MISUSING)],
+        "postchunk RULES",
+        "^dog<n>$",
+        NONE,
+        bad_rules!(1, 12, 4),
+        "",
+        "apertium: RULES: line 4: rule fault 12 Misused\n"
+    ),
+];
 
 #[test]
 fn what_rules_may_not_hold_is_refused(rt: HostRuntime) -> Result<(), Fail> {
-    for (rules, row) in [
-        (
-            REJECTING,
-            refused(
-                "transfer RULES BI",
-                13,
-                4,
-                "apertium: RULES: line 4: rule fault 13 Unsupported\n",
-            ),
-        ),
-        (
-            WEIGHED,
-            refused(
-                "transfer RULES BI",
-                13,
-                4,
-                "apertium: RULES: line 4: rule fault 13 Unsupported\n",
-            ),
-        ),
-        (
-            NAMELESS,
-            refused(
-                "transfer RULES BI",
-                8,
-                2,
-                "apertium: RULES: line 2: rule fault 8 UndefinedName\n",
-            ),
-        ),
-        (
-            MISUSING,
-            refused(
-                "postchunk RULES",
-                12,
-                4,
-                "apertium: RULES: line 4: rule fault 12 Misused\n",
-            ),
-        ),
-    ] {
-        check_with(&rt, rt.alloc(), rules, &row)?;
-    }
-    Ok(())
+    check_rows(&rt, rt.alloc(), REFUSED, &[7])
 }

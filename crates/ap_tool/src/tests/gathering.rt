@@ -1,109 +1,106 @@
-ghost use Rattle.std.specs.Prelude.{None};
-
-use crate::tests::rows::{files_of, words_of};
-use crate::{Status, apertium};
-use ap_outside::{Failed, MemSink, MemSource, Sink, Source};
-use std::alloc::{AllocError, Global};
+//! A stream is not gathered: bytes are put before the source ends, and a failed put leaves most of
+//! the input in the source.
+use crate::tests::long::made;
+use crate::tests::rows::{called, files_of};
+use crate::tests::watching::{Counting, Watching};
+use ap_outside::{MemSink, MemSource};
+use std::alloc::Global;
 use std::cell::Cell;
+use std::process::Abort;
 use std::test::Fail;
 
-/// A source over bytes in memory that counts what it gave, and notes how many bytes were put when
-/// it gave its end.
-#[derive(Drop)]
-struct Watching<'a> {
-    source: MemSource,
-    put: &'a Cell<usize>,
-    given: usize,
-    at_end: usize,
+/// A run that is watched: its words, its text and the size of the pieces that it comes in, how many
+/// bytes are asked for at once, how many are put before the source ends at the least, and how many
+/// are taken at the most where the first put fails.
+#[derive(Clone, Copy)]
+struct Watched<'a> {
+    words: &'a str,
+    text: &'a [u8],
+    cut: usize,
+    asked: usize,
+    before: usize,
+    most: usize,
 }
 
-impl Source for Watching<'_> {
-    ghost left = { λ s. ⟦<MemSource as Source>⟧.left s.source };
-
-    ghost faults = { λ s. ⟦<MemSource as Source>⟧.faults s.source };
-
-    fn take(&mut self, into: &mut [u8]) -> Result<usize, Failed> {
-        match self.source.take(into) {
-            Err(failed) => Err(failed),
-            Ok(count) => {
-                self.given = self.given.saturating_add(count);
-                if count == 0 {
-                    self.at_end = self.put.get();
-                }
-                Ok(count)
-            }
-        }
+fn check_watched(
+    rt: &impl Abort,
+    alloc: Global,
+    watched: &Watched,
+    fails: bool,
+) -> Result<(), Fail> {
+    let put = Cell::new(0);
+    let text = Vec::from_slice(alloc, watched.text)?;
+    let mut source = Watching {
+        source: MemSource::new(text, watched.cut.max(1), Vec::new(alloc)),
+        put: &put,
+        given: 0,
+        asked: 0,
+        at_end: 0,
+    };
+    let mut sink = Counting {
+        put: &put,
+        fails,
+        faults: 0,
+    };
+    let mut files = files_of(alloc, 0)?;
+    let mut err = MemSink::new(alloc, 1000, Vec::new(alloc), 0)?;
+    let status = called(
+        alloc,
+        watched.words,
+        &mut files,
+        &mut source,
+        &mut sink,
+        &mut err,
+    )?;
+    let number = if fails { 4 } else { 0 };
+    assert!(rt; status.number() == number, "of {}", watched.words);
+    assert!(rt; source.asked == watched.asked, "of {}", watched.words);
+    if fails {
+        assert!(rt; source.given < watched.most, "of {}", watched.words);
+    } else {
+        assert!(rt; source.given == watched.text.len(), "of {}", watched.words);
+        assert!(rt; source.at_end > watched.before, "of {}", watched.words);
     }
+    Ok(())
 }
 
-/// A sink that counts the bytes put, or fails.
-#[derive(Drop)]
-pub(super) struct Counting<'a> {
-    pub(super) put: &'a Cell<usize>,
-    pub(super) fails: bool,
-    pub(super) faults: u64,
-}
-
-impl Sink for Counting<'_> {
-    ghost written = { λ s. None };
-
-    ghost faults = { λ s. s.faults };
-
-    fn put(&mut self, piece: &[u8]) -> Result<(), Failed> {
-        if self.fails {
-            self.faults = self.faults.saturating_add(1);
-            return Err(Failed);
-        }
-        self.put.set(self.put.get().saturating_add(piece.len()));
-        Ok(())
-    }
-}
-
-/// A text of 28,000 bytes.
-fn long_text(alloc: Global) -> Result<Vec<u8>, AllocError> {
-    let mut text = Vec::new(alloc);
-    for _ in 0..4000 {
-        text.extend_from_slice(b"houses ")?;
-    }
-    Ok(text)
-}
-
-/// The bytes are put before the source ends, and where the first put fails most of the input stays
-/// in the source.
 #[test]
 fn a_stream_is_not_gathered(rt: HostRuntime) -> Result<(), Fail> {
     let alloc = rt.alloc();
-    let words = words_of(alloc, "lt-proc -a M")?;
-    for fails in [false, true] {
-        let mut files = files_of(alloc, 0)?;
-        let put = Cell::new(0);
-        let mut source = Watching {
-            source: MemSource::new(long_text(alloc)?, 64, Vec::new(alloc)),
-            put: &put,
-            given: 0,
-            at_end: 0,
+    let text = made(alloc, &[("houses ", 4000)])?;
+    let watched = Watched {
+        words: "lt-proc -a M",
+        text: text.as_slice(),
+        cut: 64,
+        asked: 65_536,
+        before: 28_000,
+        most: 8000,
+    };
+    check_watched(&rt, alloc, &watched, false)?;
+    check_watched(&rt, alloc, &watched, true)
+}
+
+/// By pipes of 64 bytes. The source is asked for no more than a pipe holds.
+#[test]
+fn a_whole_row_gathers_nothing(rt: HostRuntime) -> Result<(), Fail> {
+    let alloc = rt.alloc();
+    let sentences = "The black dog[<`>] of the cat.\nblack cats[<|>] sleep.\n";
+    let text = made(alloc, &[(sentences, 500)])?;
+    assert!(rt; text.len() == 28_890);
+    for words in [
+        "run -B 64 MONO BI T1 T2 T3 GEN POST",
+        "text -B 64 MONO BI T1 T2 T3 GEN POST",
+    ] {
+        let watched = Watched {
+            words,
+            text: text.as_slice(),
+            cut: 65_536,
+            asked: 64,
+            before: 28_000,
+            most: 1000,
         };
-        let mut sink = Counting {
-            put: &put,
-            fails,
-            faults: 0,
-        };
-        let mut err = MemSink::new(alloc, 1000, Vec::new(alloc), 0)?;
-        let status = apertium(
-            alloc,
-            words.as_slice(),
-            &mut files,
-            &mut source,
-            &mut sink,
-            &mut err,
-        );
-        if fails {
-            assert_eq!(rt; status.number(), 4);
-            assert!(rt; source.given < 8000);
-        } else {
-            assert_eq!(rt; status, Status::Done);
-            assert!(rt; source.at_end > 28_000);
-        }
+        check_watched(&rt, alloc, &watched, false)?;
+        check_watched(&rt, alloc, &watched, true)?;
     }
     Ok(())
 }

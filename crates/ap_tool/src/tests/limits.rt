@@ -1,135 +1,139 @@
-use crate::tests::rows::{M, words_of};
-use crate::{Status, apertium};
-use ap_outside::{MemFiles, MemSink, MemSource};
-use std::alloc::Global;
-use std::process::Abort;
+use crate::Status;
+use crate::tests::files::M;
+use crate::tests::long::{Long, check_all};
+use crate::tests::rows::{bad_dictionary, limit};
 use std::test::Fail;
 
-/// A dictionary with one letter within so many parentheses.
-fn nested(alloc: Global, count: usize) -> Result<String, Fail> {
-    let mut text = String::new(alloc);
-    text.push_str("<dictionary>\n<section id=\"m\" type=\"standard\">\n<e><re>")?;
-    for _ in 0..count {
-        text.push_str("(")?;
-    }
-    text.push_str("a")?;
-    for _ in 0..count {
-        text.push_str(")")?;
-    }
-    text.push_str("</re></e>\n</section>\n</dictionary>\n")?;
-    Ok(text)
-}
+/// One letter within as many parentheses as may be, and within one more.
+const NESTED: &[Long] = &[
+    Long {
+        words: "lt-proc -a Y",
+        name: "Y",
+        file: &[
+            (
+                "<dictionary>\n<section id=\"m\" type=\"standard\">\n<e><re>",
+                1,
+            ),
+            ("(", 200),
+            ("a", 1),
+            (")", 200),
+            ("</re></e>\n</section>\n</dictionary>\n", 1),
+        ],
+        input: &[("a", 1)],
+        cut: 1,
+        take: 0,
+        status: Status::Done,
+        out: &[("^a/a$", 1)],
+        message: "",
+    },
+    Long {
+        words: "lt-proc -a Y",
+        name: "Y",
+        file: &[
+            (
+                "<dictionary>\n<section id=\"m\" type=\"standard\">\n<e><re>",
+                1,
+            ),
+            ("(", 201),
+            ("a", 1),
+            (")", 201),
+            ("</re></e>\n</section>\n</dictionary>\n", 1),
+        ],
+        input: &[("a", 1)],
+        cut: 1,
+        take: 0,
+        status: bad_dictionary!(2, 10, 3),
+        out: &[],
+        message: "apertium: Y: line 3: dictionary fault 10 BadRegex\n",
+    },
+];
 
 #[test]
 fn parentheses_nest_to_their_limit(rt: HostRuntime) -> Result<(), Fail> {
-    let alloc = rt.alloc();
-    let words = words_of(alloc, "lt-proc -a Y")?;
-    let refused = Status::BadDictionary {
-        file: 2,
-        fault: 10,
-        line: 3,
-    };
-    for (count, wanted, out) in [(200, Status::Done, "^a/a$"), (201, refused, "")] {
-        let mut files = MemFiles::new(alloc, Vec::new(alloc));
-        files.add("Y", nested(alloc, count)?.as_bytes())?;
-        let mut source = MemSource::new(Vec::from_slice(alloc, b"a")?, 1, Vec::new(alloc));
-        let mut sink = MemSink::new(alloc, 1000, Vec::new(alloc), 0)?;
-        let mut err = MemSink::new(alloc, 1000, Vec::new(alloc), 0)?;
-        let status = apertium(
-            alloc,
-            words.as_slice(),
-            &mut files,
-            &mut source,
-            &mut sink,
-            &mut err,
-        );
-        assert_eq!(rt; status, wanted);
-        assert_eq!(rt; sink.written(), out.as_bytes());
-    }
-    Ok(())
+    check_all(&rt, rt.alloc(), NESTED)
 }
 
-fn letters(alloc: Global, letter: u8, count: usize) -> Result<Vec<u8>, Fail> {
-    Ok(vec![in alloc; letter; count]?)
-}
-
-/// Analyses so many letters by M, or by a file of so many spaces, and compares the status, how many
-/// bytes are written, and the message.
-fn check_limit(
-    rt: &impl Abort,
-    alloc: Global,
-    file: &[u8],
-    input: Vec<u8>,
-    status: Status,
-    written: usize,
-    message: &str,
-) -> Result<(), Fail> {
-    let words = words_of(alloc, "lt-proc -a M")?;
-    let mut files = MemFiles::new(alloc, Vec::new(alloc));
-    files.add("M", file)?;
-    let mut source = MemSource::new(input, 65_536, Vec::new(alloc));
-    let mut sink = MemSink::new(alloc, 4_194_400, Vec::new(alloc), 0)?;
-    let mut err = MemSink::new(alloc, 1000, Vec::new(alloc), 0)?;
-    let got = apertium(
-        alloc,
-        words.as_slice(),
-        &mut files,
-        &mut source,
-        &mut sink,
-        &mut err,
-    );
-    assert_eq!(rt; got, status);
-    assert_eq!(rt; sink.written().len(), written);
-    assert_eq!(rt; err.written(), message.as_bytes());
-    Ok(())
-}
-
-fn limit(stage: u8, kind: u8, place: u64) -> Status {
-    Status::Limit { stage, kind, place }
-}
+const FILE: &[Long] = &[Long {
+    words: "lt-proc -a M",
+    name: "M",
+    file: &[(" ", 67_108_865)],
+    input: &[("a", 1)],
+    cut: 65_536,
+    take: 0,
+    status: limit!(0, 6, 2),
+    out: &[],
+    message: "apertium: M: limit 6 FileTooLong\n",
+}];
 
 #[test]
 fn a_file_is_too_long(rt: HostRuntime) -> Result<(), Fail> {
-    let alloc = rt.alloc();
-    let file = letters(alloc, b' ', 67_108_865)?;
-    let long = "apertium: M: limit 6 FileTooLong\n";
-    check_limit(
-        &rt,
-        alloc,
-        file.as_slice(),
-        letters(alloc, b'a', 1)?,
-        limit(0, 6, 2),
-        0,
-        long,
-    )
+    check_all(&rt, rt.alloc(), FILE)
 }
+
+/// An item as long as may be, and one byte longer.
+const ITEMS: &[Long] = &[
+    Long {
+        words: "lt-proc -a M",
+        name: "M",
+        file: &[(M, 1)],
+        input: &[(" ", 4_194_304)],
+        cut: 65_536,
+        take: 0,
+        status: Status::Done,
+        out: &[(" ", 4_194_304)],
+        message: "",
+    },
+    Long {
+        words: "lt-proc -a M",
+        name: "M",
+        file: &[(M, 1)],
+        input: &[(" ", 4_194_305)],
+        cut: 65_536,
+        take: 0,
+        status: limit!(1, 1, 0),
+        out: &[],
+        message: "apertium: stage 1: byte 0: limit 1 ItemTooLong\n",
+    },
+];
 
 #[test]
 fn an_item_is_too_long(rt: HostRuntime) -> Result<(), Fail> {
-    let alloc = rt.alloc();
-    let file = M.as_bytes();
-    let long = "apertium: stage 1: byte 0: limit 1 ItemTooLong\n";
-    for (count, status, written, message) in [
-        (4_194_304, Status::Done, 4_194_304, ""),
-        (4_194_305, limit(1, 1, 0), 0, long),
-    ] {
-        let input = letters(alloc, b' ', count)?;
-        check_limit(&rt, alloc, file, input, status, written, message)?;
-    }
-    Ok(())
+    check_all(&rt, rt.alloc(), ITEMS)
 }
+
+/// A unit as long as may be, and one that is longer.
+const UNITS: &[Long] = &[
+    Long {
+        words: "lt-proc -a M",
+        name: "M",
+        file: &[(M, 1)],
+        input: &[("a", 2_097_150)],
+        cut: 65_536,
+        take: 0,
+        status: Status::Done,
+        out: &[
+            ("^", 1),
+            ("a", 2_097_150),
+            ("/*", 1),
+            ("a", 2_097_150),
+            ("$", 1),
+        ],
+        message: "",
+    },
+    Long {
+        words: "lt-proc -a M",
+        name: "M",
+        file: &[(M, 1)],
+        input: &[("a", 2_097_151)],
+        cut: 65_536,
+        take: 0,
+        status: limit!(1, 3, 0),
+        out: &[],
+        message: "apertium: stage 1: byte 0: limit 3 UnitTooLong\n",
+    },
+];
 
 #[test]
 fn a_unit_is_too_long(rt: HostRuntime) -> Result<(), Fail> {
-    let alloc = rt.alloc();
-    let file = M.as_bytes();
-    let long = "apertium: stage 1: byte 0: limit 3 UnitTooLong\n";
-    for (count, status, written, message) in [
-        (2_097_150, Status::Done, 4_194_304, ""),
-        (2_097_151, limit(1, 3, 0), 0, long),
-    ] {
-        let input = letters(alloc, b'a', count)?;
-        check_limit(&rt, alloc, file, input, status, written, message)?;
-    }
-    Ok(())
+    check_all(&rt, rt.alloc(), UNITS)
 }

@@ -1,45 +1,14 @@
 //! A line goes through as it comes: what was taken is answered before more is taken.
 ghost use Rattle.std.specs.Prelude.{None};
 
-use crate::tests::gathering::Counting;
-use crate::tests::rows::{files_of, words_of};
-use crate::{Status, WorkSource, apertium};
-use ap_outside::{Failed, MemSink, MemSource, Sink, Source};
-use std::alloc::Global;
+use crate::Status;
+use crate::tests::rows::{called, files_of};
+use crate::tests::watching::Counting;
+use ap_outside::{Failed, MemSink, MemSource, Source};
+use std::alloc::{AllocError, Global};
 use std::cell::Cell;
 use std::process::Abort;
 use std::test::Fail;
-
-/// The text of `work`, with the count of the bytes that it gave, the most that it was asked for at
-/// once, and how many bytes were put when it gave its end.
-#[derive(Drop)]
-struct Worked<'a> {
-    source: WorkSource,
-    put: &'a Cell<usize>,
-    given: usize,
-    asked: usize,
-    at_end: usize,
-}
-
-impl Source for Worked<'_> {
-    ghost left = { λ s. ⟦<WorkSource as Source>⟧.left s.source };
-
-    ghost faults = { λ s. ⟦<WorkSource as Source>⟧.faults s.source };
-
-    fn take(&mut self, into: &mut [u8]) -> Result<usize, Failed> {
-        self.asked = self.asked.max(into.len());
-        match self.source.take(into) {
-            Err(failed) => Err(failed),
-            Ok(count) => {
-                self.given = self.given.saturating_add(count);
-                if count == 0 {
-                    self.at_end = self.put.get();
-                }
-                Ok(count)
-            }
-        }
-    }
-}
 
 /// A text of three lines, each of which is taken by itself, with the counts of the bytes that were
 /// put before each of them and before the end.
@@ -80,72 +49,28 @@ impl Source for Lines<'_> {
     }
 }
 
-/// The status of a call with these words.
-fn called<S: Source, K: Sink>(
-    alloc: Global,
-    words: &str,
-    source: &mut S,
-    sink: &mut K,
-) -> Result<Status, Fail> {
-    let words = words_of(alloc, words)?;
-    let mut files = files_of(alloc, 0)?;
-    let mut err = MemSink::new(alloc, 1000, Vec::new(alloc), 0)?;
-    Ok(apertium(alloc, words.as_slice(), &mut files, source, sink, &mut err))
-}
-
-/// By pipes of 64 bytes, bytes are put before the source ends, and where the first put fails most
-/// of the input stays in the source. It is asked for no more than a pipe holds.
-#[test]
-fn a_whole_row_gathers_nothing(rt: HostRuntime) -> Result<(), Fail> {
-    for words in [
-        "run -B 64 MONO BI T1 T2 T3 GEN POST",
-        "text -B 64 MONO BI T1 T2 T3 GEN POST",
-    ] {
-        for fails in [false, true] {
-            let put = Cell::new(0);
-            let mut source = Worked {
-                source: WorkSource::new(1000),
-                put: &put,
-                given: 0,
-                asked: 0,
-                at_end: 0,
-            };
-            let mut sink = Counting {
-                put: &put,
-                fails,
-                faults: 0,
-            };
-            let status = called(rt.alloc(), words, &mut source, &mut sink)?;
-            assert_eq!(rt; source.asked, 64, "of {words}");
-            if fails {
-                assert_eq!(rt; status.number(), 4);
-                assert!(rt; source.given < 1000);
-            } else {
-                assert_eq!(rt; status, Status::Done);
-                assert_eq!(rt; source.given, 28_890);
-                assert!(rt; source.at_end > 28_000);
-            }
-        }
-    }
-    Ok(())
-}
-
-/// A call answers each line before it takes the next one, but for so many bytes at the end of an
-/// answer, which come with the next line.
-fn answers_each(
-    rt: &impl Abort,
-    alloc: Global,
-    words: &str,
+/// Three lines, and the answer to each; so many bytes at the end of an answer come with the next
+/// line.
+struct Answers {
+    words: &'static str,
     kept: usize,
-    lines: [&str; 3],
-    given: [&str; 3],
-) -> Result<(), Fail> {
-    let put = Cell::new(0);
+    lines: [&'static str; 3],
+    given: [&'static str; 3],
+}
+
+fn text_of(alloc: Global, lines: &[&str]) -> Result<Vec<u8>, AllocError> {
     let mut text = Vec::new(alloc);
     for line in lines {
         text.extend_from_slice(line.as_bytes())?;
     }
-    let [one, two, three] = lines;
+    Ok(text)
+}
+
+/// A call answers each line before it takes the next one.
+fn answers_each(rt: &impl Abort, alloc: Global, answers: &Answers) -> Result<(), Fail> {
+    let put = Cell::new(0);
+    let text = text_of(alloc, &answers.lines)?;
+    let [one, two, three] = answers.lines;
     let mut source = Lines {
         source: MemSource::new(text, 1000, Vec::new(alloc)),
         lengths: [one.len(), two.len(), three.len()],
@@ -160,78 +85,97 @@ fn answers_each(
         fails: false,
         faults: 0,
     };
-    let status = called(alloc, words, &mut source, &mut sink)?;
-    assert_eq!(rt; status, Status::Done);
-    let [first, second, third] = given;
+    let mut files = files_of(alloc, 0)?;
+    let mut err = MemSink::new(alloc, 1000, Vec::new(alloc), 0)?;
+    let status = called(
+        alloc,
+        answers.words,
+        &mut files,
+        &mut source,
+        &mut sink,
+        &mut err,
+    )?;
+    assert!(rt; status == Status::Done, "of {}", answers.words);
+    let [first, second, third] = answers.given;
     let one = first.len();
     let two = one.saturating_add(second.len());
     let three = two.saturating_add(third.len());
-    let [before_first, before_second, before_third] = source.before;
-    assert_eq!(rt; before_first, 0);
-    assert_eq!(rt; before_second, one.saturating_sub(kept), "of {words}");
-    assert_eq!(rt; before_third, two.saturating_sub(kept), "of {words}");
-    assert_eq!(rt; source.at_end, three.saturating_sub(kept), "of {words}");
-    assert_eq!(rt; put.get(), three);
+    let kept = answers.kept;
+    let before = [0, one.saturating_sub(kept), two.saturating_sub(kept)];
+    assert!(rt; source.before == before, "of {}", answers.words);
+    assert!(rt;
+        source.at_end == three.saturating_sub(kept),
+        "of {}",
+        answers.words
+    );
+    assert!(rt; put.get() == three, "of {}", answers.words);
     Ok(())
 }
 
-/// Two zero bytes behind a line feed end all that is held before them. They come with the next line
-/// at the latest.
-#[test]
-fn a_translation_is_out_before_the_next_line(rt: HostRuntime) -> Result<(), Fail> {
-    for (words, kept) in [
-        ("run MONO BI T1 T2 T3 GEN POST", 0),
-        ("run -B 1 MONO BI T1 T2 T3 GEN POST", 3),
-        ("text MONO BI T1 T2 T3 GEN POST", 3),
-    ] {
-        answers_each(
-            &rt,
-            rt.alloc(),
-            words,
-            kept,
-            [
-                "The black dog of the cat.\n\0\0",
-                "black cats sleep.\n\0\0",
-                "cats.\n\0\0",
-            ],
-            [
-                "El perro negro del gato.\n\0\0",
-                "gatos negros *sleep.\n\0\0",
-                "gatos.\n\0\0",
-            ],
-        )?;
-    }
-    Ok(())
-}
-
-#[test]
-fn a_stage_gives_what_it_can_before_more_is_taken(rt: HostRuntime) -> Result<(), Fail> {
-    answers_each(
-        &rt,
-        rt.alloc(),
-        "transfer T1 BI",
-        0,
-        [
+/// A translation is out before the next line is taken: two zero bytes behind a line feed end all
+/// that is held before them, and come with the next line at the latest. A stage gives what it can
+/// before more is taken.
+const ANSWERS: &[Answers] = &[
+    Answers {
+        words: "run MONO BI T1 T2 T3 GEN POST",
+        kept: 0,
+        lines: SAID,
+        given: GIVEN,
+    },
+    Answers {
+        words: "run -B 1 MONO BI T1 T2 T3 GEN POST",
+        kept: 3,
+        lines: SAID,
+        given: GIVEN,
+    },
+    Answers {
+        words: "text MONO BI T1 T2 T3 GEN POST",
+        kept: 3,
+        lines: SAID,
+        given: GIVEN,
+    },
+    Answers {
+        words: "transfer T1 BI",
+        kept: 0,
+        lines: [
             "^black<adj>$ ^dog<n><sg>$\n\0\0",
             "^black<adj>$\n\0\0",
             "^dog<n><sg>$\n\0\0",
         ],
-        [
+        given: [
             "^nom_adj<SN><m><sg>{^perro<n><2><3>$ ^negro<adj><2><3>$}$\n\0\0",
             "^default<default>{^negro<adj>$}$\n\0\0",
             "^default<default>{^perro<n><m><sg>$}$\n\0\0",
         ],
-    )?;
-    answers_each(
-        &rt,
-        rt.alloc(),
-        "lt-proc -a MONO",
-        0,
-        ["The cat.\n\0\0", "cat\n\0\0", "of x\n\0\0"],
-        [
+    },
+    Answers {
+        words: "lt-proc -a MONO",
+        kept: 0,
+        lines: ["The cat.\n\0\0", "cat\n\0\0", "of x\n\0\0"],
+        given: [
             "^The/The<det>$ ^cat/cat<n><sg>$^./.<sent>$\n\0\0",
             "^cat/cat<n><sg>$\n\0\0",
             "^of/of<pr>$ ^x/*x$\n\0\0",
         ],
-    )
+    },
+];
+
+const SAID: [&str; 3] = [
+    "The black dog of the cat.\n\0\0",
+    "black cats sleep.\n\0\0",
+    "cats.\n\0\0",
+];
+
+const GIVEN: [&str; 3] = [
+    "El perro negro del gato.\n\0\0",
+    "gatos negros *sleep.\n\0\0",
+    "gatos.\n\0\0",
+];
+
+#[test]
+fn a_line_is_answered_before_the_next_one(rt: HostRuntime) -> Result<(), Fail> {
+    for answers in ANSWERS {
+        answers_each(&rt, rt.alloc(), answers)?;
+    }
+    Ok(())
 }

@@ -1,141 +1,170 @@
+//! Rows of commands, and how one is run.
+use crate::tests::files::FILES;
 use crate::{Status, apertium};
-use ap_outside::{MemFiles, MemSink, MemSource};
+use ap_outside::{MemFiles, MemSink, MemSource, Sink, Source};
 use std::alloc::Global;
 use std::process::Abort;
 use std::test::Fail;
 
-/// The plainest dictionary.
-const P: &str =
-    "<dictionary>\n<alphabet>abcdefghijklmnopqrstuvwxyz</alphabet>\n<sdefs><sdef n=\"n\"/><sdef n=\"sg\"/><sdef n=\"vblex\"/><sdef n=\"past\"/><sdef n=\"pr\"/></sdefs>\n<section id=\"main\" type=\"standard\">\n<e><p><l>saw</l><r>saw<s n=\"n\"/><s n=\"sg\"/></r></p></e>\n<e><p><l>saw</l><r>see<s n=\"vblex\"/><s n=\"past\"/></r></p></e>\n<e><p><l>in</l><r>in<s n=\"pr\"/></r></p></e>\n</section>\n</dictionary>\n";
+/// A file: its name and its text.
+pub(super) type File = (&'static str, &'static str);
 
-/// A dictionary with a paradigm, a word of two parts and an inconditional section.
-pub(super) const M: &str =
-    "<dictionary>\n<alphabet>abcdefghijklmnopqrstuvwxyz</alphabet>\n<sdefs><sdef n=\"n\"/><sdef n=\"sg\"/><sdef n=\"pl\"/><sdef n=\"vblex\"/>\n<sdef n=\"past\"/><sdef n=\"adv\"/><sdef n=\"sent\"/></sdefs>\n<pardefs><pardef n=\"house__n\">\n<e><p><l></l><r><s n=\"n\"/><s n=\"sg\"/></r></p></e>\n<e><p><l>s</l><r><s n=\"n\"/><s n=\"pl\"/></r></p></e>\n</pardef></pardefs>\n<section id=\"main\" type=\"standard\">\n<e lm=\"house\"><i>house</i><par n=\"house__n\"/></e>\n<e lm=\"saw\"><p><l>saw</l><r>saw<s n=\"n\"/><s n=\"sg\"/></r></p></e>\n<e lm=\"see\"><p><l>saw</l><r>see<s n=\"vblex\"/><s n=\"past\"/></r></p></e>\n<e lm=\"in front\"><p><l>in<b/>front</l><r>in<b/>front<s n=\"adv\"/></r></p></e>\n</section>\n<section id=\"final\" type=\"inconditional\">\n<e lm=\".\"><p><l>.</l><r>.<s n=\"sent\"/></r></p></e>\n</section>\n</dictionary>\n";
-
-/// Entries kept in one direction, one of them in a paradigm.
-const X: &str =
-    "<dictionary><pardefs><pardef n=\"p\"><e r=\"LR\"><i>c</i></e><e><i>d</i></e></pardef></pardefs><section type=\"standard\"><e r=\"LR\"><i>a</i></e><e r=\"RL\"><i>b</i><par n=\"p\"/></e></section></dictionary>";
-
-/// A section of type postblank.
-const Q: &str =
-    "<dictionary>\n<alphabet>abcdefghijklmnopqrstuvwxyz</alphabet>\n<sdefs><sdef n=\"det\"/></sdefs>\n<section id=\"main\" type=\"postblank\">\n<e><p><l>l'</l><r>el<s n=\"det\"/></r></p></e>\n</section>\n</dictionary>\n";
-
-/// An entry with an empty left side.
-pub(super) const E: &str =
-    "<dictionary>\n<section id=\"m\" type=\"standard\">\n<e><i>a</i></e>\n<e><p><l></l><r>x</r></p></e>\n</section>\n</dictionary>\n";
-
-/// Two words with other words, one of them empty.
-const G: &str =
-    "<dictionary>\n<section id=\"m\" type=\"standard\">\n<e><p><l>ab</l><r>c</r></p></e>\n<e><p><l>x</l><r></r></p></e>\n</section>\n</dictionary>\n";
-
-/// Sections of type postblank and preblank.
-const N: &str =
-    "<dictionary>\n<alphabet>abcdefghijklmnopqrstuvwxyz</alphabet>\n<sdefs><sdef n=\"det\"/></sdefs>\n<section id=\"main\" type=\"postblank\"><e><p><l>l'</l><r>el<s n=\"det\"/></r></p></e></section>\n<section id=\"other\" type=\"preblank\"><e><p><l>'s</l><r>'s<s n=\"det\"/></r></p></e></section>\n</dictionary>\n";
-
-/// Numbers, by an expression.
-const R: &str =
-    "<dictionary>\n<sdefs><sdef n=\"num\"/></sdefs>\n<section id=\"main\" type=\"standard\">\n<e><re>[0-9]+([.,][0-9]+)?</re><p><l></l><r><s n=\"num\"/></r></p></e>\n</section>\n</dictionary>\n";
-
-/// Faulty ones: no expression, a tag that is not declared, a wrong end tag, a weight.
-const B: &str =
-    "<dictionary>\n<section id=\"m\" type=\"standard\">\n<e><re>[^a]</re></e>\n<e><p><l></l><r>x</r></p></e>\n</section>\n</dictionary>\n";
-
-const F1: &str =
-    "<dictionary>\n<sdefs><sdef n=\"n\"/></sdefs>\n<section id=\"m\" type=\"standard\">\n<e><p><l>a</l><r>a<s n=\"x\"/></r></p></e>\n<e w=\"1\"><i>b</i></e>\n</section>\n</dictionary>\n";
-
-const F2: &str =
-    "<dictionary>\n<section id=\"m\" type=\"standard\">\n<e><i>a</e>\n</section>\n</dictionary>\n";
-
-const F3: &str =
-    "<dictionary>\n<section id=\"m\" type=\"standard\">\n<e w=\"1\"><i>b</i></e>\n</section>\n</dictionary>\n";
-
-/// A bilingual dictionary.
-const BI: &str =
-    "<dictionary>\n<sdefs><sdef n=\"n\"/><sdef n=\"m\"/><sdef n=\"det\"/><sdef n=\"adj\"/>\n<sdef n=\"pr\"/><sdef n=\"sent\"/></sdefs>\n<section id=\"main\" type=\"standard\">\n<e><p><l>dog<s n=\"n\"/></l><r>perro<s n=\"n\"/><s n=\"m\"/></r></p></e>\n<e><p><l>cat<s n=\"n\"/></l><r>gato<s n=\"n\"/><s n=\"m\"/></r></p></e>\n<e><p><l>the<s n=\"det\"/></l><r>el<s n=\"det\"/></r></p></e>\n<e><p><l>black<s n=\"adj\"/></l><r>negro<s n=\"adj\"/></r></p></e>\n<e><p><l>of<s n=\"pr\"/></l><r>de<s n=\"pr\"/></r></p></e>\n<e><i>.<s n=\"sent\"/></i></e>\n</section>\n</dictionary>\n";
-
-/// An analyser of the words that it translates.
-const MONO: &str =
-    "<dictionary>\n<alphabet>abcdefghijklmnopqrstuvwxyz</alphabet>\n<sdefs><sdef n=\"n\"/><sdef n=\"sg\"/><sdef n=\"pl\"/><sdef n=\"det\"/>\n<sdef n=\"adj\"/><sdef n=\"pr\"/><sdef n=\"sent\"/></sdefs>\n<pardefs><pardef n=\"dog__n\">\n<e><p><l></l><r><s n=\"n\"/><s n=\"sg\"/></r></p></e>\n<e><p><l>s</l><r><s n=\"n\"/><s n=\"pl\"/></r></p></e>\n</pardef></pardefs>\n<section id=\"main\" type=\"standard\">\n<e><i>dog</i><par n=\"dog__n\"/></e>\n<e><i>cat</i><par n=\"dog__n\"/></e>\n<e><p><l>the</l><r>the<s n=\"det\"/></r></p></e>\n<e><p><l>black</l><r>black<s n=\"adj\"/></r></p></e>\n<e><p><l>of</l><r>of<s n=\"pr\"/></r></p></e>\n</section>\n<section id=\"final\" type=\"inconditional\">\n<e><p><l>.</l><r>.<s n=\"sent\"/></r></p></e>\n</section>\n</dictionary>\n";
-
-/// Two words for one.
-const V: &str =
-    "<dictionary>\n<sdefs><sdef n=\"n\"/></sdefs>\n<section id=\"main\" type=\"standard\">\n<e><p><l>dog<s n=\"n\"/></l><r>perro<s n=\"n\"/></r></p></e>\n<e><p><l>dog<s n=\"n\"/></l><r>can<s n=\"n\"/></r></p></e>\n</section>\n</dictionary>\n";
-
-/// A dictionary of generation.
-const GEN: &str =
-    "<dictionary>\n<sdefs><sdef n=\"n\"/><sdef n=\"m\"/><sdef n=\"sg\"/><sdef n=\"pl\"/><sdef n=\"det\"/>\n<sdef n=\"adj\"/><sdef n=\"pr\"/><sdef n=\"sent\"/></sdefs>\n<pardefs>\n<pardef n=\"num\"><e><p><l></l><r><s n=\"sg\"/></r></p></e>\n<e><p><l>s</l><r><s n=\"pl\"/></r></p></e></pardef>\n</pardefs>\n<section id=\"main\" type=\"standard\">\n<e><p><l>perro</l><r>perro<s n=\"n\"/><s n=\"m\"/></r></p><par n=\"num\"/></e>\n<e><p><l>gato</l><r>gato<s n=\"n\"/><s n=\"m\"/></r></p><par n=\"num\"/></e>\n<e><p><l>negro</l><r>negro<s n=\"adj\"/><s n=\"m\"/></r></p><par n=\"num\"/></e>\n<e><p><l>el</l><r>el<s n=\"det\"/></r></p></e>\n<e><p><l><a/>de</l><r>de<s n=\"pr\"/></r></p></e>\n<e><p><l>.</l><r>.<s n=\"sent\"/></r></p></e>\n</section>\n</dictionary>\n";
-
-/// A dictionary of post-generation.
-const POST: &str =
-    "<dictionary>\n<section id=\"main\" type=\"standard\">\n<e><p><l><a/>de<b/>el</l><r>del</r></p></e>\n</section>\n</dictionary>\n";
-
-/// Rule files: an undefined name, no rules at all, of both forms, and one fault each.
-const FR: &str =
-    "<interchunk>\n<section-rules><rule>\n<pattern><pattern-item n=\"nope\"/></pattern>\n<action></action>\n</rule></section-rules>\n</interchunk>\n";
-
-const T2: &str = "<interchunk></interchunk>";
-
-const T3: &str = "<postchunk></postchunk>";
-
-const G1: &str =
-    "<interchunk><section-rules><rule><pattern></pattern><action></action></rule></section-rules></interchunk>";
-
-const G2: &str =
-    "<transfer default=\"lu\"><section-def-attrs><def-attr n=\"lem\"></def-attr></section-def-attrs></transfer>";
-
-const G3: &str = "<postchunk><section-rules><rule weight=\"2\"></rule></section-rules></postchunk>";
-
-/// Forbidden pairs of tags: one, two, one of two letters, and a line that is no pair.
-const K1: &str = "prn n\n";
-
-const K2: &str = "prn n\nprn vblex\n";
-
-const K3: &str = "a c";
-
-const K4: &str = "# x\na  b\n";
-/// Rules of transfer: an adjective before a noun, a variable that doubles, and a macro.
-const T1: &str =
-    "<transfer default=\"chunk\">\n<section-def-cats><def-cat n=\"adj\"><cat-item tags=\"adj\"/></def-cat>\n<def-cat n=\"nom\"><cat-item tags=\"n.*\"/></def-cat></section-def-cats>\n<section-def-attrs>\n<def-attr n=\"gen\"><attr-item tags=\"m\"/><attr-item tags=\"f\"/></def-attr>\n<def-attr n=\"num\"><attr-item tags=\"sg\"/><attr-item tags=\"pl\"/></def-attr>\n</section-def-attrs>\n<section-rules><rule>\n<pattern><pattern-item n=\"adj\"/><pattern-item n=\"nom\"/></pattern>\n<action><out><chunk name=\"nom_adj\">\n<tags><tag><lit-tag v=\"SN\"/></tag>\n<tag><clip pos=\"2\" side=\"tl\" part=\"gen\"/></tag>\n<tag><clip pos=\"2\" side=\"tl\" part=\"num\"/></tag></tags>\n<lu><clip pos=\"2\" side=\"tl\" part=\"lem\"/><lit-tag v=\"n\"/>\n<clip pos=\"2\" side=\"tl\" part=\"gen\" link-to=\"2\"/>\n<clip pos=\"2\" side=\"tl\" part=\"num\" link-to=\"3\"/></lu>\n<b pos=\"1\"/>\n<lu><clip pos=\"1\" side=\"tl\" part=\"lem\"/><lit-tag v=\"adj\"/>\n<clip pos=\"2\" side=\"tl\" part=\"gen\" link-to=\"2\"/>\n<clip pos=\"2\" side=\"tl\" part=\"num\" link-to=\"3\"/></lu>\n</chunk></out></action>\n</rule></section-rules>\n</transfer>\n";
-
-const TD: &str =
-    "<transfer default=\"lu\">\n<section-def-cats><def-cat n=\"adj\"><cat-item tags=\"adj\"/></def-cat></section-def-cats>\n<section-def-vars><def-var n=\"v\" v=\"a\"/></section-def-vars>\n<section-rules><rule>\n<pattern><pattern-item n=\"adj\"/></pattern>\n<action><let><var n=\"v\"/><concat><var n=\"v\"/><var n=\"v\"/></concat></let>\n<out><lu><clip pos=\"1\" side=\"tl\" part=\"whole\"/></lu></out></action>\n</rule></section-rules>\n</transfer>\n";
-
-const TL: &str =
-    "<transfer default=\"lu\">\n<section-def-cats><def-cat n=\"nom\"><cat-item tags=\"n.*\"/></def-cat></section-def-cats>\n<section-def-attrs><def-attr n=\"num\"><attr-item tags=\"sg\"/><attr-item tags=\"pl\"/></def-attr></section-def-attrs>\n<section-def-macros><def-macro n=\"many\" npar=\"1\">\n<let><clip pos=\"1\" side=\"tl\" part=\"num\"/><lit-tag v=\"pl\"/></let>\n</def-macro></section-def-macros>\n<section-rules><rule>\n<pattern><pattern-item n=\"nom\"/></pattern>\n<action><call-macro n=\"many\"><with-param pos=\"1\"/></call-macro>\n<out><lu><get-case-from pos=\"1\"><clip pos=\"1\" side=\"tl\" part=\"lem\"/></get-case-from>\n<clip pos=\"1\" side=\"tl\" part=\"tags\"/></lu></out></action>\n</rule></section-rules>\n</transfer>\n";
-
-/// Rules of interchunk and of postchunk, each of which lets two change places.
-const T2S: &str =
-    "<interchunk>\n<section-def-cats><def-cat n=\"sn\"><cat-item tags=\"SN.*\"/></def-cat>\n<def-cat n=\"sv\"><cat-item tags=\"SV\"/></def-cat></section-def-cats>\n<section-rules><rule>\n<pattern><pattern-item n=\"sn\"/><pattern-item n=\"sv\"/></pattern>\n<action><out><chunk><clip pos=\"2\" part=\"whole\"/></chunk><b pos=\"1\"/>\n<chunk><clip pos=\"1\" part=\"whole\"/></chunk></out></action>\n</rule></section-rules>\n</interchunk>\n";
-
-const T3S: &str =
-    "<postchunk>\n<section-def-cats><def-cat n=\"swap\"><cat-item name=\"swap\"/></def-cat></section-def-cats>\n<section-rules><rule>\n<pattern><pattern-item n=\"swap\"/></pattern>\n<action><out><lu><clip pos=\"2\" part=\"whole\"/></lu><b pos=\"1\"/>\n<lu><clip pos=\"1\" part=\"whole\"/></lu></out></action>\n</rule></section-rules>\n</postchunk>\n";
-
-/// A compiled file: one word, with its tag.
-const C: &str =
-    "LTC1\nalphabet 65 66 97 98\nsection standard 3 2 1\n0 L97 L97 1\n1 - Tn 2\n2\nsection inconditional 1 0 0\nsection postblank 1 0 0\nsection preblank 1 0 0\nend\n";
-
-/// Faulty ones: it breaks off, it has an empty cycle, it is of another form.
-const C1: &str = "LTC1\nalphabet\n";
-
-const C2: &str =
-    "LTC1\nalphabet\nsection standard 2 2 1\n0 L97 L97 1\n1 - Tn 1\n1\nsection inconditional 1 0 0\nsection postblank 1 0 0\nsection preblank 1 0 0\nend\n";
-
-const C3: &str = "LTC9\n";
-
-/// A row: the words with a space between, the input, which load or store, which take and which put
-/// fails (numbered from 1, 0 for none), and the status, the output and the message that it must
-/// give.
-#[derive(Clone, Copy)]
-pub(super) struct Row<'a> {
-    pub(super) words: &'a str,
-    pub(super) input: &'a str,
+/// A row: the words with a space between, the files beside the common ones, the input, which load
+/// or store, which take and which put fails (numbered from 1, 0 for none), and the status, the
+/// output and the message that it must give.
+pub(super) struct Row {
+    pub(super) words: &'static str,
+    pub(super) files: &'static [File],
+    pub(super) input: &'static str,
     pub(super) failing: [u64; 3],
     pub(super) status: Status,
-    pub(super) out: &'a str,
-    pub(super) message: &'a str,
+    pub(super) out: &'static str,
+    pub(super) message: &'static str,
 }
 
 pub(super) const NONE: [u64; 3] = [0, 0, 0];
+
+// How rows are written: one in which nothing fails and all is done, any other one, both with files
+// of their own, and one of words that are no command; and the statuses of rows.
+
+macro_rules! done {
+    ($words:expr, $input:expr, $out:expr $(,)?) => {
+        crate::tests::rows::Row {
+            words: $words,
+            files: &[],
+            input: $input,
+            failing: [0, 0, 0],
+            status: crate::Status::Done,
+            out: $out,
+            message: "",
+        }
+    };
+}
+
+macro_rules! done_over {
+    ($files:expr, $words:expr, $input:expr, $out:expr $(,)?) => {
+        crate::tests::rows::Row {
+            words: $words,
+            files: $files,
+            input: $input,
+            failing: [0, 0, 0],
+            status: crate::Status::Done,
+            out: $out,
+            message: "",
+        }
+    };
+}
+
+macro_rules! case {
+    ($words:expr, $input:expr, $failing:expr, $status:expr, $out:expr, $message:expr $(,)?) => {
+        crate::tests::rows::Row {
+            words: $words,
+            files: &[],
+            input: $input,
+            failing: $failing,
+            status: $status,
+            out: $out,
+            message: $message,
+        }
+    };
+}
+
+macro_rules! case_over {
+    (
+        $files:expr, $words:expr, $input:expr, $failing:expr, $status:expr, $out:expr,
+        $message:expr $(,)?
+    ) => {
+        crate::tests::rows::Row {
+            words: $words,
+            files: $files,
+            input: $input,
+            failing: $failing,
+            status: $status,
+            out: $out,
+            message: $message,
+        }
+    };
+}
+
+macro_rules! usage {
+    ($words:expr) => {
+        crate::tests::rows::Row {
+            words: $words,
+            files: &[],
+            input: "saw",
+            failing: [0, 0, 0],
+            status: crate::Status::Usage,
+            out: "",
+            message: "apertium: usage\n",
+        }
+    };
+}
+
+macro_rules! file_fault {
+    ($file:expr) => { crate::Status::FileFault { file: $file } };
+}
+
+macro_rules! bad_dictionary {
+    ($file:expr, $fault:expr, $line:expr) => {
+        crate::Status::BadDictionary {
+            file: $file,
+            fault: $fault,
+            line: $line,
+        }
+    };
+}
+
+macro_rules! bad_rules {
+    ($file:expr, $fault:expr, $line:expr) => {
+        crate::Status::BadRules {
+            file: $file,
+            fault: $fault,
+            line: $line,
+        }
+    };
+}
+
+macro_rules! bad_compiled {
+    ($file:expr, $fault:expr, $line:expr) => {
+        crate::Status::BadCompiled {
+            file: $file,
+            fault: $fault,
+            line: $line,
+        }
+    };
+}
+
+macro_rules! malformed {
+    ($stage:expr, $kind:expr, $place:expr) => {
+        crate::Status::Malformed {
+            stage: $stage,
+            kind: $kind,
+            place: $place,
+        }
+    };
+}
+
+macro_rules! limit {
+    ($stage:expr, $kind:expr, $place:expr) => {
+        crate::Status::Limit {
+            stage: $stage,
+            kind: $kind,
+            place: $place,
+        }
+    };
+}
+
+pub(super) use bad_compiled;
+pub(super) use bad_dictionary;
+pub(super) use bad_rules;
+pub(super) use case;
+pub(super) use case_over;
+pub(super) use done;
+pub(super) use done_over;
+pub(super) use file_fault;
+pub(super) use limit;
+pub(super) use malformed;
+pub(super) use usage;
 
 pub(super) fn words_of(alloc: Global, text: &str) -> Result<Vec<String>, Fail> {
     let mut words = Vec::new(alloc);
@@ -155,53 +184,67 @@ fn call_of(alloc: Global, number: u64) -> Result<Vec<u64>, Fail> {
     Ok(calls)
 }
 
-/// The files; the load or store of this number fails.
-pub(super) fn files_of(alloc: Global, number: u64) -> Result<MemFiles, Fail> {
-    let mut files = MemFiles::new(alloc, call_of(alloc, number)?);
-    for (name, text) in [
-        ("P", P),
-        ("M", M),
-        ("X", X),
-        ("Q", Q),
-        ("E", E),
-        ("G", G),
-        ("F1", F1),
-        ("F2", F2),
-        ("F3", F3),
-        ("N", N),
-        ("R", R),
-        ("BI", BI),
-        ("MONO", MONO),
-        ("V", V),
-        ("GEN", GEN),
-        ("POST", POST),
-        ("FR", FR),
-        ("T2", T2),
-        ("T3", T3),
-        ("T2S", T2S),
-        ("T3S", T3S),
-        ("G1", G1),
-        ("G2", G2),
-        ("G3", G3),
-        ("K1", K1),
-        ("K2", K2),
-        ("K3", K3),
-        ("K4", K4),
-        ("T1", T1),
-        ("TD", TD),
-        ("TL", TL),
-        ("B", B),
-        ("C", C),
-        ("C1", C1),
-        ("C2", C2),
-        ("C3", C3),
-    ] {
+fn add_all(files: &mut MemFiles, more: &[File]) -> Result<(), Fail> {
+    for (name, text) in more {
         files.add(name, text.as_bytes())?;
     }
+    Ok(())
+}
+
+/// The common files; the load or store of this number fails.
+pub(super) fn files_of(alloc: Global, number: u64) -> Result<MemFiles, Fail> {
+    let mut files = MemFiles::new(alloc, call_of(alloc, number)?);
+    add_all(&mut files, FILES)?;
     Ok(files)
 }
 
-/// The input comes in pieces of so many bytes; a put that fails keeps nothing.
+/// The status of a call with these words.
+pub(super) fn called<S: Source, K: Sink>(
+    alloc: Global,
+    words: &str,
+    files: &mut MemFiles,
+    source: &mut S,
+    sink: &mut K,
+    err: &mut MemSink,
+) -> Result<Status, Fail> {
+    let words = words_of(alloc, words)?;
+    Ok(apertium(alloc, words.as_slice(), files, source, sink, err))
+}
+
+/// A run: words, an input that comes in pieces of so many bytes, which take and which put fails,
+/// and what it must give.
+#[derive(Clone, Copy)]
+pub(super) struct Run<'a> {
+    pub(super) words: &'a str,
+    pub(super) input: &'a [u8],
+    pub(super) cut: usize,
+    pub(super) take: u64,
+    pub(super) put: u64,
+    pub(super) status: Status,
+    pub(super) out: &'a [u8],
+    pub(super) message: &'a str,
+}
+
+/// A put that fails keeps nothing.
+pub(super) fn check_run(
+    rt: &impl Abort,
+    alloc: Global,
+    files: &mut MemFiles,
+    run: &Run,
+) -> Result<(), Fail> {
+    let input = Vec::from_slice(alloc, run.input)?;
+    let mut source = MemSource::new(input, run.cut.max(1), call_of(alloc, run.take)?);
+    let room = run.out.len().saturating_add(1000);
+    let mut sink = MemSink::new(alloc, room, call_of(alloc, run.put)?, 0)?;
+    let mut err = MemSink::new(alloc, 1000, Vec::new(alloc), 0)?;
+    let status = called(alloc, run.words, files, &mut source, &mut sink, &mut err)?;
+    assert_eq!(rt; status, run.status, "of {}", run.words);
+    assert!(rt; sink.written() == run.out, "of {}", run.words);
+    assert_eq!(rt; err.written(), run.message.as_bytes(), "of {}", run.words);
+    Ok(())
+}
+
+/// The input comes in pieces of so many bytes.
 pub(super) fn check_over(
     rt: &impl Abort,
     alloc: Global,
@@ -209,51 +252,53 @@ pub(super) fn check_over(
     row: &Row,
     cut: usize,
 ) -> Result<(), Fail> {
-    let words = words_of(alloc, row.words)?;
     let [_, take, put] = row.failing;
-    let input = Vec::from_slice(alloc, row.input.as_bytes())?;
-    let mut source = MemSource::new(input, cut.max(1), call_of(alloc, take)?);
-    let mut sink = MemSink::new(alloc, 2000, call_of(alloc, put)?, 0)?;
-    let mut err = MemSink::new(alloc, 1000, Vec::new(alloc), 0)?;
-    let status = apertium(
-        alloc,
-        words.as_slice(),
-        files,
-        &mut source,
-        &mut sink,
-        &mut err,
-    );
-    assert_eq!(rt; status, row.status, "of {}", row.words);
-    assert_eq!(rt; sink.written(), row.out.as_bytes());
-    assert_eq!(rt; err.written(), row.message.as_bytes());
+    let run = Run {
+        words: row.words,
+        input: row.input.as_bytes(),
+        cut,
+        take,
+        put,
+        status: row.status,
+        out: row.out.as_bytes(),
+        message: row.message,
+    };
+    check_run(rt, alloc, files, &run)
+}
+
+/// A row over new files, in pieces of each of these sizes.
+fn check_row(rt: &impl Abort, alloc: Global, row: &Row, cuts: &[usize]) -> Result<(), Fail> {
+    let [number, _, _] = row.failing;
+    for cut in cuts {
+        let mut files = files_of(alloc, number)?;
+        add_all(&mut files, row.files)?;
+        check_over(rt, alloc, &mut files, row, *cut)?;
+    }
     Ok(())
 }
 
-pub(super) fn check(rt: &impl Abort, alloc: Global, row: &Row, cut: usize) -> Result<(), Fail> {
-    let [number, _, _] = row.failing;
-    let mut files = files_of(alloc, number)?;
-    check_over(rt, alloc, &mut files, row, cut)
-}
-
-pub(super) fn case<'a>(
-    words: &'a str,
-    input: &'a str,
-    failing: [u64; 3],
-    status: Status,
-    out: &'a str,
-    message: &'a str,
-) -> Row<'a> {
-    Row {
-        words,
-        input,
-        failing,
-        status,
-        out,
-        message,
+/// Each row over new files, in pieces of each of these sizes.
+pub(super) fn check_rows(
+    rt: &impl Abort,
+    alloc: Global,
+    rows: &[Row],
+    cuts: &[usize],
+) -> Result<(), Fail> {
+    for row in rows {
+        check_row(rt, alloc, row, cuts)?;
     }
+    Ok(())
 }
 
-/// A row in which nothing fails and all is done.
-pub(super) fn done<'a>(words: &'a str, input: &'a str, out: &'a str) -> Row<'a> {
-    case(words, input, NONE, Status::Done, out, "")
+/// Each row goes on with the files that the one before it left, in pieces of 7 bytes.
+pub(super) fn check_kept(
+    rt: &impl Abort,
+    alloc: Global,
+    files: &mut MemFiles,
+    rows: &[Row],
+) -> Result<(), Fail> {
+    for row in rows {
+        check_over(rt, alloc, files, row, 7)?;
+    }
+    Ok(())
 }

@@ -1,114 +1,117 @@
 use crate::Status;
-use crate::tests::rows::{NONE, case, check, done};
-use std::alloc::{AllocError, Global};
+use crate::tests::long::{Long, Pieces, check_all, made};
+use crate::tests::rows::{NONE, Row, bad_rules, case, check_rows, done};
 use std::test::Fail;
 
-/// The words of a whole translation, and with pipes of the least and of the greatest room.
-const WORDS: [&str; 3] = [
-    "run MONO BI T1 T2 T3 GEN POST",
-    "run -B 1 MONO BI T1 T2 T3 GEN POST",
-    "run -B 1048576 MONO BI T1 T2 T3 GEN POST",
+const ROWS: &[Row] = &[
+    done!(
+        "run MONO BI T1 T2 T3 GEN POST",
+        "The black dog[<0>] of the cat.\n",
+        "El perro negro[<0>] del gato.\n",
+    ),
+    done!(
+        "run -B 1 MONO BI T1 T2 T3 GEN POST",
+        "The black dog[<0>] of the cat.\n",
+        "El perro negro[<0>] del gato.\n",
+    ),
+    done!(
+        "run -B 1048576 MONO BI T1 T2 T3 GEN POST",
+        "The black dog[<0>] of the cat.\n",
+        "El perro negro[<0>] del gato.\n",
+    ),
 ];
 
-/// So many sentences by turns of two kinds, each with its number in a superblank, and behind its
-/// full stop this.
-fn sentences(
-    alloc: Global,
-    count: u64,
-    kinds: [[&str; 2]; 2],
-    behind: &str,
-) -> Result<String, AllocError> {
-    let mut text = String::new(alloc);
-    for k in 0..count {
-        let [[even, end], [odd, last]] = kinds;
-        if k % 2 == 0 {
-            text.push_str(even)?;
-        } else {
-            text.push_str(odd)?;
-        }
-        text.push_str(itoa::Buffer::new().format(k))?;
-        if k % 2 == 0 {
-            text.push_str(end)?;
-        } else {
-            text.push_str(last)?;
-        }
-        text.push_str(behind)?;
-        text.push_str("\n")?;
-    }
-    Ok(text)
-}
-
-/// Sentences to be translated, and their translations.
-const SAID: [[&str; 2]; 2] = [
-    ["The black dog[<", ">] of the cat."],
-    ["black cats[<", ">] sleep."],
-];
-
-const GIVEN: [[&str; 2]; 2] = [
-    ["El perro negro[<", ">] del gato."],
-    ["gatos negros[<", ">] *sleep."],
-];
-
+/// With pipes of 65,536 bytes, and of the least and of the greatest room.
 #[test]
 fn a_sentence_is_translated(rt: HostRuntime) -> Result<(), Fail> {
-    for words in WORDS {
-        let row = done(
-            words,
-            "The black dog[<0>] of the cat.\n",
-            "El perro negro[<0>] del gato.\n",
-        );
-        check(&rt, rt.alloc(), &row, 5)?;
-    }
-    Ok(())
+    check_rows(&rt, rt.alloc(), ROWS, &[5])
 }
 
-#[test]
-fn a_page_is_translated_with_its_superblanks(rt: HostRuntime) -> Result<(), Fail> {
-    let alloc = rt.alloc();
-    let input = sentences(alloc, 30, SAID, "[<p>]")?;
-    let out = sentences(alloc, 30, GIVEN, "[<p>]")?;
-    assert_eq!(rt; out.as_str().len(), 1010);
-    for words in WORDS {
-        check(
-            &rt,
-            alloc,
-            &done(words, input.as_str(), out.as_str()),
-            65_536,
-        )?;
-    }
-    Ok(())
-}
-
-#[test]
-fn a_failed_take_ends_a_translation(rt: HostRuntime) -> Result<(), Fail> {
-    let alloc = rt.alloc();
-    let input = sentences(alloc, 30, SAID, "")?;
-    let [words, _, _] = WORDS;
-    let row = case(
-        words,
-        input.as_str(),
-        [0, 3, 0],
-        Status::ReadFault,
-        "El perro negro[<0>] del gato.\n*b",
-        "apertium: read fault\n",
-    );
-    check(&rt, alloc, &row, 16)
-}
+const REFUSED: &[Row] = &[case!(
+    "run MONO BI TD T2 T3 GEN POST",
+    "The cat.",
+    NONE,
+    bad_rules!(3, 12, 1),
+    "",
+    "apertium: TD: line 1: rule fault 12 Misused\n",
+)];
 
 #[test]
 fn rules_of_a_translation_make_chunks(rt: HostRuntime) -> Result<(), Fail> {
-    let status = Status::BadRules {
-        file: 3,
-        fault: 12,
-        line: 1,
-    };
-    let row = case(
-        "run MONO BI TD T2 T3 GEN POST",
-        "The cat.",
-        NONE,
-        status,
-        "",
-        "apertium: TD: line 1: rule fault 12 Misused\n",
-    );
-    check(&rt, rt.alloc(), &row, 4)
+    check_rows(&rt, rt.alloc(), REFUSED, &[4])
+}
+
+/// Thirty sentences of two kinds by turns, each with its number in a superblank, and another one
+/// behind it, and their translations.
+const SAID: Pieces = &[(
+    "The black dog[<`>] of the cat.[<p>]\nblack cats[<|>] sleep.[<p>]\n",
+    15,
+)];
+
+const GIVEN: Pieces = &[(
+    "El perro negro[<`>] del gato.[<p>]\ngatos negros[<|>] *sleep.[<p>]\n",
+    15,
+)];
+
+const PAGES: &[Long] = &[
+    Long {
+        words: "run MONO BI T1 T2 T3 GEN POST",
+        name: "OTHER",
+        file: &[],
+        input: SAID,
+        cut: 65_536,
+        take: 0,
+        status: Status::Done,
+        out: GIVEN,
+        message: "",
+    },
+    Long {
+        words: "run -B 1 MONO BI T1 T2 T3 GEN POST",
+        name: "OTHER",
+        file: &[],
+        input: SAID,
+        cut: 65_536,
+        take: 0,
+        status: Status::Done,
+        out: GIVEN,
+        message: "",
+    },
+    Long {
+        words: "run -B 1048576 MONO BI T1 T2 T3 GEN POST",
+        name: "OTHER",
+        file: &[],
+        input: SAID,
+        cut: 65_536,
+        take: 0,
+        status: Status::Done,
+        out: GIVEN,
+        message: "",
+    },
+];
+
+#[test]
+fn a_page_is_translated_with_its_superblanks(rt: HostRuntime) -> Result<(), Fail> {
+    let out = made(rt.alloc(), GIVEN)?;
+    assert!(rt; out.len() == 1010);
+    check_all(&rt, rt.alloc(), PAGES)
+}
+
+const CUT_OFF: &[Long] = &[Long {
+    words: "run MONO BI T1 T2 T3 GEN POST",
+    name: "OTHER",
+    file: &[],
+    input: &[(
+        "The black dog[<`>] of the cat.\nblack cats[<|>] sleep.\n",
+        15,
+    )],
+    cut: 16,
+    take: 3,
+    status: Status::ReadFault,
+    out: &[("El perro negro[<0>] del gato.\n*b", 1)],
+    message: "apertium: read fault\n",
+}];
+
+#[test]
+fn a_failed_take_ends_a_translation(rt: HostRuntime) -> Result<(), Fail> {
+    check_all(&rt, rt.alloc(), CUT_OFF)
 }

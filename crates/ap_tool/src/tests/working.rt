@@ -1,23 +1,24 @@
 use crate::WorkSource;
-use crate::tests::rows::{check, done};
+use crate::tests::rows::{Row, check_rows, done};
 use ap_outside::Source;
 use std::test::Fail;
 
+const ROWS: &[Row] = &[
+    done!(
+        "work 4",
+        "",
+        "sentences 4\ninput 108\noutput 112\nsuperblanks 4\n"
+    ),
+    done!(
+        "work 30",
+        "",
+        "sentences 30\ninput 830\noutput 860\nsuperblanks 30\n"
+    ),
+];
+
 #[test]
 fn a_made_text_is_translated_and_counted(rt: HostRuntime) -> Result<(), Fail> {
-    for (words, out) in [
-        (
-            "work 4",
-            "sentences 4\ninput 108\noutput 112\nsuperblanks 4\n",
-        ),
-        (
-            "work 30",
-            "sentences 30\ninput 830\noutput 860\nsuperblanks 30\n",
-        ),
-    ] {
-        check(&rt, rt.alloc(), &done(words, "", out), 5)?;
-    }
-    Ok(())
+    check_rows(&rt, rt.alloc(), ROWS, &[5])
 }
 
 #[test]
