@@ -47,7 +47,23 @@ fn push_copy(text: &mut Vec<u8>, piece: &str, number: usize) -> Result<(), Alloc
     Ok(())
 }
 
-fn push_copies(text: &mut Vec<u8>, piece: &str, count: usize) -> Result<(), AllocError> {
+/// Whether a byte stands for itself in a piece.
+fn is_plain(byte: u8) -> bool {
+    byte != b'?' && number_of(byte, 0).is_none()
+}
+
+fn push_copies(
+    alloc: Global,
+    text: &mut Vec<u8>,
+    piece: &str,
+    count: usize,
+) -> Result<(), AllocError> {
+    if let Some(byte) = piece.as_bytes().first()
+        && piece.len() == 1
+        && is_plain(*byte)
+    {
+        return text.extend_from_slice(vec![in alloc; *byte; count]?.as_slice());
+    }
     for number in 0..count {
         push_copy(text, piece, number)?;
     }
@@ -57,7 +73,7 @@ fn push_copies(text: &mut Vec<u8>, piece: &str, count: usize) -> Result<(), Allo
 pub(super) fn made(alloc: Global, pieces: &[(&str, usize)]) -> Result<Vec<u8>, AllocError> {
     let mut text = Vec::new(alloc);
     for (piece, count) in pieces {
-        push_copies(&mut text, piece, *count)?;
+        push_copies(alloc, &mut text, piece, *count)?;
     }
     Ok(text)
 }
