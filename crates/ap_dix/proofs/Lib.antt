@@ -1,4 +1,3 @@
-pub mod CodeLaws
 pub mod Walks
 pub mod Runs
 pub mod CutLaws

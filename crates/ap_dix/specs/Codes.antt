@@ -1,6 +1,6 @@
 -- Expressions can be told apart: each is kept as the list of steps that build it.
 use Rattle.std.specs.Prelude.{◌≡◌, ◌⊎◌, ℕ, zero, suc, List, [], ◌∷◌, refl}
-use Rattle.std.proofs.Common.{◌∙◌}
+use Rattle.std.proofs.Common.{ap, ◌∙◌}
 use Rattle.std.specs.Coded.{Coded, code_by, coded×, coded⊎, coded_ℕ, coded_list}
 use mathlib.Core.Logic.{inl, inr}
 use Rattle.ap_symbol.specs.contracts.symbol.Symbol as symbols
@@ -94,6 +94,9 @@ form_of ops = top_of (built ops [])
 abbrev pub steps_of : Form → List Op
 steps_of f = steps f []
 
+pub form_of-steps : (f : Form) → form_of (steps_of f) ≡ f
+form_of-steps f = ap top_of (built-steps f [] [])
+
 -- a step by its number
 abbrev pub split : Op → Symbol ⊎ (List Range ⊎ ℕ)
 split (symbol s) = inl s
@@ -119,6 +122,17 @@ abbrev pub joined : Symbol ⊎ (List Range ⊎ ℕ) → Op
 joined (inl s) = symbol s
 joined (inr (inl rs)) = ranges rs
 joined (inr (inr n)) = numbered n
+
+pub joined-split : (op : Op) → joined (split op) ≡ op
+joined-split (symbol s) = refl
+joined-split (ranges rs) = refl
+joined-split nothing = refl
+joined-split before = refl
+joined-split all = refl
+joined-split some = refl
+joined-split any_number = refl
+joined-split at_least_once = refl
+joined-split at_most_once = refl
 
 abbrev pub range_code : Coded Range
 range_code = code_by (ℕ × ℕ) (coded× coded_ℕ coded_ℕ) (λ r. (r.first, r.last))

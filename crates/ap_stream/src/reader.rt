@@ -556,7 +556,7 @@ impl Reader {
         }
     }
 
-    #[tactic(auto, using(crate::specs::Reading::reads_nil))]
+    #[tactic(auto, using(crate::proofs::ReadingLaws::reads_nil))]
     /// Gives the last item, and then none, once the text has ended. The faults are those of `feed`,
     /// and `Unfinished` where the text ends inside an item.
     pub fn end(&mut self) -> Result<Option<Read>, StreamFault>
