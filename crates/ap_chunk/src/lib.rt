@@ -78,8 +78,8 @@ pub use choosing::Choosing;
 pub use chunk_work::ChunkWork;
 pub use interchunk::Interchunk;
 pub use laws::{
-    interchunk_is_read, one_is_chosen, plain_rules_decide, postchunk_is_read,
-    rows_tell, sound_interchunk_keeps_superblanks, sound_postchunk_keeps_superblanks,
+    interchunk_is_read, one_is_chosen, plain_rules_decide, postchunk_is_read, rows_tell,
+    sound_interchunk_keeps_superblanks, sound_postchunk_keeps_superblanks,
     sound_transfer_keeps_superblanks, span_is_greatest, transfer_is_read,
     transfer_keeps_superblanks, trying_all_chooses,
 };
