@@ -15,10 +15,8 @@ use Rattle.ap_rules.specs.declared.rules.Form.TheVariants.{Transfer, Interchunk,
 use Rattle.ap_rules.specs.declared.rules.Rules.{Rules}
 use Rattle.ap_exec.specs.Acting.{act_of, Outcome}
 use Rattle.ap_exec.specs.Filling.{fill_of}
-use Rattle.ap_exec.specs.Results.{Ran}
+use Rattle.ap_exec.specs.Results.{Ran, RuleLimit, ValueTooLong, OutputTooLong}
 use Rattle.ap_exec.specs.Starting.{start_of}
-use Rattle.ap_exec.specs.declared.refusal.ExecRefusal.{ExecRefusal}
-use Rattle.ap_exec.specs.declared.refusal.ExecRefusal.TheVariants.{ValueTooLong, OutputTooLong, Memory}
 use Rattle.ap_chunk.specs.Carrying.{Held, Step, Gives, Stops, carried}
 use Rattle.ap_chunk.specs.Going.{chosen_of}
 use Rattle.ap_chunk.specs.Chunks.{first_words, first_text}
@@ -36,19 +34,18 @@ span rules items = together (patterns_of rules) [] false (parts_of rules items)
 unfoldable pub choice : Rules → List Read → Option Choice
 choice rules items = chosen_of (patterns_of rules) (units_in false (parts_of rules items))
 
--- why a rule gives nothing, as a limit; neither running a rule nor filling wants memory
-abbrev pub limit_of : ExecRefusal → LimitKind
+-- the limit that a rule meets, as one of the stream
+abbrev pub limit_of : RuleLimit → LimitKind
 limit_of ValueTooLong = limit.ValueTooLong
 limit_of OutputTooLong = limit.OutputTooLong
-limit_of Memory = limit.OutputTooLong
 
 abbrev pub filled_step : ℕ → Held → Ran (List ℕ) → Step
 filled_step n vars (Ok text) = Gives n text vars
-filled_step n vars (Err refusal) = Stops (limit_of refusal)
+filled_step n vars (Err met) = Stops (limit_of met)
 
 abbrev pub acted_step : ℕ → List (List ℕ) → Ran Outcome → Step
 acted_step n blanks (Ok outcome) = filled_step n outcome.vars (fill_of outcome.pieces blanks)
-acted_step n blanks (Err refusal) = Stops (limit_of refusal)
+acted_step n blanks (Err met) = Stops (limit_of met)
 
 -- a rule is run on these items, and its template is filled with their blanks
 abbrev pub rule_step : Rules → ℕ → Held → List Read → Step
