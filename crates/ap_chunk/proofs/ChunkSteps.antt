@@ -14,7 +14,7 @@ use Rattle.ap_rules.specs.declared.rules.Rules.{Rules}
 use Rattle.ap_exec.specs.Acting.{act_of, Outcome}
 use Rattle.ap_exec.specs.Filling.{marks, filled, is_over, within_span}
 use Rattle.ap_exec.specs.Results.{Ran}
-use Rattle.ap_exec.specs.declared.refusal.ExecRefusal.TheVariants.{OutputTooLong}
+use Rattle.ap_exec.specs.Results.{OutputTooLong}
 use Rattle.ap_chunk.specs.Carrying.{Held, Step, Gives, Stops}
 use Rattle.ap_chunk.specs.Matches.{matched_of, blanks_of}
 use Rattle.ap_chunk.specs.Parts.{Part, unit, gap, wall, parts_of, taken_by}

@@ -31,7 +31,7 @@ use Rattle.ap_exec.specs.FillingLaws.{supers_in}
 use Rattle.ap_exec.specs.Results.{Ran}
 use Rattle.ap_exec.specs.Starting.{start_of}
 use Rattle.ap_exec.specs.declared.template.Piece.{Piece}
-use Rattle.ap_exec.specs.declared.refusal.ExecRefusal.TheVariants.{OutputTooLong}
+use Rattle.ap_exec.specs.Results.{OutputTooLong}
 use Rattle.ap_chunk.specs.Carrying.{Held, Step, Gives, Stops, goes_on, carried}
 use Rattle.ap_chunk.specs.Laws.{MayGive, given_dialect}
 use Rattle.ap_chunk.specs.Matches.{matched_of, blanks_of}

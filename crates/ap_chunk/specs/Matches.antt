@@ -34,14 +34,25 @@ worded word = record { source = []; head = word; queue = []; content = [] }
 abbrev pub named : List Symbol → List Inner → MatchedUnit
 named name content = record { source = []; head = name; queue = []; content = content }
 
+-- what a rule sees of a unit with these words
+abbrev pub Sees : Type 0
+Sees = List (List Symbol) → MatchedUnit
+
+abbrev pub seen_item : Sees → Item → List MatchedUnit
+seen_item sees (Plain c) = []
+seen_item sees (Blank bytes) = []
+seen_item sees (Unit words) = sees words ∷ []
+seen_item sees (Chunk c) = named c.name c.content ∷ []
+
+-- the units of the items of a match
+abbrev pub seen_items : Sees → List Read → List MatchedUnit
+seen_items sees reads = flat_map (λ read. seen_item sees read.item) reads
+
 abbrev pub matched_item : Item → List MatchedUnit
-matched_item (Plain c) = []
-matched_item (Blank bytes) = []
-matched_item (Unit words) = translated words ∷ []
-matched_item (Chunk c) = named c.name c.content ∷ []
+matched_item thing = seen_item translated thing
 
 abbrev pub matched_items : List Read → List MatchedUnit
-matched_items reads = flat_map (λ read. matched_item read.item) reads
+matched_items reads = seen_items translated reads
 
 -- the same, each as a rule reads it
 abbrev pub shown_items : List Read → List Shown

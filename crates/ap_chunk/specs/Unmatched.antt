@@ -41,9 +41,12 @@ chunk_text Transfer name content = chunk_bytes name content
 chunk_text Interchunk name content = chunk_bytes name content
 chunk_text Postchunk name content = content_text content (chunk_words name content)
 
--- every other item as it is spelled
+-- an item, by what is written for the words of a unit; every other item as it is spelled
+abbrev pub lone_text : (List (List Symbol) → List ℕ) → Rules → Item → List ℕ
+lone_text text_of rules (Plain c) = spelled (Plain c)
+lone_text text_of rules (Blank bytes) = spelled (Blank bytes)
+lone_text text_of rules (Unit words) = text_of words
+lone_text text_of rules (Chunk c) = chunk_text rules.form c.name c.content
+
 abbrev pub unmatched_text : Rules → Item → List ℕ
-unmatched_text rules (Plain c) = spelled (Plain c)
-unmatched_text rules (Blank bytes) = spelled (Blank bytes)
-unmatched_text rules (Unit words) = unit_text rules.form rules.default words
-unmatched_text rules (Chunk c) = chunk_text rules.form c.name c.content
+unmatched_text rules thing = lone_text (unit_text rules.form rules.default) rules thing

@@ -6,12 +6,11 @@ use Rattle.ap_rules.specs.Views.{plain_macro, plain_rules}
 use Rattle.ap_rules.specs.declared.attribute.AttrItem.{AttrItem}
 use Rattle.ap_rules.specs.declared.rules.DefList.{DefList}
 use Rattle.ap_rules.specs.declared.rules.Rules.{Rules}
-use Rattle.ap_stream.specs.declared.TheConstants.{SPAN_MAX}
 use Rattle.ap_rules.specs.declared.rules.DefMacro.{DefMacro}
-use Rattle.ap_exec.specs.Acting.{shown, units_in, here_in, from, body_of, still_of, action_of, started, act_of, outcome, Outcome}
+use Rattle.ap_exec.specs.Acting.{shown, units_in, positions_in, from, body_of, definitions_of, action_of, started, act_of, outcome, Outcome}
 use Rattle.ap_exec.specs.Beginning.{chunk_in, lead_in, from_first}
 use Rattle.ap_exec.specs.Results.{Ran, seen, Fails}
-use Rattle.ap_exec.specs.Running.{Still, Now, run_all, called}
+use Rattle.ap_exec.specs.Running.{Definitions, RunState, run_all, macros_below}
 use Rattle.ap_exec.specs.Starting.{with_new}
 use Rattle.ap_exec.specs.States.{body_in, overlaid}
 use Rattle.ap_exec.specs.Units.{Shown}
@@ -34,10 +33,11 @@ length_shown : (us : List MatchedUnit) → length (map shown us) ≡ length us
 length_shown [] = refl
 length_shown (u ∷ us) = ap suc (length_shown us)
 
-pub here_is : (chunk : Option (List Symbol)) (us : List MatchedUnit) →
-    lead_in (is_some chunk) ++ from_first (length (units_in chunk us)) ≡ here_in chunk (length us)
-here_is None us = ap (λ (n : ℕ). None ∷ from 0 n) (length_shown us)
-here_is (Some name) us = ap (λ (n : ℕ). Some 0 ∷ from 1 n) (length_shown us)
+pub positions_are : (chunk : Option (List Symbol)) (us : List MatchedUnit) →
+    lead_in (is_some chunk) ++ from_first (length (units_in chunk us)) ≡ positions_in chunk (length
+    us)
+positions_are None us = ap (λ (n : ℕ). None ∷ from 0 n) (length_shown us)
+positions_are (Some name) us = ap (λ (n : ℕ). Some 0 ∷ from 1 n) (length_shown us)
 
 from_more : (first n : ℕ) → from first (suc n) ≡ from first n ++ Some (first + n) ∷ []
 from_more first zero = let e : first ≡ first + 0 = omega arith in ap (λ (k : ℕ). Some k ∷ []) e
@@ -79,17 +79,17 @@ set_past (y ∷ ys) zero x h = absurd (omega arith)
 set_past (y ∷ ys) (suc n) x h = ap (λ (zs : List _). y ∷ zs) (set_past ys n x (omega arith))
 
 -- the world of a run
-pub still_is : (r : Rules) (attributes : List (List AttrItem)) (lists : List DefList)
+pub definitions_are : (r : Rules) (attributes : List (List AttrItem)) (lists : List DefList)
     (macros : List DefMacro) → attributes ≡ r.attributes → lists ≡ r.lists → macros ≡ r.macros.items
-    → (let s : Still = record {
+    → (let s : Definitions = record {
       form = r.form;
       attributes = attributes;
       lists = lists;
       bodies =
           map body_in macros;
-    } in s) ≡ still_of (plain_rules r)
-still_is r attributes lists macros a l m =
-    ap (λ (xs : List (List AttrItem)). let s : Still =
+    } in s) ≡ definitions_of (plain_rules r)
+definitions_are r attributes lists macros a l m =
+    ap (λ (xs : List (List AttrItem)). let s : Definitions =
     record {
       form = r.form;
       attributes = xs;
@@ -97,7 +97,7 @@ still_is r attributes lists macros a l m =
       bodies =
           map body_in macros;
     } in s) a
-    ∙ ap (λ (xs : List DefList). let s : Still =
+    ∙ ap (λ (xs : List DefList). let s : Definitions =
     record {
       form = r.form;
       attributes = r.attributes;
@@ -105,73 +105,60 @@ still_is r attributes lists macros a l m =
       bodies =
           map body_in macros;
     } in s) l
-    ∙ ap (λ (xs : List PlainStatements). let s : Still =
+    ∙ ap (λ (xs : List PlainStatements). let s : Definitions =
     record { form = r.form; attributes = r.attributes; lists = r.lists; bodies = xs } in s)
     (ap (map body_in) m ∙ bodies_are r.macros.items)
 
 -- the state at the start
-pub now_is : (m : Matched) (vars base : List (List Symbol)) (units : List Shown)
+pub state_is : (m : Matched) (vars base : List (List Symbol)) (units : List Shown)
     (fresh : List (Option (List Symbol))) (pieces : List Piece) → units ≡ units_in m.chunk m.units →
     base ≡ vars → fresh ≡ [] → pieces ≡ []
-    → (let s : Now = record {
-      units = units;
-      vars = overlaid base fresh;
-      pieces = pieces;
-      room =
-          SPAN_MAX;
-    } in s) ≡ started m vars
-now_is m vars base units fresh pieces u b f p =
-    ap (λ (xs : List Shown). let s : Now =
-    record { units = xs; vars = overlaid base fresh; pieces = pieces; room = SPAN_MAX } in s) u
-    ∙ ap (λ (xs : List (Option (List Symbol))). let s : Now =
-    record {
-      units = units_in m.chunk m.units;
-      vars = overlaid base xs;
-      pieces = pieces;
-      room =
-          SPAN_MAX;
-    } in s) f
-    ∙ ap (λ (xs : List (List Symbol)). let s : Now =
-    record { units = units_in m.chunk m.units; vars = xs; pieces = pieces; room = SPAN_MAX } in
-    s) (overlaid_nothing base ∙ b)
-    ∙ ap (λ (xs : List Piece). let s : Now =
-    record {
-      units = units_in m.chunk m.units;
-      vars = vars;
-      pieces = xs;
-      room =
-          SPAN_MAX;
-    } in s) p
+    → (let s : RunState = record { units = units; vars = overlaid base fresh; pieces = pieces } in
+    s) ≡ started m vars
+state_is m vars base units fresh pieces u b f p =
+    ap (λ (xs : List Shown). let s : RunState =
+    record { units = xs; vars = overlaid base fresh; pieces = pieces } in s) u
+    ∙ ap (λ (xs : List (Option (List Symbol))). let s : RunState =
+    record { units = units_in m.chunk m.units; vars = overlaid base xs; pieces = pieces } in s) f
+    ∙ ap (λ (xs : List (List Symbol)). let s : RunState =
+    record { units = units_in m.chunk m.units; vars = xs; pieces = pieces } in s)
+    (overlaid_nothing base ∙ b)
+    ∙ ap (λ (xs : List Piece). let s : RunState =
+    record { units = units_in m.chunk m.units; vars = vars; pieces = xs } in s) p
 
 -- the whole run
-pub act_is : (r : PlainRules) (n : ℕ) (m : Matched) (vars : List (List Symbol)) (w : Still)
-    (visible : ℕ) (here : List (Option ℕ)) (body : PlainStatements) (s : Now)
-    → w ≡ still_of r → visible ≡ length r.macros → here ≡ here_in m.chunk (length m.units) →
+pub act_is : (r : PlainRules) (n : ℕ) (m : Matched) (vars : List (List Symbol)) (w : Definitions)
+    (visible : ℕ) (positions : List (Option ℕ)) (body : PlainStatements) (s : RunState)
+    → w ≡ definitions_of r → visible ≡ length r.macros → positions ≡ positions_in m.chunk (length
+    m.units) →
     body ≡ action_of r n → s ≡ started m vars
-    → seen outcome (run_all w (called w visible) here body s) ≡ act_of r n m vars
-act_is r n m vars w visible here body s a b c d e =
-    ap (λ (x : Still). seen outcome (run_all x (called x visible) here body s)) a
-    ∙ ap (λ (x : ℕ). seen outcome (run_all (still_of r) (called (still_of r) x) here body s)) b
+    → seen outcome (run_all w (macros_below w visible) positions body s) ≡ act_of r n m vars
+act_is r n m vars w visible positions body s a b c d e =
+    ap (λ (x : Definitions). seen outcome (run_all x (macros_below x visible) positions body s)) a
+    ∙ ap (λ (x : ℕ). seen outcome (run_all (definitions_of r) (macros_below (definitions_of r) x)
+    positions body s)) b
     ∙ ap (λ (x : List (Option ℕ)). seen outcome
-    (run_all (still_of r) (called (still_of r) (length r.macros)) x body s)) c
+    (run_all (definitions_of r) (macros_below (definitions_of r) (length r.macros)) x body s)) c
     ∙ ap (λ (x : PlainStatements). seen outcome
-    (run_all (still_of r) (called (still_of r) (length r.macros))
-    (here_in m.chunk (length m.units)) x s)) d
-    ∙ ap (λ (x : Now). seen outcome
-    (run_all (still_of r) (called (still_of r) (length r.macros))
-    (here_in m.chunk (length m.units)) (action_of r n) x)) e
+    (run_all (definitions_of r) (macros_below (definitions_of r) (length r.macros))
+    (positions_in m.chunk (length m.units)) x s)) d
+    ∙ ap (λ (x : RunState). seen outcome
+    (run_all (definitions_of r) (macros_below (definitions_of r) (length r.macros))
+    (positions_in m.chunk (length m.units)) (action_of r n) x)) e
 
 pub length_macros : (ms : List DefMacro) → length ms ≡ length (map plain_macro ms)
 length_macros [] = refl
 length_macros (m ∷ ms) = ap suc (length_macros ms)
 
-pub ends_badly : (e : ExecRefusal) (ran : Ran Now) (whole : Ran Outcome) → seen outcome ran ≡ whole
+pub ends_badly : (e : ExecRefusal) (ran : Ran RunState) (whole : Ran Outcome) →
+    seen outcome ran ≡ whole
     → Fails e ran → Fails e whole
 ends_badly Memory ran whole is h = tt
 ends_badly ValueTooLong ran whole is h = sym is ∙ ap (seen outcome) h
 ends_badly OutputTooLong ran whole is h = sym is ∙ ap (seen outcome) h
 
-pub ends_well : (ran : Ran Now) (s : Now) (whole : Ran Outcome) → seen outcome ran ≡ whole →
+pub ends_well : (ran : Ran RunState) (s : RunState) (whole : Ran Outcome) →
+    seen outcome ran ≡ whole →
     ran ≡ Ok s → whole ≡ Ok (outcome s)
 ends_well ran s whole is h = sym is ∙ ap (seen outcome) h
 

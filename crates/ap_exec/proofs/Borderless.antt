@@ -17,19 +17,19 @@ use Rattle.ap_rules.specs.declared.value.Side.TheVariants.{Source, Target}
 use Rattle.ap_exec.specs.declared.comparing.Way.{Way}
 use Rattle.ap_exec.specs.declared.comparing.Way.TheVariants.{Equals, Begins, Ends, Contains}
 use Rattle.ap_exec.specs.declared.matched.MatchedUnit.{MatchedUnit}
-use Rattle.ap_exec.specs.declared.refusal.ExecRefusal.TheVariants.{OutputTooLong}
+use Rattle.ap_stream.specs.declared.TheConstants.{SPAN_MAX}
 use Rattle.ap_exec.specs.declared.template.Atom.{Atom}
 use Rattle.ap_exec.specs.declared.template.Atom.TheVariants.{Unit as The_unit}
 use Rattle.ap_exec.specs.declared.template.Piece.{Piece}
 use Rattle.ap_exec.specs.declared.template.Piece.TheVariants.{Atom as The_atom, Chunk}
-use Rattle.ap_exec.specs.Acting.{outcome, body_of, still_of, action_in, action_of, shown, units_in, here_in, started}
+use Rattle.ap_exec.specs.Acting.{outcome, body_of, definitions_of, action_in, action_of, shown, units_in, positions_in, started}
 use Rattle.ap_exec.specs.Borderless.{ClipKeeps, ValueKeeps, ValuesKeep, UnitKeeps, ComparisonKeeps, ConditionKeeps, ConditionsKeep, ChunkPieceKeeps, PieceKeeps, PlaceKeeps, StatementKeeps, StatementsKeep, WhensKeep, MacroKeeps, RuleKeeps, all_head, without_queues, BordersDoNotMatter}
 use Rattle.ap_exec.specs.Comparing.{compared, compared_some}
 use Rattle.ap_exec.specs.Conditions.{words_of, compares, compares_some, and_then, or_else, holds, all_hold, one_holds}
 use Rattle.ap_exec.specs.Parts.{Span, span_of, cut, side_in, word_on, word_of, word_at, part_at, linked, clip_of, case_at}
-use Rattle.ap_exec.specs.Pieces.{unit_of, units_of, compound, chunk_piece_of, chunk_pieces_of, tags_of, name_of, gives_content, content_in, content_of, contents_of, piece_of, piece_size}
-use Rattle.ap_exec.specs.Results.{Ran, ◌>>=◌, seen}
-use Rattle.ap_exec.specs.Running.{Still, Now, sight_of, with_var, unit_set, units_set, with_place, held_at, recased_at, placed, outs, places_of, either_of, Calls, run, run_all, run_choice, body_in, body_at, called}
+use Rattle.ap_exec.specs.Pieces.{unit_of, units_of, compound, chunk_piece_of, chunk_pieces_of, tags_of, name_of, gives_content, content_in, content_of, contents_of, piece_of, pieces_size, added}
+use Rattle.ap_exec.specs.Results.{Ran, ◌>>=◌, seen, OutputTooLong}
+use Rattle.ap_exec.specs.Running.{Definitions, RunState, sight_of, with_var, unit_set, units_set, with_place, held_at, recased_at, placed, outs, places_of, either_of, Calls, run, run_all, run_choice, body_in, body_at, macros_below}
 use Rattle.ap_exec.specs.Units.{Shown, Sight, number_at, numbered, unit_at, var_at}
 use Rattle.ap_exec.specs.Values.{bounded, case_word, value_of, joined_of, appended}
 use Rattle.ap_exec.specs.Writing.{is_kept, replaced, written}
@@ -44,14 +44,14 @@ bare_sight s = record {
   form = s.form;
   attributes = s.attributes;
   lists = s.lists;
-  here = s.here;
+  positions = s.positions;
   units = map bare s.units;
   vars = s.vars;
 }
 
-abbrev bare_now : Now → Now
-bare_now s =
-    record { units = map bare s.units; vars = s.vars; pieces = s.pieces; room = s.room }
+abbrev bare_state : RunState → RunState
+bare_state s =
+    record { units = map bare s.units; vars = s.vars; pieces = s.pieces }
 
 -- lists
 
@@ -94,8 +94,8 @@ module _ (sight : Sight) where
       word_at (bare_sight sight) pos side true ≡ word_at sight pos side true
   word_at_bare pos side =
       ap (word_of (side_in sight.form side) true)
-      (numbered_bare sight.units (number_at sight.here pos))
-      ∙ word_bare (side_in sight.form side) (unit_at sight.here sight.units pos)
+      (numbered_bare sight.units (number_at sight.positions pos))
+      ∙ word_bare (side_in sight.form side) (unit_at sight.positions sight.units pos)
 
   part_bare : (pos : ℕ) (part : ClipPart) (side : Side) →
       part_at (bare_sight sight) pos part side true ≡ part_at sight pos part side true
@@ -247,11 +247,11 @@ module _ (sight : Sight) where
   content_in_bare None = refl
   content_in_bare (Some u) = refl
 
-  content_at_bare : (pos : ℕ) → content_in (unit_at sight.here (map bare sight.units) pos)
-      ≡ content_in (unit_at sight.here sight.units pos)
+  content_at_bare : (pos : ℕ) → content_in (unit_at sight.positions (map bare sight.units) pos)
+      ≡ content_in (unit_at sight.positions sight.units pos)
   content_at_bare pos =
-      ap content_in (numbered_bare sight.units (number_at sight.here pos))
-      ∙ content_in_bare (unit_at sight.here sight.units pos)
+      ap content_in (numbered_bare sight.units (number_at sight.positions pos))
+      ∙ content_in_bare (unit_at sight.positions sight.units pos)
 
   content_bare : (v : PlainValue) → content_of (bare_sight sight) v ≡ content_of sight v
   content_bare (clip c) =
@@ -317,7 +317,7 @@ on_bare Source queue u h = refl
 on_bare Target queue u h =
     ap (λ (b : Bool). word_on Target b (bare u)) h ∙ ap (λ (b : Bool). word_on Target b u) (sym h)
 
-module _ (w : Still) (c : Clip) (h : ClipKeeps c) (value : List Symbol) where
+module _ (w : Definitions) (c : Clip) (h : ClipKeeps c) (value : List Symbol) where
   side : Side
   side = side_in w.form c.side
 
@@ -353,146 +353,155 @@ module _ (w : Still) (c : Clip) (h : ClipKeeps c) (value : List Symbol) where
 
 -- what is changed
 
-abbrev with_units : Now → List Shown → Now
-with_units s us = record { units = us; vars = s.vars; pieces = s.pieces; room = s.room }
+abbrev with_units : RunState → List Shown → RunState
+with_units s us = record { units = us; vars = s.vars; pieces = s.pieces }
 
-place_bare : (w : Still) (here : List (Option ℕ)) (p : Place) → PlaceKeeps p →
-    (value : List Symbol) (s : Now) → bare_now (with_place w here p value (bare_now s))
-    ≡ bare_now (with_place w here p value s)
-place_bare w here (place.Clip c) h value s =
-    ap (with_units s) (units_set_bare w c h value s.units (number_at here c.pos))
-place_bare w here (place.Var v) h value s =
+place_bare : (w : Definitions) (positions : List (Option ℕ)) (p : Place) → PlaceKeeps p →
+    (value : List Symbol) (s : RunState) → bare_state (with_place w positions p value (bare_state
+    s))
+    ≡ bare_state (with_place w positions p value s)
+place_bare w positions (place.Clip c) h value s =
+    ap (with_units s) (units_set_bare w c h value s.units (number_at positions c.pos))
+place_bare w positions (place.Var v) h value s =
     ap (with_units (with_var v.n value s)) (bare_twice s.units)
 
 -- two runs give the same, or are refused for the same, borders aside
-abbrev Alike : Ran Now → Ran Now → Type 0
-Alike r q = seen bare_now r ≡ seen bare_now q
+abbrev Alike : Ran RunState → Ran RunState → Type 0
+Alike r q = seen bare_state r ≡ seen bare_state q
 
-alike_next : (r q : Ran Now) (f : Now → Ran Now) → Alike r q →
-    ((s : Now) → Alike (f (bare_now s)) (f s)) → Alike (r >>= f) (q >>= f)
+alike_next : (r q : Ran RunState) (f : RunState → Ran RunState) → Alike r q →
+    ((s : RunState) → Alike (f (bare_state s)) (f s)) → Alike (r >>= f) (q >>= f)
 alike_next (Ok s) (Ok t) f e h =
-    let same : bare_now s ≡ bare_now t = cc in
-    sym (h s) ∙ ap (λ (x : Now). seen bare_now (f x)) same ∙ h t
+    let same : bare_state s ≡ bare_state t = cc in
+    sym (h s) ∙ ap (λ (x : RunState). seen bare_state (f x)) same ∙ h t
 alike_next (Ok s) (Err x) f e h = absurd (cc)
 alike_next (Err x) (Ok t) f e h = absurd (cc)
 alike_next (Err x) (Err y) f e h = e
 
-alike_then : {A : Type 0} (r q : Ran A) (f g : A → Ran Now) → r ≡ q →
+alike_then : {A : Type 0} (r q : Ran A) (f g : A → Ran RunState) → r ≡ q →
     ((x : A) → Alike (f x) (g x)) → Alike (r >>= f) (q >>= g)
-alike_then {A} r q f g e h = ap (λ (x : Ran A). seen bare_now (x >>= f)) e ∙ by q
+alike_then {A} r q f g e h = ap (λ (x : Ran A). seen bare_state (x >>= f)) e ∙ by q
   where
     by : (x : Ran A) → Alike (x >>= f) (x >>= g)
     by (Ok x) = h x
     by (Err x) = refl
 
-placed_by : (b : Bool) (p : Piece) (s : Now) → Alike
-    (if b then
-    Ok (record (bare_now s) { pieces = s.pieces ++ p ∷ []; room = s.room - piece_size p })
-    else Err OutputTooLong)
-    (if b then Ok (record s { pieces = s.pieces ++ p ∷ []; room = s.room - piece_size p })
-    else Err OutputTooLong)
+placed_by : (b : Bool) (p : Piece) (s : RunState) → Alike
+    ((if b then Ok (s.pieces ++ p ∷ []) else Err OutputTooLong)
+    >>= λ pieces. Ok (record (bare_state s) { pieces = pieces }))
+    ((if b then Ok (s.pieces ++ p ∷ []) else Err OutputTooLong)
+    >>= λ pieces. Ok (record s { pieces = pieces }))
 placed_by true p s =
-    ap (λ (us : List Shown). Ok
-    (with_units (record s { pieces = s.pieces ++ p ∷ []; room = s.room - piece_size p }) us))
+    ap (λ (us : List Shown). Ok (with_units (record s { pieces = s.pieces ++ p ∷ [] }) us))
     (bare_twice s.units)
 placed_by false p s = refl
 
-placed_bare : (p : Piece) (s : Now) → Alike (placed p (bare_now s)) (placed p s)
-unfolding placed
-placed_bare p s = placed_by (nat_le (piece_size p) s.room) p s
+placed_bare : (p : Piece) (s : RunState) → Alike (placed p (bare_state s)) (placed p s)
+unfolding added
+placed_bare p s = placed_by (nat_le (pieces_size (s.pieces ++ p ∷ [])) SPAN_MAX) p s
 
-outs_bare : (w : Still) (here : List (Option ℕ)) (ps : List PlainPiece) → Each PieceKeeps ps →
-    (s : Now) → Alike (outs w here ps (bare_now s)) (outs w here ps s)
-outs_bare w here [] h s = ap (λ (us : List Shown). Ok (with_units s us)) (bare_twice s.units)
-outs_bare w here (p ∷ ps) h s =
-    alike_then (piece_of (sight_of w here (bare_now s)) p) (piece_of (sight_of w here s) p)
-    (λ x. placed x (bare_now s) >>= outs w here ps) (λ x. placed x s >>= outs w here ps)
-    (piece_bare (sight_of w here s) p h.0)
-    (λ x. alike_next (placed x (bare_now s)) (placed x s) (outs w here ps) (placed_bare x s)
-    (outs_bare w here ps h.1))
+outs_bare : (w : Definitions) (positions : List (Option ℕ)) (ps : List PlainPiece) →
+    Each PieceKeeps ps →
+    (s : RunState) → Alike (outs w positions ps (bare_state s)) (outs w positions ps s)
+outs_bare w positions [] h s = ap (λ (us : List Shown). Ok (with_units s us)) (bare_twice s.units)
+outs_bare w positions (p ∷ ps) h s =
+    alike_then (piece_of (sight_of w positions (bare_state s)) p) (piece_of (sight_of w positions s)
+    p)
+    (λ x. placed x (bare_state s) >>= outs w positions ps) (λ x. placed x s >>= outs w positions ps)
+    (piece_bare (sight_of w positions s) p h.0)
+    (λ x. alike_next (placed x (bare_state s)) (placed x s) (outs w positions ps) (placed_bare x s)
+    (outs_bare w positions ps h.1))
 
-either_alike : (b : Bool) (first second third fourth : Ran Now) → Alike first third →
+either_alike : (b : Bool) (first second third fourth : Ran RunState) → Alike first third →
     Alike second fourth → Alike (either_of b first second) (either_of b third fourth)
 either_alike true first second third fourth h k = h
 either_alike false first second third fourth h k = k
 
-chosen_alike : (b : Bool) (first second third fourth : Ran Now) → Alike first third →
+chosen_alike : (b : Bool) (first second third fourth : Ran RunState) → Alike first third →
     Alike second fourth → Alike (if b then first else second) (if b then third else fourth)
 chosen_alike true first second third fourth h k = h
 chosen_alike false first second third fourth h k = k
 
 abbrev CallsBare : Calls → Type 0
-CallsBare calls = (k : ℕ) (here : List (Option ℕ)) (s : Now) →
-    Alike (calls k here (bare_now s)) (calls k here s)
+CallsBare calls = (k : ℕ) (positions : List (Option ℕ)) (s : RunState) →
+    Alike (calls k positions (bare_state s)) (calls k positions s)
 
-module _ (w : Still) (calls : Calls) (c : CallsBare calls) (here : List (Option ℕ)) where
+module _ (w : Definitions) (calls : Calls) (c : CallsBare calls) (positions : List (Option ℕ)) where
   mutual
-    run_bare : (x : PlainStatement) → StatementKeeps x → (s : Now) →
-        Alike (run w calls here x (bare_now s)) (run w calls here x s)
+    run_bare : (x : PlainStatement) → StatementKeeps x → (s : RunState) →
+        Alike (run w calls positions x (bare_state s)) (run w calls positions x s)
     run_bare (choose whens otherwise) h s =
-        choice_bare whens h.0 (run_all w calls here otherwise) (run_all_bare otherwise h.1) s
+        choice_bare whens h.0 (run_all w calls positions otherwise) (run_all_bare otherwise h.1) s
     run_bare (assign p v) h s =
-        alike_then (value_of (sight_of w here (bare_now s)) v) (value_of (sight_of w here s) v)
-        (λ x. Ok (with_place w here p x (bare_now s))) (λ x. Ok (with_place w here p x s))
-        (value_bare (sight_of w here s) v h.1)
-        (λ x. ap (λ (t : Now). Ok t) (place_bare w here p h.0 x s))
+        alike_then (value_of (sight_of w positions (bare_state s)) v) (value_of (sight_of w
+        positions s) v)
+        (λ x. Ok (with_place w positions p x (bare_state s))) (λ x. Ok (with_place w positions p x
+        s))
+        (value_bare (sight_of w positions s) v h.1)
+        (λ x. ap (λ (t : RunState). Ok t) (place_bare w positions p h.0 x s))
     run_bare (append n vs) h s =
-        alike_then (appended (sight_of w here (bare_now s)) n (values_of vs))
-        (appended (sight_of w here s) n (values_of vs)) (λ x. Ok (with_var n x (bare_now s)))
-        (λ x. Ok (with_var n x s)) (appended_bare (sight_of w here s) n vs h)
+        alike_then (appended (sight_of w positions (bare_state s)) n (values_of vs))
+        (appended (sight_of w positions s) n (values_of vs)) (λ x. Ok (with_var n x (bare_state s)))
+        (λ x. Ok (with_var n x s)) (appended_bare (sight_of w positions s) n vs h)
         (λ x. ap (λ (us : List Shown). Ok (with_units (with_var n x s) us)) (bare_twice s.units))
-    run_bare (out ps) h s = outs_bare w here ps h s
+    run_bare (out ps) h s = outs_bare w positions ps h s
     run_bare (modify_case p v) h s =
-        alike_then (value_of (sight_of w here (bare_now s)) v) (value_of (sight_of w here s) v)
+        alike_then (value_of (sight_of w positions (bare_state s)) v) (value_of (sight_of w
+        positions s) v)
         (λ x. Ok
-        (with_place w here p (recased_at (sight_of w here (bare_now s)) p x) (bare_now s)))
-        (λ x. Ok (with_place w here p (recased_at (sight_of w here s) p x) s))
-        (value_bare (sight_of w here s) v h.1)
-        (λ x. ap (λ (held : List Symbol). Ok (bare_now
-        (with_place w here p (recase_lem (case_of_lem x) held) (bare_now s))))
-        (held_bare (sight_of w here s) p h.0)
-        ∙ ap (λ (t : Now). Ok t)
-        (place_bare w here p h.0 (recased_at (sight_of w here s) p x) s))
-    run_bare (call_macro n params) h s = c n (places_of here params) s
+        (with_place w positions p (recased_at (sight_of w positions (bare_state s)) p x) (bare_state
+        s)))
+        (λ x. Ok (with_place w positions p (recased_at (sight_of w positions s) p x) s))
+        (value_bare (sight_of w positions s) v h.1)
+        (λ x. ap (λ (held : List Symbol). Ok (bare_state
+        (with_place w positions p (recase_lem (case_of_lem x) held) (bare_state s))))
+        (held_bare (sight_of w positions s) p h.0)
+        ∙ ap (λ (t : RunState). Ok t)
+        (place_bare w positions p h.0 (recased_at (sight_of w positions s) p x) s))
+    run_bare (call_macro n params) h s = c n (places_of positions params) s
 
-    run_all_bare : (xs : PlainStatements) → StatementsKeep xs → (s : Now) →
-        Alike (run_all w calls here xs (bare_now s)) (run_all w calls here xs s)
+    run_all_bare : (xs : PlainStatements) → StatementsKeep xs → (s : RunState) →
+        Alike (run_all w calls positions xs (bare_state s)) (run_all w calls positions xs s)
     run_all_bare no_statements h s =
         ap (λ (us : List Shown). Ok (with_units s us)) (bare_twice s.units)
     run_all_bare (then_statement x more) h s =
-        alike_next (run w calls here x (bare_now s)) (run w calls here x s)
-        (run_all w calls here more) (run_bare x h.0 s) (run_all_bare more h.1)
+        alike_next (run w calls positions x (bare_state s)) (run w calls positions x s)
+        (run_all w calls positions more) (run_bare x h.0 s) (run_all_bare more h.1)
 
-    choice_bare : (ws : PlainWhens) → WhensKeep ws → (last : Now → Ran Now) →
-        ((s : Now) → Alike (last (bare_now s)) (last s)) → (s : Now) →
-        Alike (run_choice w calls here ws last (bare_now s)) (run_choice w calls here ws last s)
+    choice_bare : (ws : PlainWhens) → WhensKeep ws → (last : RunState → Ran RunState) →
+        ((s : RunState) → Alike (last (bare_state s)) (last s)) → (s : RunState) →
+        Alike (run_choice w calls positions ws last (bare_state s)) (run_choice w calls positions ws
+        last s)
     choice_bare no_whens h last l s = l s
     choice_bare (then_when test statements more) h last l s =
-        alike_then (holds (sight_of w here (bare_now s)) test) (holds (sight_of w here s) test)
-        (λ b. either_of b (run_all w calls here statements (bare_now s))
-        (run_choice w calls here more last (bare_now s)))
-        (λ b. either_of b (run_all w calls here statements s)
-        (run_choice w calls here more last s)) (holds_bare (sight_of w here s) test h.0)
-        (λ b. either_alike b (run_all w calls here statements (bare_now s))
-        (run_choice w calls here more last (bare_now s)) (run_all w calls here statements s)
-        (run_choice w calls here more last s) (run_all_bare statements h.1 s)
+        alike_then (holds (sight_of w positions (bare_state s)) test) (holds (sight_of w positions
+        s) test)
+        (λ b. either_of b (run_all w calls positions statements (bare_state s))
+        (run_choice w calls positions more last (bare_state s)))
+        (λ b. either_of b (run_all w calls positions statements s)
+        (run_choice w calls positions more last s)) (holds_bare (sight_of w positions s) test h.0)
+        (λ b. either_alike b (run_all w calls positions statements (bare_state s))
+        (run_choice w calls positions more last (bare_state s)) (run_all w calls positions
+        statements s)
+        (run_choice w calls positions more last s) (run_all_bare statements h.1 s)
         (choice_bare more h.2 last l s))
 
 body_keeps : (o : Option PlainStatements) → Opt StatementsKeep o → StatementsKeep (body_in o)
 body_keeps None h = tt
 body_keeps (Some body) h = h
 
-called_bare : (w : Still) → Each StatementsKeep w.bodies → (macros : ℕ) →
-    CallsBare (called w macros)
-called_bare w h zero n here s =
+macros_bare : (w : Definitions) → Each StatementsKeep w.bodies → (macros : ℕ) →
+    CallsBare (macros_below w macros)
+macros_bare w h zero n positions s =
     ap (λ (us : List Shown). Ok (with_units s us)) (bare_twice s.units)
-called_bare w h (suc m) n here s =
-    chosen_alike (n == m) (run_all w (called w m) here (body_at w m) (bare_now s))
-    (called w m n here (bare_now s)) (run_all w (called w m) here (body_at w m) s)
-    (called w m n here s)
-    (run_all_bare w (called w m) (called_bare w h m) here (body_at w m)
+macros_bare w h (suc m) n positions s =
+    chosen_alike (n == m) (run_all w (macros_below w m) positions (body_at w m) (bare_state s))
+    (macros_below w m n positions (bare_state s)) (run_all w (macros_below w m) positions (body_at w
+    m) s)
+    (macros_below w m n positions s)
+    (run_all_bare w (macros_below w m) (macros_bare w h m) positions (body_at w m)
     (body_keeps (slice_get w.bodies m) (each_get StatementsKeep w.bodies m h)) s)
-    (called_bare w h m n here s)
+    (macros_bare w h m n positions s)
 
 action_keeps : (o : Option PlainRule) → Opt RuleKeeps o → StatementsKeep (action_in o)
 action_keeps None h = tt
@@ -520,28 +529,29 @@ units_in_bare (Some name) us =
     ap (λ (xs : List Shown). (record { source = []; target = name; border = 0; content = [] }) ∷ xs)
     (shown_bare us)
 
-seen_bare : (r : Ran Now) → seen outcome r ≡ seen outcome (seen bare_now r)
+seen_bare : (r : Ran RunState) → seen outcome r ≡ seen outcome (seen bare_state r)
 seen_bare (Ok s) = refl
 seen_bare (Err x) = refl
 
 -- what is seen of the end is the same, where the starts are the same, borders aside
-seen_alike : (f : Now → Ran Now) → ((s : Now) → Alike (f (bare_now s)) (f s)) → (s t : Now) →
-    bare_now s ≡ bare_now t → seen outcome (f s) ≡ seen outcome (f t)
+seen_alike : (f : RunState → Ran RunState) → ((s : RunState) → Alike (f (bare_state s)) (f s)) →
+    (s t : RunState) →
+    bare_state s ≡ bare_state t → seen outcome (f s) ≡ seen outcome (f t)
 seen_alike f h s t e =
     seen_bare (f s) ∙ ap (seen outcome)
-    (sym (h s) ∙ ap (λ (x : Now). seen bare_now (f x)) e ∙ h t) ∙ sym (seen_bare (f t))
+    (sym (h s) ∙ ap (λ (x : RunState). seen bare_state (f x)) e ∙ h t) ∙ sym (seen_bare (f t))
 
 pub borders_do_not_matter : BordersDoNotMatter
 borders_do_not_matter r n m vars h =
-    let w = still_of r in
-    let calls = called w (length r.macros) in
+    let w = definitions_of r in
+    let calls = macros_below w (length r.macros) in
     let bodies = each_map MacroKeeps StatementsKeep body_of (λ x l. l) r.macros h.macros in
-    let here = here_in m.chunk (length m.units) in
+    let positions = positions_in m.chunk (length m.units) in
     ap (λ (size : ℕ). seen outcome
-    (run_all w calls (here_in m.chunk size) (action_of r n) (started (without_queues m) vars)))
+    (run_all w calls (positions_in m.chunk size) (action_of r n) (started (without_queues m) vars)))
     (length-map m.units all_head)
-    ∙ seen_alike (run_all w calls here (action_of r n))
-    (run_all_bare w calls (called_bare w bodies (length r.macros)) here (action_of r n)
+    ∙ seen_alike (run_all w calls positions (action_of r n))
+    (run_all_bare w calls (macros_bare w bodies (length r.macros)) positions (action_of r n)
     (action_keeps (slice_get r.rules n) (each_get RuleKeeps r.rules n h.rules)))
     (started (without_queues m) vars) (started m vars)
     (ap (with_units (started m vars)) (units_in_bare m.chunk m.units))

@@ -4,11 +4,12 @@ use Rattle.std.specs.List.{flat_map}
 use Rattle.std.proofs.lemmas.Bool.Decides.{nat_tests}
 use Rattle.ap_symbol.specs.declared.symbol.Symbol.{Symbol}
 use Rattle.ap_stream.specs.Limits.{span_max}
-use Rattle.ap_exec.specs.Filling.{Mark, text, gap, Appends, unit_marks, word_marks, left_over, filled, is_over, within_span, goes_on, Stops, Writes}
-use Rattle.ap_exec.specs.Results.{Fails}
+use Rattle.ap_exec.specs.Filling.{Mark, text, gap, unit_marks, word_marks, left_over, filled, is_over, within_span}
+use Rattle.ap_exec.specs.FillingParts.{Appends, goes_on, Stops, Writes}
+use Rattle.ap_exec.specs.Results.{Fails, OutputTooLong}
 use Rattle.ap_exec.specs.declared.filling.Filling.{Filling}
 use Rattle.ap_exec.specs.declared.refusal.ExecRefusal.{ExecRefusal}
-use Rattle.ap_exec.specs.declared.refusal.ExecRefusal.TheVariants.{ValueTooLong, OutputTooLong, Memory}
+use Rattle.ap_exec.specs.declared.refusal.ExecRefusal.TheVariants as refusal
 
 -- more bytes than an output may have are too many with those that follow
 pub over_more : (out bytes rest : List ℕ) → span_max < length out + length bytes →
@@ -42,16 +43,16 @@ Wrote before after ms = (more : List Mark) → goes_on after more ≡ goes_on be
 
 pub stops_more : (e : ExecRefusal) (f : Filling) (a b : List Mark) → Stops e f a →
     Stops e f (a ++ b)
-stops_more Memory f a b h = tt
-stops_more ValueTooLong f a b h = h
-stops_more OutputTooLong f a b h =
+stops_more refusal.Memory f a b h = tt
+stops_more refusal.ValueTooLong f a b h = h
+stops_more refusal.OutputTooLong f a b h =
     λ more. ap (λ (ms : List Mark). is_over (goes_on f ms)) (append_assoc a b more) ∙ h (b ++ more)
 
 pub stops_then : (e : ExecRefusal) (f g : Filling) (a b : List Mark) → Wrote f g a → Stops e g b →
     Stops e f (a ++ b)
-stops_then Memory f g a b w h = tt
-stops_then ValueTooLong f g a b w h = h
-stops_then OutputTooLong f g a b w h =
+stops_then refusal.Memory f g a b w h = tt
+stops_then refusal.ValueTooLong f g a b w h = h
+stops_then refusal.OutputTooLong f g a b w h =
     λ more. ap is_over (ap (goes_on f) (append_assoc a b more) ∙ sym (w (b ++ more))) ∙ h more
 
 pub writes_then : {Y : Type 0} (r : Result Y ExecRefusal) (f g k : Filling) (a b : List Mark) →
@@ -65,9 +66,9 @@ pub text_written : {Y : Type 0} (r : Result Y ExecRefusal) (f : Filling) (after 
     Appends r f.out after bytes → Writes r f (record f { out = after }) (text bytes ∷ [])
 text_written (Ok y) f after bytes h = λ more. ap (λ (o : List ℕ). o ++ filled more f.blanks.now) h
     ∙ append_assoc f.out bytes (filled more f.blanks.now)
-text_written (Err Memory) f after bytes h = tt
-text_written (Err ValueTooLong) f after bytes h = h
-text_written (Err OutputTooLong) f after bytes h = λ more. h (filled more f.blanks.now)
+text_written (Err refusal.Memory) f after bytes h = tt
+text_written (Err refusal.ValueTooLong) f after bytes h = h
+text_written (Err refusal.OutputTooLong) f after bytes h = λ more. h (filled more f.blanks.now)
 
 module _ (f : Filling) (blank : List ℕ) (rest : List (List ℕ)) (first : f.blanks.now ≡ blank
     ∷ rest) where
@@ -76,9 +77,10 @@ module _ (f : Filling) (blank : List ℕ) (rest : List (List ℕ)) (first : f.bl
 
   pub blank_stops : (e : ExecRefusal) (after : List ℕ) →
       Appends {Y = Unit {0}} (Err e) f.out after blank → Stops e f (gap ∷ [])
-  blank_stops Memory after h = tt
-  blank_stops ValueTooLong after h = h
-  blank_stops OutputTooLong after h = λ more. ap is_over (at_gap more) ∙ h (filled more rest)
+  blank_stops refusal.Memory after h = tt
+  blank_stops refusal.ValueTooLong after h = h
+  blank_stops refusal.OutputTooLong after h = λ more. ap is_over (at_gap more) ∙ h (filled more
+      rest)
 
   pub blank_written : (after : List ℕ) → after ≡ f.out ++ blank → (more : List Mark) →
       after ++ filled more rest ≡ goes_on f (gap ∷ more)
@@ -88,9 +90,9 @@ module _ (f : Filling) (blank : List ℕ) (rest : List (List ℕ)) (first : f.bl
 -- the whole text
 pub fill_stops : (e : ExecRefusal) (f : Filling) (ms : List Mark) → f.out ≡ [] → Stops e f ms →
     Fails e (within_span (filled ms f.blanks.now))
-fill_stops Memory f ms none h = tt
-fill_stops ValueTooLong f ms none h = absurd h
-fill_stops OutputTooLong f ms none h =
+fill_stops refusal.Memory f ms none h = tt
+fill_stops refusal.ValueTooLong f ms none h = absurd h
+fill_stops refusal.OutputTooLong f ms none h =
     within_is_over (filled ms f.blanks.now)
     (ap is_over (sym (ap (λ (o : List ℕ). o ++ filled (ms ++ []) f.blanks.now) none
     ∙ ap (λ (zs : List Mark). filled zs f.blanks.now) (append-nil ms))) ∙ h [])

@@ -1,36 +1,36 @@
 use Rattle.std.proofs.Common.{◌≡◌, ℕ, ◌-◌, List, [], ◌++◌, length, ap, sym, ◌∙◌, append_assoc, refl, Result, Ok, Err, nat_le, Bool, true, false, cond, subst}
 use Rattle.ap_symbol.specs.declared.symbol.Symbol.{Symbol}
 use Rattle.ap_symbol.specs.Rendering.{rendering}
-use Rattle.ap_exec.specs.Results.{Ran, ◌>>=◌, seen, Gives, Fails}
+use Rattle.ap_exec.specs.Results.{Ran, ◌>>=◌, seen, Gives, Fails, ValueTooLong}
 use Rattle.ap_stream.specs.declared.TheConstants.{UNIT_MAX}
 use Rattle.ap_exec.specs.Values.{bounded, sized}
 use Rattle.ap_exec.specs.declared.refusal.ExecRefusal.{ExecRefusal}
-use Rattle.ap_exec.specs.declared.refusal.ExecRefusal.TheVariants.{ValueTooLong, OutputTooLong, Memory}
+use Rattle.ap_exec.specs.declared.refusal.ExecRefusal.TheVariants as refusal
 use Rattle.ap_exec.proofs.Bounds.{bounds}
 
 -- a refusal of the first part is one of the whole
 pub first_fails : {A B C D : Type 0} (e : ExecRefusal) (f : A → B) (g : C → D) (h : A → Ran C)
     (r : Ran A) → Fails e (seen f r) → Fails e (seen g (r >>= h))
-first_fails Memory f g h r fails = tt
-first_fails ValueTooLong f g h (Ok x) fails = cc
-first_fails ValueTooLong f g h (Err e) fails = cc
-first_fails OutputTooLong f g h (Ok x) fails = cc
-first_fails OutputTooLong f g h (Err e) fails = cc
+first_fails refusal.Memory f g h r fails = tt
+first_fails refusal.ValueTooLong f g h (Ok x) fails = cc
+first_fails refusal.ValueTooLong f g h (Err e) fails = cc
+first_fails refusal.OutputTooLong f g h (Ok x) fails = cc
+first_fails refusal.OutputTooLong f g h (Err e) fails = cc
 
-picked : (b : Bool) (old w : List Symbol) (result : Ran (Unit {0})) →
+picked : (b : Bool) (old w : List Symbol) (result : Result (Unit {0}) ExecRefusal) →
     Gives (λ x. x) result (cond b (Ok tt) (Err ValueTooLong)) →
     Gives (λ _. old ++ w) result
     (seen (λ (v : List Symbol). old ++ v) (cond b (Ok w) (Err ValueTooLong)))
 picked true old w (Ok x) gives = refl
 picked false old w (Ok x) gives = cc
-picked true old w (Err Memory) gives = tt
-picked false old w (Err Memory) gives = tt
-picked true old w (Err ValueTooLong) gives = cc
-picked false old w (Err ValueTooLong) gives = refl
-picked true old w (Err OutputTooLong) gives = cc
-picked false old w (Err OutputTooLong) gives = cc
+picked true old w (Err refusal.Memory) gives = tt
+picked false old w (Err refusal.Memory) gives = tt
+picked true old w (Err refusal.ValueTooLong) gives = cc
+picked false old w (Err refusal.ValueTooLong) gives = refl
+picked true old w (Err refusal.OutputTooLong) gives = cc
+picked false old w (Err refusal.OutputTooLong) gives = cc
 
-sized_as : (n : ℕ) (old w : List Symbol) (result : Ran (Unit {0})) →
+sized_as : (n : ℕ) (old w : List Symbol) (result : Result (Unit {0}) ExecRefusal) →
     Gives (λ x. x) result (sized n tt) →
     Gives (λ _. old ++ w) result (seen (λ (v : List Symbol). old ++ v) (sized n w))
 unfolding sized

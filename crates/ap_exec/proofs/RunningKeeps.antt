@@ -1,5 +1,5 @@
 -- Running a rule keeps words what they are.
-use Rattle.std.proofs.Common.{◌≡◌, ℕ, zero, suc, ◌+◌, ◌-◌, ◌==◌, nat_le, Bool, true, false, if◌then◌else◌, List, [], ◌∷◌, ◌++◌, length, take, drop, subst, Option, Some, None, Ok, Err}
+use Rattle.std.proofs.Common.{◌≡◌, ℕ, zero, suc, ◌+◌, ◌==◌, nat_le, Bool, true, false, if◌then◌else◌, List, [], ◌∷◌, ◌++◌, length, take, drop, subst, Option, Some, None, Ok, Err}
 use Rattle.std.specs.Prelude.{slice_get}
 use Rattle.ap_symbol.specs.Kinds.{first_word}
 use Rattle.ap_symbol.specs.Recasing.{case_of_lem, recase_lem}
@@ -19,18 +19,18 @@ use Rattle.ap_stream.specs.declared.TheConstants.{UNIT_MAX}
 use Rattle.ap_stream.specs.declared.item.Inner.{Inner}
 use Rattle.ap_stream.specs.declared.item.Inner.TheVariants as inner
 use Rattle.ap_exec.specs.declared.matched.MatchedUnit.{MatchedUnit}
-use Rattle.ap_exec.specs.declared.refusal.ExecRefusal.TheVariants.{ValueTooLong, OutputTooLong}
+use Rattle.ap_stream.specs.declared.TheConstants.{SPAN_MAX}
 use Rattle.ap_exec.specs.declared.template.Atom.{Atom}
 use Rattle.ap_exec.specs.declared.template.Atom.TheVariants.{Unit as The_unit}
 use Rattle.ap_exec.specs.declared.template.Piece.{Piece}
 use Rattle.ap_exec.specs.declared.template.Piece.TheVariants.{Atom as The_atom, Chunk}
-use Rattle.ap_exec.specs.Acting.{Outcome, outcome, body_of, still_of, action_in, action_of, shown, units_in, here_in, started}
+use Rattle.ap_exec.specs.Acting.{Outcome, outcome, body_of, definitions_of, action_in, action_of, shown, units_in, positions_in, started}
 use Rattle.ap_exec.specs.Conditions.{holds}
 use Rattle.ap_exec.specs.FillingLaws.{IsWordedAtom}
 use Rattle.ap_exec.specs.Parts.{Span, span_of, cut, side_in, word_on, word_of, word_at, part_at, linked, clip_of, case_at}
-use Rattle.ap_exec.specs.Pieces.{unit_of, units_of, compound, blank_atom, chunk_piece_of, chunk_pieces_of, tags_of, held_by, stated, cased, name_of, atom_in, gives_content, content_in, content_of, contents_of, piece_of, piece_size}
-use Rattle.ap_exec.specs.Results.{Ran, ◌>>=◌, seen}
-use Rattle.ap_exec.specs.Running.{Still, Now, sight_of, with_var, unit_set, with_place, held_at, recased_at, placed, outs, places_of, either_of, Calls, run, run_all, run_choice, body_in, body_at, called}
+use Rattle.ap_exec.specs.Pieces.{unit_of, units_of, compound, blank_atom, chunk_piece_of, chunk_pieces_of, tags_of, held_by, stated, cased, name_of, atom_in, gives_content, content_in, content_of, contents_of, piece_of, pieces_size, added}
+use Rattle.ap_exec.specs.Results.{Ran, ◌>>=◌, seen, ValueTooLong, OutputTooLong}
+use Rattle.ap_exec.specs.Running.{Definitions, RunState, sight_of, with_var, unit_set, with_place, held_at, recased_at, placed, outs, places_of, either_of, Calls, run, run_all, run_choice, body_in, body_at, macros_below}
 use Rattle.ap_exec.specs.RunningLaws.{IsWordedInner, IsWordedMatched, IsWordedOutput, RunningKeepsWords, StartingKeepsWords}
 use Rattle.ap_exec.specs.Units.{Shown, Sight, number_at, numbered, unit_at, var_at}
 use Rattle.ap_exec.specs.Values.{sized, bounded, case_said, value_of, joined_of, appended}
@@ -46,7 +46,7 @@ record IsWordedSight (sight : Sight) : Type 0 where
   units : Each IsWordedShown sight.units
   vars : Each IsWorded sight.vars
 
-record IsWordedNow (s : Now) : Type 0 where
+record IsWordedState (s : RunState) : Type 0 where
   units : Each IsWordedShown s.units
   vars : Each IsWorded s.vars
   pieces : Each IsWordedOutput s.pieces
@@ -74,15 +74,15 @@ numbered_worded us None h = tt
 numbered_worded us (Some n) h = each_get IsWordedShown us n h
 
 unit_worded : (sight : Sight) → IsWordedSight sight → (pos : ℕ) →
-    Opt IsWordedShown (unit_at sight.here sight.units pos)
-unit_worded sight g pos = numbered_worded sight.units (number_at sight.here pos) g.units
+    Opt IsWordedShown (unit_at sight.positions sight.units pos)
+unit_worded sight g pos = numbered_worded sight.units (number_at sight.positions pos) g.units
 
 part_worded : (sight : Sight) → IsWordedSight sight → (pos : ℕ) (part : ClipPart) (side : Side)
     (queue : Bool) → IsWorded (part_at sight pos part side queue)
 part_worded sight g pos part side queue =
     cut_worded (span_of sight.attributes part (word_at sight pos side queue))
     (word_at sight pos side queue)
-    (of_worded (side_in sight.form side) queue (unit_at sight.here sight.units pos)
+    (of_worded (side_in sight.form side) queue (unit_at sight.positions sight.units pos)
     (unit_worded sight g pos))
 
 linked_worded : (link : Option (List Symbol)) (part : List Symbol) → Opt IsWorded link →
@@ -247,8 +247,8 @@ module _ (sight : Sight) (g : IsWordedSight sight) where
   content_worded : (v : PlainValue) → Each IsWordedAtom (content_of sight v)
   content_worded (clip c) =
       given_worded (gives_content c.part c.link_to)
-      (content_in (unit_at sight.here sight.units c.pos))
-      (content_in_worded (unit_at sight.here sight.units c.pos) (unit_worded sight g c.pos))
+      (content_in (unit_at sight.positions sight.units c.pos))
+      (content_in_worded (unit_at sight.positions sight.units c.pos) (unit_worded sight g c.pos))
   content_worded (lit word) = tt
   content_worded (lit_tag word) = tt
   content_worded (var n) = tt
@@ -286,12 +286,12 @@ module _ (sight : Sight) (g : IsWordedSight sight) where
 
 -- what statements do
 
-sight_worded : (w : Still) (here : List (Option ℕ)) (s : Now) → IsWordedNow s →
-    IsWordedSight (sight_of w here s)
-sight_worded w here s h = record { units = h.units; vars = h.vars }
+sight_worded : (w : Definitions) (positions : List (Option ℕ)) (s : RunState) → IsWordedState s →
+    IsWordedSight (sight_of w positions s)
+sight_worded w positions s h = record { units = h.units; vars = h.vars }
 
-var_set : (n : ℕ) (word : List Symbol) (s : Now) → IsWordedNow s → IsWorded word →
-    IsWordedNow (with_var n word s)
+var_set : (n : ℕ) (word : List Symbol) (s : RunState) → IsWordedState s → IsWorded word →
+    IsWordedState (with_var n word s)
 var_set n word s h k = record {
   units = h.units;
   vars = each_set IsWorded s.vars n word h.vars k;
@@ -324,13 +324,13 @@ kept_worded : (b : Bool) (side : Side) (span : Span) (value : List Symbol) (u : 
 kept_worded true side span value u h k = k
 kept_worded false side span value u h k = replaced_worded side span value u h k
 
-written_worded : (w : Still) (c : Clip) (value : List Symbol) (u : Shown) → IsWorded value →
+written_worded : (w : Definitions) (c : Clip) (value : List Symbol) (u : Shown) → IsWorded value →
     IsWordedShown u → IsWordedShown (written w.form w.attributes c value u)
 written_worded w c value u h k =
     let span = span_of w.attributes c.part (word_on (side_in w.form c.side) c.queue u) in
     kept_worded (is_kept c.part span.count) (side_in w.form c.side) span value u h k
 
-unit_set_worded : (w : Still) (c : Clip) (value : List Symbol) (us : List Shown)
+unit_set_worded : (w : Definitions) (c : Clip) (value : List Symbol) (us : List Shown)
     (n : Option ℕ) (u : Option Shown) → IsWorded value → Each IsWordedShown us →
     Opt IsWordedShown u → Each IsWordedShown (unit_set w c value us n u)
 unit_set_worded w c value us (Some n) (Some u) h k l =
@@ -339,25 +339,25 @@ unit_set_worded w c value us (Some n) (Some u) h k l =
 unit_set_worded w c value us (Some n) None h k l = k
 unit_set_worded w c value us None u h k l = k
 
-place_set : (w : Still) (here : List (Option ℕ)) (p : Place) (value : List Symbol) (s : Now) →
-    IsWordedNow s → IsWorded value → IsWordedNow (with_place w here p value s)
-place_set w here (place.Clip c) value s h k = record {
-  units = unit_set_worded w c value s.units (number_at here c.pos)
-      (numbered s.units (number_at here c.pos)) k h.units
-      (numbered_worded s.units (number_at here c.pos) h.units);
+place_set : (w : Definitions) (positions : List (Option ℕ)) (p : Place) (value : List Symbol) (s :
+    RunState) →
+    IsWordedState s → IsWorded value → IsWordedState (with_place w positions p value s)
+place_set w positions (place.Clip c) value s h k = record {
+  units = unit_set_worded w c value s.units (number_at positions c.pos)
+      (numbered s.units (number_at positions c.pos)) k h.units
+      (numbered_worded s.units (number_at positions c.pos) h.units);
   vars = h.vars;
   pieces = h.pieces;
 }
-place_set w here (place.Var v) value s h k = var_set v.n value s h k
+place_set w positions (place.Var v) value s h k = var_set v.n value s h k
 
 at_worded : (sight : Sight) → IsWordedSight sight → (p : Place) → IsWorded (held_at sight p)
 at_worded sight g (place.Clip c) = part_worded sight g c.pos c.part c.side c.queue
 at_worded sight g (place.Var v) = var_worded sight.vars v.n g.vars
 
-placed_by : (b : Bool) (p : Piece) (s : Now) → IsWordedNow s → IsWordedOutput p
-    → Then IsWordedNow (if b
-    then Ok (record s { pieces = s.pieces ++ p ∷ []; room = s.room - piece_size p })
-    else Err OutputTooLong)
+placed_by : (b : Bool) (p : Piece) (s : RunState) → IsWordedState s → IsWordedOutput p
+    → Then IsWordedState ((if b then Ok (s.pieces ++ p ∷ []) else Err OutputTooLong)
+    >>= λ pieces. Ok (record s { pieces = pieces }))
 placed_by true p s h k = record {
   units = h.units;
   vars = h.vars;
@@ -365,97 +365,103 @@ placed_by true p s h k = record {
 }
 placed_by false p s h k = tt
 
-placed_worded : (p : Piece) (s : Now) → IsWordedNow s → IsWordedOutput p →
-    Then IsWordedNow (placed p s)
-unfolding placed
-placed_worded p s h k = placed_by (nat_le (piece_size p) s.room) p s h k
+placed_worded : (p : Piece) (s : RunState) → IsWordedState s → IsWordedOutput p →
+    Then IsWordedState (placed p s)
+unfolding added
+placed_worded p s h k = placed_by (nat_le (pieces_size (s.pieces ++ p ∷ [])) SPAN_MAX) p s h k
 
-outs_worded : (w : Still) (here : List (Option ℕ)) (ps : List PlainPiece) →
-    Each IsWordedPiece ps → (s : Now) → IsWordedNow s → Then IsWordedNow (outs w here ps s)
-outs_worded w here [] h s k = k
-outs_worded w here (p ∷ ps) h s k =
-    then_next IsWordedOutput IsWordedNow (piece_of (sight_of w here s) p)
-    (λ x. placed x s >>= outs w here ps)
-    (piece_worded (sight_of w here s) (sight_worded w here s k) p h.0)
-    (λ x l. then_next IsWordedNow IsWordedNow (placed x s) (outs w here ps)
-    (placed_worded x s k l) (outs_worded w here ps h.1))
+outs_worded : (w : Definitions) (positions : List (Option ℕ)) (ps : List PlainPiece) →
+    Each IsWordedPiece ps → (s : RunState) → IsWordedState s → Then IsWordedState (outs w positions
+    ps s)
+outs_worded w positions [] h s k = k
+outs_worded w positions (p ∷ ps) h s k =
+    then_next IsWordedOutput IsWordedState (piece_of (sight_of w positions s) p)
+    (λ x. placed x s >>= outs w positions ps)
+    (piece_worded (sight_of w positions s) (sight_worded w positions s k) p h.0)
+    (λ x l. then_next IsWordedState IsWordedState (placed x s) (outs w positions ps)
+    (placed_worded x s k l) (outs_worded w positions ps h.1))
 
-either : (b : Bool) (first second : Ran Now) → Then IsWordedNow first →
-    Then IsWordedNow second → Then IsWordedNow (either_of b first second)
+either : (b : Bool) (first second : Ran RunState) → Then IsWordedState first →
+    Then IsWordedState second → Then IsWordedState (either_of b first second)
 either true first second h k = h
 either false first second h k = k
 
-chosen : (b : Bool) (first second : Ran Now) → Then IsWordedNow first →
-    Then IsWordedNow second → Then IsWordedNow (if b then first else second)
+chosen : (b : Bool) (first second : Ran RunState) → Then IsWordedState first →
+    Then IsWordedState second → Then IsWordedState (if b then first else second)
 chosen true first second h k = h
 chosen false first second h k = k
 
 -- what macros do keeps words
 abbrev CallsKeep : Calls → Type 0
-CallsKeep calls = (k : ℕ) (here : List (Option ℕ)) (s : Now) → IsWordedNow s →
-    Then IsWordedNow (calls k here s)
+CallsKeep calls = (k : ℕ) (positions : List (Option ℕ)) (s : RunState) → IsWordedState s →
+    Then IsWordedState (calls k positions s)
 
 mutual
-  run_worded : (w : Still) (calls : Calls) → CallsKeep calls → (here : List (Option ℕ))
-      (x : PlainStatement) → IsWordedStatement x → (s : Now) → IsWordedNow s →
-      Then IsWordedNow (run w calls here x s)
-  run_worded w calls c here (choose whens otherwise) h s k =
-      choice_worded w calls c here whens h.0 (run_all w calls here otherwise)
-      (all_worded w calls c here otherwise h.1) s k
-  run_worded w calls c here (assign p v) h s k =
-      then_next IsWorded IsWordedNow (value_of (sight_of w here s) v)
-      (λ x. Ok (with_place w here p x s))
-      (value_worded (sight_of w here s) (sight_worded w here s k) v h)
-      (λ x l. place_set w here p x s k l)
-  run_worded w calls c here (append n vs) h s k =
-      then_next IsWorded IsWordedNow (appended (sight_of w here s) n (values_of vs))
+  run_worded : (w : Definitions) (calls : Calls) → CallsKeep calls → (positions : List (Option ℕ))
+      (x : PlainStatement) → IsWordedStatement x → (s : RunState) → IsWordedState s →
+      Then IsWordedState (run w calls positions x s)
+  run_worded w calls c positions (choose whens otherwise) h s k =
+      choice_worded w calls c positions whens h.0 (run_all w calls positions otherwise)
+      (all_worded w calls c positions otherwise h.1) s k
+  run_worded w calls c positions (assign p v) h s k =
+      then_next IsWorded IsWordedState (value_of (sight_of w positions s) v)
+      (λ x. Ok (with_place w positions p x s))
+      (value_worded (sight_of w positions s) (sight_worded w positions s k) v h)
+      (λ x l. place_set w positions p x s k l)
+  run_worded w calls c positions (append n vs) h s k =
+      then_next IsWorded IsWordedState (appended (sight_of w positions s) n (values_of vs))
       (λ x. Ok (with_var n x s))
-      (appended_worded (sight_of w here s) (sight_worded w here s k) n vs h)
+      (appended_worded (sight_of w positions s) (sight_worded w positions s k) n vs h)
       (λ x l. var_set n x s k l)
-  run_worded w calls c here (out ps) h s k = outs_worded w here ps h s k
-  run_worded w calls c here (modify_case p v) h s k =
-      then_next IsWorded IsWordedNow (value_of (sight_of w here s) v)
-      (λ x. Ok (with_place w here p (recased_at (sight_of w here s) p x) s))
-      (value_worded (sight_of w here s) (sight_worded w here s k) v h)
-      (λ x l. place_set w here p (recased_at (sight_of w here s) p x) s k
-      (recased_worded (case_of_lem x) (held_at (sight_of w here s) p)
-      (at_worded (sight_of w here s) (sight_worded w here s k) p)))
-  run_worded w calls c here (call_macro n params) h s k = c n (places_of here params) s k
+  run_worded w calls c positions (out ps) h s k = outs_worded w positions ps h s k
+  run_worded w calls c positions (modify_case p v) h s k =
+      then_next IsWorded IsWordedState (value_of (sight_of w positions s) v)
+      (λ x. Ok (with_place w positions p (recased_at (sight_of w positions s) p x) s))
+      (value_worded (sight_of w positions s) (sight_worded w positions s k) v h)
+      (λ x l. place_set w positions p (recased_at (sight_of w positions s) p x) s k
+      (recased_worded (case_of_lem x) (held_at (sight_of w positions s) p)
+      (at_worded (sight_of w positions s) (sight_worded w positions s k) p)))
+  run_worded w calls c positions (call_macro n params) h s k = c n (places_of positions params) s k
 
-  all_worded : (w : Still) (calls : Calls) → CallsKeep calls → (here : List (Option ℕ))
-      (xs : PlainStatements) → AreWordedStatements xs → (s : Now) → IsWordedNow s →
-      Then IsWordedNow (run_all w calls here xs s)
-  all_worded w calls c here no_statements h s k = k
-  all_worded w calls c here (then_statement x more) h s k =
-      then_next IsWordedNow IsWordedNow (run w calls here x s) (run_all w calls here more)
-      (run_worded w calls c here x h.0 s k) (all_worded w calls c here more h.1)
+  all_worded : (w : Definitions) (calls : Calls) → CallsKeep calls → (positions : List (Option ℕ))
+      (xs : PlainStatements) → AreWordedStatements xs → (s : RunState) → IsWordedState s →
+      Then IsWordedState (run_all w calls positions xs s)
+  all_worded w calls c positions no_statements h s k = k
+  all_worded w calls c positions (then_statement x more) h s k =
+      then_next IsWordedState IsWordedState (run w calls positions x s) (run_all w calls positions
+      more)
+      (run_worded w calls c positions x h.0 s k) (all_worded w calls c positions more h.1)
 
-  choice_worded : (w : Still) (calls : Calls) → CallsKeep calls → (here : List (Option ℕ))
-      (ws : PlainWhens) → AreWordedWhens ws → (last : Now → Ran Now) →
-      ((s : Now) → IsWordedNow s → Then IsWordedNow (last s)) → (s : Now) → IsWordedNow s →
-      Then IsWordedNow (run_choice w calls here ws last s)
-  choice_worded w calls c here no_whens h last l s k = l s k
-  choice_worded w calls c here (then_when test statements more) h last l s k =
-      then_any IsWordedNow (holds (sight_of w here s) test)
-      (λ b. either_of b (run_all w calls here statements s)
-      (run_choice w calls here more last s))
-      (λ b. either b (run_all w calls here statements s) (run_choice w calls here more last s)
-      (all_worded w calls c here statements h.0 s k)
-      (choice_worded w calls c here more h.1 last l s k))
+  choice_worded : (w : Definitions) (calls : Calls) → CallsKeep calls →
+      (positions : List (Option ℕ))
+      (ws : PlainWhens) → AreWordedWhens ws → (last : RunState → Ran RunState) →
+      ((s : RunState) → IsWordedState s → Then IsWordedState (last s)) → (s : RunState) →
+      IsWordedState s →
+      Then IsWordedState (run_choice w calls positions ws last s)
+  choice_worded w calls c positions no_whens h last l s k = l s k
+  choice_worded w calls c positions (then_when test statements more) h last l s k =
+      then_any IsWordedState (holds (sight_of w positions s) test)
+      (λ b. either_of b (run_all w calls positions statements s)
+      (run_choice w calls positions more last s))
+      (λ b. either b (run_all w calls positions statements s) (run_choice w calls positions more
+      last s)
+      (all_worded w calls c positions statements h.0 s k)
+      (choice_worded w calls c positions more h.1 last l s k))
 
 body_worded : (o : Option PlainStatements) → Opt AreWordedStatements o →
     AreWordedStatements (body_in o)
 body_worded None h = tt
 body_worded (Some body) h = h
 
-called_worded : (w : Still) → Each AreWordedStatements w.bodies → (macros : ℕ) →
-    CallsKeep (called w macros)
-called_worded w h zero n here s k = k
-called_worded w h (suc m) n here s k =
-    chosen (n == m) (run_all w (called w m) here (body_at w m) s) (called w m n here s)
-    (all_worded w (called w m) (called_worded w h m) here (body_at w m)
+macros_worded : (w : Definitions) → Each AreWordedStatements w.bodies → (macros : ℕ) →
+    CallsKeep (macros_below w macros)
+macros_worded w h zero n positions s k = k
+macros_worded w h (suc m) n positions s k =
+    chosen (n == m) (run_all w (macros_below w m) positions (body_at w m) s) (macros_below w m n
+    positions s)
+    (all_worded w (macros_below w m) (macros_worded w h m) positions (body_at w m)
     (body_worded (slice_get w.bodies m) (each_get AreWordedStatements w.bodies m h)) s k)
-    (called_worded w h m n here s k)
+    (macros_worded w h m n positions s k)
 
 action_worded : (o : Option PlainRule) → Opt IsWordedRule o → AreWordedStatements (action_in o)
 action_worded None h = tt
@@ -476,7 +482,7 @@ units_worded (Some name) us h k = (
   each_map IsWordedMatched IsWordedShown shown shown_worded us k,
 )
 
-ends_worded : (r : Ran Now) (o : Outcome) → Then IsWordedNow r → seen outcome r ≡ Ok o →
+ends_worded : (r : Ran RunState) (o : Outcome) → Then IsWordedState r → seen outcome r ≡ Ok o →
     Each IsWordedOutput o.pieces × Each IsWorded o.vars
 ends_worded (Ok t) o h e =
     let same : outcome t ≡ o = cc in
@@ -486,13 +492,14 @@ ends_worded (Err x) o h e = cc
 
 pub running_keeps_words : RunningKeepsWords
 running_keeps_words r n m vars o worded h k e =
-    let w = still_of r in
+    let w = definitions_of r in
     let bodies = each_map IsWordedMacro AreWordedStatements body_of (λ x l. l) r.macros
     worded.macros in
-    ends_worded (run_all w (called w (length r.macros)) (here_in m.chunk (length m.units))
+    ends_worded (run_all w (macros_below w (length r.macros)) (positions_in m.chunk (length
+    m.units))
     (action_of r n) (started m vars)) o
-    (all_worded w (called w (length r.macros)) (called_worded w bodies (length r.macros))
-    (here_in m.chunk (length m.units)) (action_of r n)
+    (all_worded w (macros_below w (length r.macros)) (macros_worded w bodies (length r.macros))
+    (positions_in m.chunk (length m.units)) (action_of r n)
     (action_worded (slice_get r.rules n) (each_get IsWordedRule r.rules n worded.rules))
     (started m vars)
     (record { units = units_worded m.chunk m.units h.chunk h.units; vars = k; pieces = tt })) e

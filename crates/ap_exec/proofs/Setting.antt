@@ -6,7 +6,7 @@ use Rattle.ap_rules.specs.Plain.{PlainValue, assign}
 use Rattle.ap_rules.specs.declared.statement.Place.{Place}
 use Rattle.ap_exec.specs.Comparing.{same_words}
 use Rattle.ap_exec.specs.Results.{◌>>=◌}
-use Rattle.ap_exec.specs.Running.{Still, Now, Calls, run, sight_of, with_place, with_var}
+use Rattle.ap_exec.specs.Running.{Definitions, RunState, Calls, run, sight_of, with_place, with_var}
 use Rattle.ap_exec.specs.Setting.{IsHeld}
 use Rattle.ap_exec.specs.Units.{Sight, var_at}
 use Rattle.ap_exec.specs.Values.{value_of}
@@ -24,8 +24,9 @@ pub held_words : (sight : Sight) (n : ℕ) (value : PlainValue) (word held : Lis
 held_words sight n value word held gives is same =
     gives ∙ ap (λ (z : List Symbol). Ok z) (same_to false word held same ∙ is)
 
-pub held_stays : (w : Still) (calls : Calls) (here : List _) (p : Place) (v : PlainValue) (s : Now) →
-    IsHeld (sight_of w here s) p v → run w calls here (assign p v) s ≡ Ok s
-held_stays w calls here p v s h =
+pub held_stays : (w : Definitions) (calls : Calls) (positions : List _) (p : Place) (v : PlainValue)
+    (s : RunState) →
+    IsHeld (sight_of w positions s) p v → run w calls positions (assign p v) s ≡ Ok s
+held_stays w calls positions p v s h =
     rw (h.is, h.gives) (ap (λ (vars : List (List Symbol)). Ok (record s { vars = vars }))
     (set_itself s.vars h.var.n))

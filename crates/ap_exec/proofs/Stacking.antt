@@ -13,8 +13,8 @@ use Rattle.ap_exec.specs.Choosing.{chosen, taken}
 use Rattle.ap_exec.specs.Conditions.{holds}
 use Rattle.ap_exec.specs.Costs.{cost_all, cost_one, cost_whens, macro_cost}
 use Rattle.ap_exec.specs.Results.{Ran, ◌>>=◌, Fails, Gives}
-use Rattle.ap_exec.specs.Running.{Still, Now, Calls, run, run_all, run_choice, called, body_at, sight_of, either_of}
-use Rattle.ap_exec.specs.Stacks.{between, here_of, body_of, run_rest, unwound, left, rest_first, one_first, AreNested, Leads, frames_cost, rest_cost}
+use Rattle.ap_exec.specs.Running.{Definitions, RunState, Calls, run, run_all, run_choice, macros_below, body_at, sight_of, either_of}
+use Rattle.ap_exec.specs.Stacks.{between, positions_within, body_of, run_rest, unwound, left, rest_first, one_first, AreNested, Leads, frames_cost, rest_cost}
 use Rattle.ap_exec.specs.Units.{Sight, number_at}
 use Rattle.ap_exec.specs.declared.refusal.ExecRefusal.{ExecRefusal}
 use Rattle.ap_exec.specs.declared.refusal.ExecRefusal.TheVariants.{ValueTooLong, OutputTooLong, Memory}
@@ -52,12 +52,13 @@ fails_then ValueTooLong r f h = ap (λ (x : Ran _). x >>= f) h
 fails_then OutputTooLong r f h = ap (λ (x : Ran _). x >>= f) h
 
 -- a statement that leaves the stack as it is
-pub leads_given : {Y : Type 0} (r : Result Y ExecRefusal) (ran : Ran Now) (after : Now) (k : Now →
-    Ran Now) → Gives (λ _. after) r ran → Leads r (ran >>= k) (k after)
-leads_given (Ok y) ran after k h = sym (ap (λ (x : Ran Now). x >>= k) h)
+pub leads_given : {Y : Type 0} (r : Result Y ExecRefusal) (ran : Ran RunState) (after : RunState) (k
+    : RunState →
+    Ran RunState) → Gives (λ _. after) r ran → Leads r (ran >>= k) (k after)
+leads_given (Ok y) ran after k h = sym (ap (λ (x : Ran RunState). x >>= k) h)
 leads_given (Err e) ran after k h = fails_then e ran k h
 
-pub leads_from : {Y : Type 0} (r : Result Y ExecRefusal) (first before after : Ran Now) →
+pub leads_from : {Y : Type 0} (r : Result Y ExecRefusal) (first before after : Ran RunState) →
     before ≡ first → Leads r before after → Leads r first after
 leads_from (Ok y) first before after e h = h ∙ e
 leads_from (Err Memory) first before after e h = tt
@@ -65,13 +66,13 @@ leads_from (Err ValueTooLong) first before after e h = sym e ∙ h
 leads_from (Err OutputTooLong) first before after e h = sym e ∙ h
 
 -- the last frame is run first
-pub unwound_more : (w : Still) (positions : List (Option ℕ)) (frames : List Frame)
-    (f : Frame) (s : Now)
+pub unwound_more : (w : Definitions) (positions : List (Option ℕ)) (frames : List Frame)
+    (f : Frame) (s : RunState)
     → unwound w positions (frames ++ f ∷ []) s
     ≡ run_rest w positions f.scope f.rest.now s >>= unwound w positions frames
 unwound_more w positions [] f s = sym (then_ok (run_rest w positions f.scope f.rest.now s))
 unwound_more w positions (g ∷ frames) f s =
-    ap (λ (r : Ran Now). r >>= run_rest w positions g.scope g.rest.now)
+    ap (λ (r : Ran RunState). r >>= run_rest w positions g.scope g.rest.now)
     (unwound_more w positions frames f s)
     ∙ then_then (run_rest w positions f.scope f.rest.now s) (unwound w positions frames)
     (run_rest w positions g.scope g.rest.now)
@@ -143,19 +144,21 @@ between_new n xs more within =
     ∙ ap (take (length (take n xs ++ more) - n)) (drop-append_seam (take n xs) more)
     ∙ ap (λ (k : ℕ). take k more) count ∙ take_all more
 
-pub unwound_same : (w : Still) (n : ℕ) (xs more : List (Option ℕ)) (low : ℕ) (frames : List Frame)
-    (s : Now) → n ≤ length xs → AreNested low frames n
+pub unwound_same : (w : Definitions) (n : ℕ) (xs more : List (Option ℕ)) (low : ℕ) (frames : List
+    Frame)
+    (s : RunState) → n ≤ length xs → AreNested low frames n
     → unwound w (take n xs ++ more) frames s ≡ unwound w xs frames s
 unwound_same w n xs more low [] s within h = refl
 unwound_same w n xs more low (f ∷ frames) s within h =
-    ap (λ (here : List (Option ℕ)). unwound w (take n xs ++ more) frames s >>= run_all w
-    (called w f.scope.visible) here (body_of f.rest.now))
+    ap (λ (positions : List (Option ℕ)). unwound w (take n xs ++ more) frames s >>= run_all w
+    (macros_below w f.scope.visible) positions (body_of f.rest.now))
     (between_same f.scope.from f.scope.to n xs more h.1 (nested_low f.scope.to frames n h.2) within)
-    ∙ ap (λ (r : Ran Now). r >>= run_rest w xs f.scope f.rest.now)
+    ∙ ap (λ (r : Ran RunState). r >>= run_rest w xs f.scope f.rest.now)
     (unwound_same w n xs more f.scope.to frames s within h.2)
 
 -- costs
-pub cost_more : (w : Still) (frames : List Frame) (f : Frame) → frames_cost w (frames ++ f ∷ [])
+pub cost_more : (w : Definitions) (frames : List Frame) (f : Frame) →
+    frames_cost w (frames ++ f ∷ [])
     ≡ rest_cost w f.scope f.rest.now + 1 + frames_cost w frames
 cost_more w [] f = refl
 cost_more w (g ∷ frames) f = omega (arith, cost_more w frames f)
@@ -170,20 +173,22 @@ same_if k n first second other same differ =
           rw e (differ (λ h. let f = (Decides-eqb k n).1 h in cc))
     ]
 
-pub called_past : (w : Still) (n k : ℕ) (here : List (Option ℕ)) (s : Now) → n ≤ k →
-    called w n k here s ≡ Ok s
-called_past w zero k here s h = refl
-called_past w (suc n) k here s h =
-    same_if k n _ _ _ (λ e. absurd (omega arith)) (λ ne. called_past w n k here s (omega arith))
+pub macros_past : (w : Definitions) (n k : ℕ) (positions : List (Option ℕ)) (s : RunState) → n ≤ k →
+    macros_below w n k positions s ≡ Ok s
+macros_past w zero k positions s h = refl
+macros_past w (suc n) k positions s h =
+    same_if k n _ _ _ (λ e. absurd (omega arith)) (λ ne. macros_past w n k positions s (omega
+    arith))
 
-pub called_at : (w : Still) (n k : ℕ) (here : List (Option ℕ)) (s : Now) → k < n →
-    called w n k here s ≡ run_all w (called w k) here (body_at w k) s
-called_at w zero k here s h = absurd (omega arith)
-called_at w (suc n) k here s h =
-    same_if k n _ _ _ (λ e. ap (λ (m : ℕ). run_all w (called w m) here (body_at w m) s) (sym e))
-    (λ ne. called_at w n k here s (omega arith))
+pub macros_at : (w : Definitions) (n k : ℕ) (positions : List (Option ℕ)) (s : RunState) → k < n →
+    macros_below w n k positions s ≡ run_all w (macros_below w k) positions (body_at w k) s
+macros_at w zero k positions s h = absurd (omega arith)
+macros_at w (suc n) k positions s h =
+    same_if k n _ _ _ (λ e. ap (λ (m : ℕ). run_all w (macros_below w m) positions (body_at w m) s)
+    (sym e))
+    (λ ne. macros_at w n k positions s (omega arith))
 
-pub macro_cost_at : (w : Still) (n k : ℕ) → k < n →
+pub macro_cost_at : (w : Definitions) (n k : ℕ) → k < n →
     macro_cost w n k ≡ cost_all (macro_cost w k) (body_at w k)
 macro_cost_at w zero k h = absurd (omega arith)
 macro_cost_at w (suc n) k h =
@@ -191,34 +196,37 @@ macro_cost_at w (suc n) k h =
     (λ ne. macro_cost_at w n k (omega arith))
 
 -- choices
-chosen_one : (w : Still) (calls : Calls) (here : List (Option ℕ)) (s : Now) (b : Bool)
-    (statements : PlainStatements) (later : Ran PlainStatements) (rest : Ran Now)
-    → (later >>= λ ss. run_all w calls here ss s) ≡ rest →
-    (taken b statements later >>= λ ss. run_all w calls here ss s)
-    ≡ either_of b (run_all w calls here statements s) rest
-chosen_one w calls here s true first later rest h = refl
-chosen_one w calls here s false first later rest h = h
+chosen_one : (w : Definitions) (calls : Calls) (positions : List (Option ℕ)) (s : RunState) (b :
+    Bool)
+    (statements : PlainStatements) (later : Ran PlainStatements) (rest : Ran RunState)
+    → (later >>= λ ss. run_all w calls positions ss s) ≡ rest →
+    (taken b statements later >>= λ ss. run_all w calls positions ss s)
+    ≡ either_of b (run_all w calls positions statements s) rest
+chosen_one w calls positions s true first later rest h = refl
+chosen_one w calls positions s false first later rest h = h
 
-pub choice_runs : (w : Still) (calls : Calls) (here : List (Option ℕ)) (whens : PlainWhens)
-    (otherwise : PlainStatements) (s : Now)
-    → run_choice w calls here whens (run_all w calls here otherwise) s
-    ≡ (chosen (sight_of w here s) whens otherwise >>= λ ss. run_all w calls here ss s)
-choice_runs w calls here no_whens otherwise s = refl
-choice_runs w calls here (then_when test statements more) otherwise s =
-    sym (then_then (holds (sight_of w here s) test)
-    (λ b. taken b statements (chosen (sight_of w here s) more otherwise))
-    (λ ss. run_all w calls here ss s)
-    ∙ then_same (holds (sight_of w here s) test)
-    (λ b. taken b statements (chosen (sight_of w here s) more otherwise) >>= λ ss. run_all w
-    calls here ss s)
-    (λ b. either_of b (run_all w calls here statements s)
-    (run_choice w calls here more (run_all w calls here otherwise) s))
-    (λ b. chosen_one w calls here s b statements (chosen (sight_of w here s) more otherwise)
-    (run_choice w calls here more (run_all w calls here otherwise) s)
-    (sym (choice_runs w calls here more otherwise s))))
+pub choice_runs : (w : Definitions) (calls : Calls) (positions : List (Option ℕ)) (whens :
+    PlainWhens)
+    (otherwise : PlainStatements) (s : RunState)
+    → run_choice w calls positions whens (run_all w calls positions otherwise) s
+    ≡ (chosen (sight_of w positions s) whens otherwise >>= λ ss. run_all w calls positions ss s)
+choice_runs w calls positions no_whens otherwise s = refl
+choice_runs w calls positions (then_when test statements more) otherwise s =
+    sym (then_then (holds (sight_of w positions s) test)
+    (λ b. taken b statements (chosen (sight_of w positions s) more otherwise))
+    (λ ss. run_all w calls positions ss s)
+    ∙ then_same (holds (sight_of w positions s) test)
+    (λ b. taken b statements (chosen (sight_of w positions s) more otherwise) >>= λ ss. run_all w
+    calls positions ss s)
+    (λ b. either_of b (run_all w calls positions statements s)
+    (run_choice w calls positions more (run_all w calls positions otherwise) s))
+    (λ b. chosen_one w calls positions s b statements (chosen (sight_of w positions s) more
+    otherwise)
+    (run_choice w calls positions more (run_all w calls positions otherwise) s)
+    (sym (choice_runs w calls positions more otherwise s))))
 
 -- a macro's positions stand behind its caller's
-module _ (w : Still) (xs ys places : List (Option ℕ)) (frames : List Frame) (scope : Scope)
+module _ (w : Definitions) (xs ys places : List (Option ℕ)) (frames : List Frame) (scope : Scope)
     (n len : ℕ) (body : List Statement)
     (within : scope.to ≤ length xs) (below : AreNested 0 frames scope.to)
     (behind : ys ≡ take scope.to xs ++ places) (count : len ≡ length ys) where
@@ -234,23 +242,26 @@ module _ (w : Still) (xs ys places : List (Option ℕ)) (frames : List Frame) (s
     length_take scope.to xs within,
   )
 
-  inner_here : here_of ys inner ≡ places
+  inner_here : positions_within ys inner ≡ places
   inner_here = ap (λ (k : ℕ). between scope.to k ys) count
       ∙ ap (λ (zs : List (Option ℕ)). between scope.to (length zs) zs) behind
       ∙ between_new scope.to xs places within
 
   module _ (seen : n < scope.visible) (is : body_of body ≡ body_at w n) where
-    inner_run : (s : Now) → run_rest w ys inner body s ≡ called w scope.visible n places s
+    inner_run : (s : RunState) → run_rest w ys inner body s ≡ macros_below w scope.visible n places
+        s
     inner_run s =
-        ap (λ (here : List (Option ℕ)). run_all w (called w n) here (body_of body) s) inner_here
-        ∙ ap (λ (b : PlainStatements). run_all w (called w n) places b s) is
-        ∙ sym (called_at w scope.visible n places s seen)
+        ap (λ (positions : List (Option ℕ)). run_all w (macros_below w n) positions (body_of body)
+        s) inner_here
+        ∙ ap (λ (b : PlainStatements). run_all w (macros_below w n) places b s) is
+        ∙ sym (macros_at w scope.visible n places s seen)
 
-    pub call_leads : (s : Now) → (run_rest w ys inner body s >>= unwound w ys frames)
-        ≡ (called w scope.visible n places s >>= unwound w xs frames)
+    pub call_leads : (s : RunState) → (run_rest w ys inner body s >>= unwound w ys frames)
+        ≡ (macros_below w scope.visible n places s >>= unwound w xs frames)
     call_leads s =
-        ap (λ (r : Ran Now). r >>= unwound w ys frames) (inner_run s)
-        ∙ then_same (called w scope.visible n places s) (unwound w ys frames) (unwound w xs frames)
+        ap (λ (r : Ran RunState). r >>= unwound w ys frames) (inner_run s)
+        ∙ then_same (macros_below w scope.visible n places s) (unwound w ys frames) (unwound w xs
+        frames)
         (λ x. ap (λ (zs : List (Option ℕ)). unwound w zs frames x) behind
         ∙ unwound_same w scope.to xs places 0 frames x within below)
 
@@ -286,32 +297,34 @@ choice_costs calls sight (then_when test first more) otherwise ss e =
 
 -- a choice
 
-choose_runs : (w : Still) (calls : Calls) (here : List (Option ℕ)) (s : Now) (held : Chosen)
-    → run w calls here (plain_choose held) s
-    ≡ (chosen (sight_of w here s) (whens_in held) (others_in held) >>= λ ss. run_all w
-    calls here ss s)
-choose_runs w calls here s held =
-    ap (λ (x : PlainStatement). run w calls here x s) (plain-Choose held)
-    ∙ choice_runs w calls here (whens_in held) (others_in held) s
+choose_runs : (w : Definitions) (calls : Calls) (positions : List (Option ℕ)) (s : RunState) (held :
+    Chosen)
+    → run w calls positions (plain_choose held) s
+    ≡ (chosen (sight_of w positions s) (whens_in held) (others_in held) >>= λ ss. run_all w
+    calls positions ss s)
+choose_runs w calls positions s held =
+    ap (λ (x : PlainStatement). run w calls positions x s) (plain-Choose held)
+    ∙ choice_runs w calls positions (whens_in held) (others_in held) s
 
-module _ (w : Still) (calls : Calls) (here : List (Option ℕ)) (s : Now) (held : Chosen) (k : Now →
-    Ran Now) (given : Ran PlainStatements)
-    (is : given ≡ chosen (sight_of w here s) (whens_in held) (others_in held)) where
-  runs_given : (run w calls here (plain_choose held) s >>= k)
-      ≡ ((given >>= λ ss. run_all w calls here ss s) >>= k)
-  runs_given = ap (λ (r : Ran Now). r >>= k) (choose_runs w calls here s held
-      ∙ ap (λ (g : Ran PlainStatements). g >>= λ ss. run_all w calls here ss s) (sym is))
+module _ (w : Definitions) (calls : Calls) (positions : List (Option ℕ)) (s : RunState) (held :
+    Chosen) (k : RunState →
+    Ran RunState) (given : Ran PlainStatements)
+    (is : given ≡ chosen (sight_of w positions s) (whens_in held) (others_in held)) where
+  runs_given : (run w calls positions (plain_choose held) s >>= k)
+      ≡ ((given >>= λ ss. run_all w calls positions ss s) >>= k)
+  runs_given = ap (λ (r : Ran RunState). r >>= k) (choose_runs w calls positions s held
+      ∙ ap (λ (g : Ran PlainStatements). g >>= λ ss. run_all w calls positions ss s) (sym is))
 
   pub choose_fails : (e : ExecRefusal) → Fails e given →
-      Fails e (run w calls here (plain_choose held) s >>= k)
-  choose_fails e h = subst (λ (r : Ran Now). Fails e r) (sym runs_given)
-      (fails_then e (given >>= λ ss. run_all w calls here ss s) k
-      (fails_then e given (λ ss. run_all w calls here ss s) h))
+      Fails e (run w calls positions (plain_choose held) s >>= k)
+  choose_fails e h = subst (λ (r : Ran RunState). Fails e r) (sym runs_given)
+      (fails_then e (given >>= λ ss. run_all w calls positions ss s) k
+      (fails_then e given (λ ss. run_all w calls positions ss s) h))
 
-  pub choose_leads : (ss : PlainStatements) → given ≡ Ok ss → (run_all w calls here ss s >>= k)
-      ≡ (run w calls here (plain_choose held) s >>= k)
+  pub choose_leads : (ss : PlainStatements) → given ≡ Ok ss → (run_all w calls positions ss s >>= k)
+      ≡ (run w calls positions (plain_choose held) s >>= k)
   choose_leads ss h = sym (runs_given
-      ∙ ap (λ (g : Ran PlainStatements). (g >>= λ x. run_all w calls here x s) >>= k) h)
+      ∙ ap (λ (g : Ran PlainStatements). (g >>= λ x. run_all w calls positions x s) >>= k) h)
 
 pub choose_costs : (calls : ℕ → ℕ) (sight : Sight) (held : Chosen) (given : Ran PlainStatements)
     (ss : PlainStatements)
@@ -323,18 +336,19 @@ choose_costs calls sight held given ss is h =
     omega (arith, all, most)
 
 -- the first statement of a body
-pub first_leads : (w : Still) (old mid : Stack) (scope : Scope) (x : Statement)
-    (more rest : List Statement) (s : Now)
+pub first_leads : (w : Definitions) (old mid : Stack) (scope : Scope) (x : Statement)
+    (more rest : List Statement) (s : RunState)
     → rest ≡ x ∷ more → mid.positions ≡ old.positions →
-    ((t : Now) → left w mid t ≡ rest_first w old scope more t)
+    ((t : RunState) → left w mid t ≡ rest_first w old scope more t)
     → one_first w mid scope (plain_statement x) s ≡ rest_first w old scope rest s
 first_leads w old mid scope x more rest s is same mids =
-    let here : here_of mid.positions.items scope ≡ here_of old.positions.items scope =
-    ap (λ (ps : Vec (Option ℕ) Global). here_of ps.items scope) same in
-    let first = run w (called w scope.visible) (here_of old.positions.items scope)
+    let positions : positions_within mid.positions.items scope ≡ positions_within
+    old.positions.items scope =
+    ap (λ (ps : Vec (Option ℕ) Global). positions_within ps.items scope) same in
+    let first = run w (macros_below w scope.visible) (positions_within old.positions.items scope)
     (plain_statement x) s in
-    ap (λ (h : List (Option ℕ)). run w (called w scope.visible) h (plain_statement x) s >>=
-    left w mid) here
+    ap (λ (h : List (Option ℕ)). run w (macros_below w scope.visible) h (plain_statement x) s >>=
+    left w mid) positions
     ∙ then_same first (left w mid) (rest_first w old scope more) mids
     ∙ sym (then_then first (run_rest w old.positions.items scope more) (left w old))
     ∙ ap (λ (ss : List Statement). rest_first w old scope ss s) (sym is)
@@ -354,9 +368,9 @@ pub place_more : (from to : ℕ) (old xs ys : List (Option ℕ)) (params : List 
     ∷ map (number_at (between from to old)) (take (i + 1) params))
 place_more from to old xs ys params i p unit order within below so_far is item more =
     let f = number_at (between from to old) in
-    let here : between from to xs ≡ between from to old = ap (between from to) so_far
+    let positions : between from to xs ≡ between from to old = ap (between from to) so_far
     ∙ between_same from to to old (f 0 ∷ map f (take i params)) order (omega arith) within in
-    let new : unit ≡ f p = is ∙ ap (λ (h : List (Option ℕ)). number_at h p) here in
+    let new : unit ≡ f p = is ∙ ap (λ (h : List (Option ℕ)). number_at h p) positions in
     let longer : map f (take (i + 1) params) ≡ map f (take i params) ++ f p ∷ [] =
     map_more f params i 0 below
     ∙ ap (λ (q : ℕ). map f (take i params) ++ f q ∷ []) (sym item) in
@@ -371,19 +385,22 @@ all_between : (n : ℕ) (ps : List (Option ℕ)) → n ≡ length ps → between
 all_between n ps h = let size : n - 0 ≡ length ps = omega (arith, h) in
     ap (λ (k : ℕ). take k ps) size ∙ take_all ps
 
-pub start_runs : (w : Still) (stack : Stack) (len visible : ℕ) (rest : List Statement) (s : Now) →
+pub start_runs : (w : Definitions) (stack : Stack) (len visible : ℕ) (rest : List Statement) (s :
+    RunState) →
     stack.frames.items ≡ [] → len ≡ length stack.positions.items
     → rest_first w stack (record { from = 0; to = len; visible = visible }) rest s
-    ≡ run_all w (called w visible) stack.positions.items (body_of rest) s
+    ≡ run_all w (macros_below w visible) stack.positions.items (body_of rest) s
 start_runs w stack len visible rest s none count =
     let scope : Scope = record { from = 0; to = len; visible = visible } in
     ap (λ (fs : List Frame). run_rest w stack.positions.items scope rest s >>= unwound w
     stack.positions.items fs) none
     ∙ then_ok (run_rest w stack.positions.items scope rest s)
-    ∙ ap (λ (here : List (Option ℕ)). run_all w (called w visible) here (body_of rest) s)
+    ∙ ap (λ (positions : List (Option ℕ)). run_all w (macros_below w visible) positions (body_of
+    rest) s)
     (all_between len stack.positions.items count)
 
-pub last_first : (w : Still) (stack : Stack) (popped : List Frame) (f : Frame) (s : Now) →
+pub last_first : (w : Definitions) (stack : Stack) (popped : List Frame) (f : Frame) (s : RunState)
+    →
     stack.frames.items ≡ popped ++ f ∷ []
     → left w stack s ≡ (run_rest w stack.positions.items f.scope f.rest.now s >>= unwound w
     stack.positions.items popped)

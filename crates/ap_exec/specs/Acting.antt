@@ -2,27 +2,26 @@
 use Rattle.std.specs.Prelude.{ℕ, zero, suc, ◌+◌, List, [], ◌∷◌, ◌++◌, length, map, Option, Some, None, slice_get}
 use Rattle.ap_symbol.specs.declared.symbol.Symbol.{Symbol}
 use Rattle.ap_rules.specs.Plain.{PlainStatements, statements_of, no_statements, PlainMacro, PlainRule, PlainRules}
-use Rattle.ap_stream.specs.declared.TheConstants.{SPAN_MAX}
 use Rattle.ap_exec.specs.declared.matched.Matched.{Matched}
 use Rattle.ap_exec.specs.declared.matched.MatchedUnit.{MatchedUnit}
 use Rattle.ap_exec.specs.declared.template.Piece.{Piece}
 use Rattle.ap_exec.specs.Results.{Ran, seen}
-use Rattle.ap_exec.specs.Running.{Still, Now, run_all, called}
-use Rattle.ap_exec.specs.Units.{Shown}
+use Rattle.ap_exec.specs.Running.{Definitions, RunState, run_all, macros_below}
+use Rattle.ap_exec.specs.Units.{Shown, Positions}
 
 -- the pieces of a rule, and what the variables hold after it
 pub record Outcome : Type 0 where
   pub pieces : List Piece
   pub vars : List (List Symbol)
 
-abbrev pub outcome : Now → Outcome
+abbrev pub outcome : RunState → Outcome
 outcome s = record { pieces = s.pieces; vars = s.vars }
 
 abbrev pub body_of : PlainMacro → PlainStatements
 body_of m = statements_of m.statements
 
-abbrev pub still_of : PlainRules → Still
-still_of r = record {
+abbrev pub definitions_of : PlainRules → Definitions
+definitions_of r = record {
   form = r.form;
   attributes = r.attributes;
   lists = r.lists;
@@ -58,26 +57,25 @@ units_in None units = map shown units
 units_in (Some name) units = shown_chunk name ∷ map shown units
 
 -- so many numbers from this one on
-abbrev pub from : ℕ → ℕ → List (Option ℕ)
+abbrev pub from : ℕ → ℕ → Positions
 from first zero = []
 from first (suc n) = Some first ∷ from (first + 1) n
 
 -- what stands at the positions: at 0 the chunk, or nothing, and from 1 on the units
-abbrev pub here_in : Option (List Symbol) → ℕ → List (Option ℕ)
-here_in None n = None ∷ from 0 n
-here_in (Some name) n = Some 0 ∷ from 1 n
+abbrev pub positions_in : Option (List Symbol) → ℕ → Positions
+positions_in None n = None ∷ from 0 n
+positions_in (Some name) n = Some 0 ∷ from 1 n
 
-abbrev pub started : Matched → List (List Symbol) → Now
+abbrev pub started : Matched → List (List Symbol) → RunState
 started m vars = record {
   units = units_in m.chunk m.units;
   vars = vars;
   pieces =
       [];
-  room = SPAN_MAX;
 }
 
 -- the rule's action is run; each macro may be called
 abbrev pub act_of : PlainRules → ℕ → Matched → List (List Symbol) → Ran Outcome
 act_of r n m vars =
-    seen outcome (run_all (still_of r) (called (still_of r) (length r.macros))
-    (here_in m.chunk (length m.units)) (action_of r n) (started m vars))
+    seen outcome (run_all (definitions_of r) (macros_below (definitions_of r) (length r.macros))
+    (positions_in m.chunk (length m.units)) (action_of r n) (started m vars))

@@ -3,7 +3,7 @@
 -- it calls.
 use Rattle.std.specs.Prelude.{ℕ, zero, suc, ◌+◌, ◌==◌, if◌then◌else◌}
 use Rattle.ap_rules.specs.Plain.{PlainStatement, PlainStatements, PlainWhens, choose, assign, append, out, modify_case, call_macro, no_statements, then_statement, no_whens, then_when}
-use Rattle.ap_exec.specs.Running.{Still, body_at}
+use Rattle.ap_exec.specs.Running.{Definitions, body_at}
 
 abbrev mutual
   pub cost_one : (ℕ → ℕ) → PlainStatement → ℕ
@@ -24,7 +24,7 @@ abbrev mutual
       cost_all calls statements + cost_whens calls more
 
 -- of a macro, where only the first so many may be called
-abbrev pub macro_cost : Still → ℕ → ℕ → ℕ
+abbrev pub macro_cost : Definitions → ℕ → ℕ → ℕ
 macro_cost w zero k = 0
 macro_cost w (suc n) k = if k == n then cost_all (macro_cost w n) (body_at w n)
     else macro_cost w n k

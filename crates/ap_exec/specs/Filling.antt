@@ -1,18 +1,15 @@
 -- A template with its slots filled: the slots in order are the blanks in order, whole.
-use Rattle.std.specs.Prelude.{◌≡◌, ℕ, Bool, true, nat_lt, List, [], ◌∷◌, ◌++◌, length, Result, Ok, Err, if◌then◌else◌}
+use Rattle.std.specs.Prelude.{ℕ, Bool, nat_lt, List, [], ◌∷◌, ◌++◌, length, Ok, Err, if◌then◌else◌}
 use Rattle.std.specs.List.{flat_map}
 use Rattle.ap_symbol.specs.declared.symbol.Symbol.{Symbol}
 use Rattle.ap_symbol.specs.Rendering.{rendering}
 use Rattle.ap_stream.specs.Limits.{span_max}
 use Rattle.ap_stream.specs.Supers.{blank_supers}
-use Rattle.ap_exec.specs.declared.filling.Filling.{Filling}
-use Rattle.ap_exec.specs.declared.refusal.ExecRefusal.{ExecRefusal}
-use Rattle.ap_exec.specs.declared.refusal.ExecRefusal.TheVariants.{ValueTooLong, OutputTooLong, Memory}
 use Rattle.ap_exec.specs.declared.template.Atom.{Atom}
 use Rattle.ap_exec.specs.declared.template.Atom.TheVariants.{Unit as The_unit, Slot, Space}
 use Rattle.ap_exec.specs.declared.template.Piece.{Piece}
 use Rattle.ap_exec.specs.declared.template.Piece.TheVariants.{Atom as The_atom, Chunk}
-use Rattle.ap_exec.specs.Results.{Ran}
+use Rattle.ap_exec.specs.Results.{Ran, OutputTooLong}
 
 -- a text, or a slot
 pub data Mark : Type 0 where
@@ -73,27 +70,3 @@ within_span bytes = if is_over bytes then Err OutputTooLong else Ok bytes
 -- the text of a template with these blanks, or that it is too long
 abbrev pub fill_of : List Piece → List (List ℕ) → Ran (List ℕ)
 fill_of template blanks = within_span (filled (marks template) blanks)
-
--- these bytes are appended, or the text is too long with them, whatever follows
-abbrev pub Appends : {Y : Type 0} → Result Y ExecRefusal → List ℕ → List ℕ → List ℕ → Type 0
-Appends (Ok y) before after bytes = after ≡ before ++ bytes
-Appends (Err Memory) before after bytes = Unit {0}
-Appends (Err ValueTooLong) before after bytes = ⊥
-Appends (Err OutputTooLong) before after bytes = (rest : List ℕ) →
-    is_over (before ++ (bytes ++ rest)) ≡ true
-
--- what is written, and what follows where these marks are still to come
-abbrev pub goes_on : Filling → List Mark → List ℕ
-goes_on f more = f.out ++ filled more f.blanks.now
-
--- after these marks the text is too long, whatever follows
-abbrev pub Stops : ExecRefusal → Filling → List Mark → Type 0
-Stops Memory f ms = Unit {0}
-Stops ValueTooLong f ms = ⊥
-Stops OutputTooLong f ms = (more : List Mark) → is_over (goes_on f (ms ++ more)) ≡ true
-
--- these marks were written, or the text is too long with them
-abbrev pub Writes : {Y : Type 0} → Result Y ExecRefusal → Filling → Filling → List Mark → Type 0
-Writes (Ok y) before after ms = (more : List Mark) →
-    goes_on after more ≡ goes_on before (ms ++ more)
-Writes (Err e) before after ms = Stops e before ms

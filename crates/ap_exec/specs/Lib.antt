@@ -19,6 +19,7 @@ pub mod Compounds
 pub mod WordLaws
 pub mod SizeLaws
 pub mod Filling
+pub mod FillingParts
 pub mod Starting
 pub mod Choosing
 pub mod Costs

@@ -116,7 +116,7 @@ word_of side queue (Some unit) = word_on side queue unit
 -- the word at a position, and the empty one where there is no word
 abbrev pub word_at : Sight → ℕ → Side → Bool → List Symbol
 word_at sight pos side queue =
-    word_of (side_in sight.form side) queue (unit_at sight.here sight.units pos)
+    word_of (side_in sight.form side) queue (unit_at sight.positions sight.units pos)
 
 -- the part of that word
 abbrev pub part_at : Sight → ℕ → ClipPart → Side → Bool → List Symbol

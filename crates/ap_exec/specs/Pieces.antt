@@ -1,5 +1,5 @@
 -- The pieces that an output adds.
-use Rattle.std.specs.Prelude.{ℕ, ◌+◌, List, [], ◌∷◌, ◌++◌, length, map, Bool, true, false, if◌then◌else◌, Ok, Option, Some, None, slice_get}
+use Rattle.std.specs.Prelude.{ℕ, ◌+◌, List, [], ◌∷◌, ◌++◌, length, map, Bool, true, false, if◌then◌else◌, nat_le, Ok, Err, Option, Some, None, slice_get}
 use Rattle.std.specs.List.{flat_map}
 use Rattle.ap_symbol.specs.Kinds.{first_word}
 use Rattle.ap_symbol.specs.Recasing.{case_of_lem, recase_lem}
@@ -9,13 +9,14 @@ use Rattle.ap_symbol.specs.declared.symbol.Symbol.TheVariants.{Join}
 use Rattle.ap_rules.specs.Plain.{PlainValue, clip, values_of, PlainUnit, PlainChunkPiece, chunk_unit, chunk_units, chunk_blank, PlainChunk, PlainPiece, blank, unit, units, chunk, value_chunk}
 use Rattle.ap_rules.specs.declared.value.ClipPart.{ClipPart}
 use Rattle.ap_rules.specs.declared.value.ClipPart.TheVariants.{Whole, Content}
+use Rattle.ap_stream.specs.declared.TheConstants.{SPAN_MAX}
 use Rattle.ap_stream.specs.declared.item.Inner.{Inner}
 use Rattle.ap_stream.specs.declared.item.Inner.TheVariants as inner
 use Rattle.ap_exec.specs.declared.template.Atom.{Atom}
 use Rattle.ap_exec.specs.declared.template.Atom.TheVariants.{Unit as The_unit, Slot, Space}
 use Rattle.ap_exec.specs.declared.template.Piece.{Piece}
 use Rattle.ap_exec.specs.declared.template.Piece.TheVariants.{Atom as The_atom, Chunk}
-use Rattle.ap_exec.specs.Results.{Ran, ◌>>=◌}
+use Rattle.ap_exec.specs.Results.{Ran, ◌>>=◌, OutputTooLong}
 use Rattle.ap_exec.specs.Units.{Shown, Sight, unit_at, var_at}
 use Rattle.ap_exec.specs.Values.{joined_of}
 
@@ -99,7 +100,7 @@ content_in (Some shown) = map atom_in shown.content
 
 abbrev pub content_of : Sight → PlainValue → List Atom
 content_of sight (clip c) = if gives_content c.part c.link_to
-    then content_in (unit_at sight.here sight.units c.pos) else []
+    then content_in (unit_at sight.positions sight.units c.pos) else []
 content_of sight v = []
 
 -- the content of a chunk's content clips, in order
@@ -140,3 +141,8 @@ piece_size (Chunk name atoms) = length (rendering name) + 4 + atoms_size atoms
 abbrev pub pieces_size : List Piece → ℕ
 pieces_size [] = 0
 pieces_size (p ∷ more) = piece_size p + pieces_size more
+
+-- pieces with one more behind them, unless they have more bytes with it than an output may have
+unfoldable pub added : Piece → List Piece → Ran (List Piece)
+added piece pieces = if nat_le (pieces_size (pieces ++ piece ∷ [])) SPAN_MAX
+    then Ok (pieces ++ piece ∷ []) else Err OutputTooLong

@@ -1,29 +1,27 @@
 -- What the limit on an output counts.
-use Rattle.std.specs.Prelude.{◌≡◌, ◌↔◌, ℕ, ◌+◌, ◌<◌, ◌≤◌, List, Option, Ok, Err, [], ◌∷◌, ◌++◌, length}
+use Rattle.std.specs.Prelude.{◌≡◌, ◌↔◌, ℕ, ◌+◌, ◌<◌, ◌≤◌, List, Ok, Err, [], ◌∷◌, ◌++◌, length}
 use Rattle.ap_symbol.specs.declared.symbol.Symbol.{Symbol}
 use Rattle.ap_rules.specs.Plain.{PlainRules, PlainStatements}
 use Rattle.ap_stream.specs.declared.TheConstants.{SPAN_MAX}
 use Rattle.ap_exec.specs.declared.matched.Matched.{Matched}
-use Rattle.ap_exec.specs.declared.refusal.ExecRefusal.TheVariants.{OutputTooLong}
 use Rattle.ap_exec.specs.declared.template.Piece.{Piece}
 use Rattle.ap_exec.specs.Acting.{Outcome, act_of}
 use Rattle.ap_exec.specs.Filling.{Mark, text, gap, marks}
 use Rattle.ap_exec.specs.Pieces.{pieces_size}
-use Rattle.ap_exec.specs.Running.{Still, Now, placed, run_all, called}
+use Rattle.ap_exec.specs.Results.{OutputTooLong}
+use Rattle.ap_exec.specs.Running.{Definitions, RunState, placed, run_all, macros_below}
+use Rattle.ap_exec.specs.Units.{Positions}
 
--- the bytes of the pieces, and those that may still come
-abbrev pub counted : Now → ℕ
-counted s = s.room + pieces_size s.pieces
+-- statements add pieces behind those that stand there, and take none back
+abbrev pub PiecesAreAdded : Type 0
+PiecesAreAdded = (w : Definitions) (macros : ℕ) (positions : Positions) (body : PlainStatements)
+    (s t : RunState) → run_all w (macros_below w macros) positions body s ≡ Ok t →
+    (more : List Piece) × (t.pieces ≡ s.pieces ++ more)
 
--- statements make the room smaller by the bytes of the pieces that they add, and by nothing else
-abbrev pub RoomIsLessByPieces : Type 0
-RoomIsLessByPieces = (w : Still) (macros : ℕ) (here : List (Option ℕ)) (body : PlainStatements)
-    (s t : Now) → run_all w (called w macros) here body s ≡ Ok t → counted t ≡ counted s
-
--- Where so many bytes stand and may still come as an output may have, as they do all along, a
--- further piece is too long exactly where the pieces with it have more bytes than that.
+-- a further piece is too long exactly where the pieces with it have more bytes than an output may
+-- have
 abbrev pub LimitIsBySizes : Type 0
-LimitIsBySizes = (s : Now) (piece : Piece) → counted s ≡ SPAN_MAX →
+LimitIsBySizes = (s : RunState) (piece : Piece) →
     (placed piece s ≡ Err OutputTooLong) ↔ (SPAN_MAX < pieces_size (s.pieces ++ piece ∷ []))
 
 -- what a rule gives has no more bytes than an output may have

@@ -8,7 +8,7 @@ use Rattle.ap_rules.specs.declared.rules.DefMacro.{DefMacro}
 use Rattle.ap_exec.specs.declared.state.State.{State}
 use Rattle.ap_exec.specs.declared.state.View.{View}
 use Rattle.ap_exec.specs.declared.state.World.{World}
-use Rattle.ap_exec.specs.Running.{Still, Now}
+use Rattle.ap_exec.specs.Running.{Definitions, RunState}
 use Rattle.ap_exec.specs.Units.{Sight}
 
 -- variables, of which some have new values
@@ -26,8 +26,8 @@ fresh_in (Some new) = new
 abbrev pub body_in : DefMacro → PlainStatements
 body_in m = statements_of (plain_statements m.statements.items)
 
-abbrev pub still : World → Still
-still w = record {
+abbrev pub definitions : World → Definitions
+definitions w = record {
   form = w.form;
   attributes = w.attributes.now;
   lists = w.lists.now;
@@ -35,13 +35,12 @@ still w = record {
       map body_in w.macros.now;
 }
 
-abbrev pub now : World → State → Now
-now w s = record {
+abbrev pub run_state : World → State → RunState
+run_state w s = record {
   units = s.units.items;
   vars = overlaid w.vars.now s.fresh.items;
   pieces =
       s.pieces;
-  room = s.room;
 }
 
 abbrev pub sight : View → Sight
@@ -49,7 +48,7 @@ sight v = record {
   form = v.world.form;
   attributes = v.world.attributes.now;
   lists = v.world.lists.now;
-  here = v.here.now;
+  positions = v.positions.now;
   units = v.units.now;
   vars = overlaid v.world.vars.now v.fresh.now;
 }

@@ -14,13 +14,17 @@ pub record Shown : Type 0 where
   pub border : ℕ
   pub content : List Inner
 
+-- the number of the unit at each position, where there is one
+abbrev pub Positions : Type 0
+Positions = List (Option ℕ)
+
 -- What the rules define, which unit stands at each position, the units by number, and what the
 -- variables hold.
 pub record Sight : Type 0 where
   pub form : Form
   pub attributes : List (List AttrItem)
   pub lists : List DefList
-  pub here : List (Option ℕ)
+  pub positions : Positions
   pub units : List Shown
   pub vars : List (List Symbol)
 
@@ -29,16 +33,16 @@ abbrev pub standing : Option (Option ℕ) → Option ℕ
 standing None = None
 standing (Some unit) = unit
 
-abbrev pub number_at : List (Option ℕ) → ℕ → Option ℕ
-number_at here pos = standing (slice_get here pos)
+abbrev pub number_at : Positions → ℕ → Option ℕ
+number_at positions pos = standing (slice_get positions pos)
 
 abbrev pub numbered : List Shown → Option ℕ → Option Shown
 numbered units None = None
 numbered units (Some n) = slice_get units n
 
 -- the unit at a position, where there is one
-abbrev pub unit_at : List (Option ℕ) → List Shown → ℕ → Option Shown
-unit_at here units pos = numbered units (number_at here pos)
+abbrev pub unit_at : Positions → List Shown → ℕ → Option Shown
+unit_at positions units pos = numbered units (number_at positions pos)
 
 -- what is kept, where something is
 abbrev pub var_at : Option (List Symbol) → List Symbol

@@ -9,9 +9,8 @@ use Rattle.ap_symbol.specs.declared.symbol.Symbol.TheVariants.{Letter, Blank}
 use Rattle.ap_rules.specs.Plain.{PlainValue, PlainValues, clip, lit, lit_tag, var, get_case_from, case_of, concat, blank_value, no_values, then_value}
 use Rattle.ap_rules.specs.declared.value.CaseOf.{CaseOf}
 use Rattle.ap_stream.specs.declared.TheConstants.{UNIT_MAX}
-use Rattle.ap_exec.specs.declared.refusal.ExecRefusal.TheVariants.{ValueTooLong}
 use Rattle.ap_exec.specs.Parts.{part_at, clip_of, case_at}
-use Rattle.ap_exec.specs.Results.{Ran, ◌>>=◌}
+use Rattle.ap_exec.specs.Results.{Ran, ◌>>=◌, ValueTooLong}
 use Rattle.ap_exec.specs.Units.{Sight, var_at}
 
 -- what has so many rendered bytes, where that isn't too long for a value

@@ -61,7 +61,7 @@ IsOnWhole form c = (side_in form c.side ≡ Source) ⊎ (c.queue ≡ true)
 -- at the clip's position stands the unit that was written to by the clip
 pub record IsWrittenAt (sight : Sight) (c : Clip) (value : List Symbol) : Type 0 where
   pub before : Shown
-  pub stands : unit_at sight.here sight.units c.pos
+  pub stands : unit_at sight.positions sight.units c.pos
       ≡ Some (written sight.form sight.attributes c value before)
 
 -- a whole word that was written is read as what was written

@@ -11,6 +11,7 @@ use crate::lending::own_template;
 use crate::lent::{Lent, let_units_go};
 use crate::lent_template::LentTemplate;
 use crate::matched::Matched;
+use crate::output::Output;
 use crate::refusal::ExecRefusal;
 use crate::running::run_body;
 use crate::spare::Spare;
@@ -18,8 +19,7 @@ use crate::state::State;
 use crate::template::Template;
 use crate::vars::Vars;
 use ap_rules::Rules;
-use ap_stream::SPAN_MAX;
-use ap_symbol::{Sequence, Word};
+use ap_symbol::Word;
 use std::alloc::Global;
 
 /// What a run gives: its pieces, and the new values of variables.
@@ -40,23 +40,23 @@ fn run_rule<'a>(
     vars: &[Word],
     spare: &mut Spare,
 ) -> Result<Given<'a>, ExecRefusal>
-    ensures { (m : Matched) → units.entry.items ≡ units_in m.chunk m.units → has_chunk ≡ is_some m.chunk →
+    ensures { (m : Matched) → units.entry.items ≡ units_in m.chunk m.units →
+        has_chunk ≡ is_some m.chunk →
         Gives (λ g. record { pieces = g.pieces; vars = overlaid vars.now g.fresh.items })
         result (act_of (plain_rules rules.now) rule m vars.now) }
 {
     let world = world_of(rules, vars);
-    let here = positions_of(alloc, has_chunk, units.len(), spare)?;
+    let positions = positions_of(alloc, has_chunk, units.len(), spare)?;
     let fresh = spare.take_fresh(alloc);
     let mut state = State {
         units,
         fresh,
-        pieces: Sequence::new(alloc),
-        room: SPAN_MAX,
+        pieces: Output::new(alloc),
     };
     run_body(
         alloc,
         world,
-        here,
+        positions,
         action_of(rules, rule),
         &mut state,
         spare,
@@ -65,9 +65,9 @@ fn run_rule<'a>(
         units,
         fresh,
         pieces,
-        room: _,
     } = state;
     let_units_go(units, spare);
+    let pieces = pieces.into_template();
     Ok(Given { pieces, fresh })
 }
 

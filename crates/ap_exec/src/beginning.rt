@@ -1,11 +1,11 @@
 //! What a run of a rule begins with.
 ghost use Rattle.std.specs.Prelude.{◌≡◌, ◌++◌, [], map, length, IfOk, OnOk, is_some};
 ghost use Rattle.ap_rules.specs.Views.{plain_rules};
-ghost use Rattle.ap_exec.specs.Acting.{still_of, action_of, shown, shown_chunk, units_in};
+ghost use Rattle.ap_exec.specs.Acting.{definitions_of, action_of, shown, shown_chunk, units_in};
 ghost use Rattle.ap_exec.specs.Beginning.{chunk_in, lead_in, from_first};
 ghost use Rattle.ap_exec.specs.Held.{word_in};
 ghost use Rattle.ap_exec.specs.Stacks.{body_of};
-ghost use Rattle.ap_exec.specs.States.{still};
+ghost use Rattle.ap_exec.specs.States.{definitions};
 
 use crate::lent::{Held, Lent};
 use crate::matched::{Matched, MatchedUnit};
@@ -18,7 +18,7 @@ use std::alloc::Global;
 
 /// What rules define, and what their variables hold.
 pub(crate) fn world_of<'a>(rules: &'a Rules, vars: &'a [Word]) -> World<'a>
-    ensures still { still result ≡ still_of (plain_rules rules.now) }
+    ensures definitions { definitions result ≡ definitions_of (plain_rules rules.now) }
     ensures vars { result.vars.now ≡ vars.now }
     ensures macros { result.macros.now ≡ rules.now.macros.items }
 {
@@ -115,14 +115,14 @@ pub(crate) fn positions_of(
     count: usize,
     spare: &mut Spare,
 ) -> Result<Vec<Option<usize>>, Memory>
-    ensures { IfOk result (λ here. here.items ≡ lead_in has_chunk ++ from_first count) }
+    ensures { IfOk result (λ positions. positions.items ≡ lead_in has_chunk ++ from_first count) }
 {
-    let mut here = spare.take_places(alloc);
+    let mut positions = spare.take_places(alloc);
     if !has_chunk {
-        here.push(None)?;
+        positions.push(None)?;
     }
     'numbers: for number in 0..count {
-        here.push(Some(number))?;
+        positions.push(Some(number))?;
     }
-    Ok(here)
+    Ok(positions)
 }

@@ -1,19 +1,18 @@
 //! The single changes that statements make.
-ghost use Rattle.std.specs.Prelude.{◌≡◌, ◌<◌, ◌-◌, [], List, length, map, true, if◌then◌else◌, nat_le, slice_set, OnOk, IfOk, Option, Ok, Some as something, None as nothing, vec_len};
+ghost use Rattle.std.specs.Prelude.{◌≡◌, ◌<◌, [], List, length, map, true, slice_set, OnOk, IfOk, Option, Ok, Some as something, vec_len};
 ghost use Rattle.ap_symbol.specs.declared.symbol.Symbol.{Symbol};
 ghost use Rattle.ap_symbol.specs.Words.{AreProper};
 ghost use Rattle.ap_rules.specs.Plain.{assign, append, modify_case, out};
 ghost use Rattle.ap_rules.specs.Views.{plain_value, plain_values, plain_piece};
-ghost use Rattle.ap_exec.specs.Pieces.{unit_size, atom_size, atoms_size, piece_size};
 ghost use Rattle.ap_exec.specs.Results.{Gives};
-ghost use Rattle.ap_exec.specs.Running.{sight_of, with_var, with_part, with_place, recased_at, placed, outs, run, called};
+ghost use Rattle.ap_exec.specs.Running.{sight_of, with_var, with_part, with_place, recased_at, placed, outs, run, macros_below};
 ghost use Rattle.ap_exec.specs.Setting.{IsHeld};
-ghost use Rattle.ap_exec.specs.States.{overlaid, sight, still, now};
+ghost use Rattle.ap_exec.specs.States.{overlaid, sight, definitions, run_state};
 ghost use Rattle.ap_exec.specs.Values.{value_of};
 
 use crate::clips::{number_at, part_at};
 use crate::comparing::same_words;
-use crate::lent_template::{AtomHeld, LentAtom, LentPiece, LentWord, PieceHeld};
+use crate::lent_template::LentPiece;
 use crate::pieces::piece_of;
 use crate::recasing::append_recased;
 use crate::refusal::ExecRefusal;
@@ -29,14 +28,15 @@ use std::mem;
 /// What values are read from.
 pub(crate) fn view_of<'a, 'u>(
     world: World<'a>,
-    here: &'a [Option<usize>],
+    positions: &'a [Option<usize>],
     state: &'a State<'u>,
 ) -> View<'a, 'u>
-    ensures { sight result ≡ sight_of (still world.entry) here.now (now world.entry state.now) }
+    ensures { sight result ≡ sight_of (definitions world.entry) positions.now
+        (run_state world.entry state.now) }
 {
     View {
         world,
-        here,
+        positions,
         units: &state.units,
         fresh: &state.fresh,
     }
@@ -73,8 +73,8 @@ pub(crate) fn set_var(
     state: &mut State<'_>,
     spare: &mut Spare,
 ) -> Result<(), Memory>
-    ensures { OnOk result (now world.entry state.new
-        ≡ with_var n word (now world.entry state.old)) }
+    ensures { OnOk result (run_state world.entry state.new
+        ≡ with_var n word (run_state world.entry state.old)) }
 {
     if n >= world.vars.len() {
         return Ok(());
@@ -88,16 +88,17 @@ pub(crate) fn set_var(
 fn set_part(
     alloc: Global,
     world: World<'_>,
-    here: &[Option<usize>],
+    positions: &[Option<usize>],
     clip: &Clip,
     value: &Word,
     state: &mut State<'_>,
     spare: &mut Spare,
 ) -> Result<(), Memory>
-    ensures { OnOk result (now world.entry state.new
-        ≡ with_part (still world.entry) here.now clip.now value.now (now world.entry state.old)) }
+    ensures { OnOk result (run_state world.entry state.new
+        ≡ with_part (definitions world.entry) positions.now clip.now value.now
+        (run_state world.entry state.old)) }
 {
-    match number_at(here, clip.pos) {
+    match number_at(positions, clip.pos) {
         None => Ok(()),
         Some(n) => {
             if n >= state.units.len() {
@@ -121,18 +122,19 @@ fn set_part(
 fn set_place(
     alloc: Global,
     world: World<'_>,
-    here: &[Option<usize>],
+    positions: &[Option<usize>],
     place: &Place,
     value: Word,
     state: &mut State<'_>,
     spare: &mut Spare,
 ) -> Result<(), Memory>
-    ensures { OnOk result (now world.entry state.new
-        ≡ with_place (still world.entry) here.now place.now value (now world.entry state.old)) }
+    ensures { OnOk result (run_state world.entry state.new
+        ≡ with_place (definitions world.entry) positions.now place.now value
+        (run_state world.entry state.old)) }
 {
     match place {
         Place::Clip(clip) => {
-            set_part(alloc, world, here, clip, &value, state, spare)?;
+            set_part(alloc, world, positions, clip, &value, state, spare)?;
             spare.put(value);
             Ok(())
         }
@@ -203,16 +205,16 @@ fn made(
 pub(crate) fn assign(
     alloc: Global,
     world: World<'_>,
-    here: &[Option<usize>],
+    positions: &[Option<usize>],
     held: &Let,
     state: &mut State<'_>,
     spare: &mut Spare,
 ) -> Result<(), ExecRefusal>
-    ensures { Gives (λ _. now world.entry state.new) result
-        (run (still world.entry) (called (still world.entry) 0) here.now
-        (assign held.now.place (plain_value held.now.value)) (now world.entry state.old)) }
+    ensures { Gives (λ _. run_state world.entry state.new) result
+        (run (definitions world.entry) (macros_below (definitions world.entry) 0) positions.now
+        (assign held.now.place (plain_value held.now.value)) (run_state world.entry state.old)) }
 {
-    let view = view_of(world, here, state);
+    let view = view_of(world, positions, state);
     let value = match direct(&view, &held.value) {
         None => made(alloc, &view, spare, &held.value)?,
         Some(word) => {
@@ -222,7 +224,7 @@ pub(crate) fn assign(
             copied(alloc, spare, word)?
         }
     };
-    set_place(alloc, world, here, &held.place, value, state, spare)?;
+    set_place(alloc, world, positions, &held.place, value, state, spare)?;
     Ok(())
 }
 
@@ -230,20 +232,26 @@ pub(crate) fn assign(
 pub(crate) fn modify_case(
     alloc: Global,
     world: World<'_>,
-    here: &[Option<usize>],
+    positions: &[Option<usize>],
     held: &ModifyCase,
     state: &mut State<'_>,
     spare: &mut Spare,
 ) -> Result<(), ExecRefusal>
-    ensures { Gives (λ _. now world.entry state.new) result
-        (run (still world.entry) (called (still world.entry) 0) here.now
-        (modify_case held.now.place (plain_value held.now.value)) (now world.entry state.old)) }
+    ensures { Gives (λ _. run_state world.entry state.new) result
+        (run (definitions world.entry) (macros_below (definitions world.entry) 0) positions.now
+        (modify_case held.now.place (plain_value held.now.value))
+        (run_state world.entry state.old)) }
 {
     let mut value = spare.take(alloc)?;
-    push_value(alloc, &view_of(world, here, state), &held.value, &mut value)?;
-    let view = view_of(world, here, state);
+    push_value(
+        alloc,
+        &view_of(world, positions, state),
+        &held.value,
+        &mut value,
+    )?;
+    let view = view_of(world, positions, state);
     let word = recased_at(alloc, &view, spare, &held.place, &value)?;
-    set_place(alloc, world, here, &held.place, word, state, spare)?;
+    set_place(alloc, world, positions, &held.place, word, state, spare)?;
     spare.put(value);
     Ok(())
 }
@@ -252,18 +260,19 @@ pub(crate) fn modify_case(
 pub(crate) fn append(
     alloc: Global,
     world: World<'_>,
-    here: &[Option<usize>],
+    positions: &[Option<usize>],
     held: &Append,
     state: &mut State<'_>,
     spare: &mut Spare,
 ) -> Result<(), ExecRefusal>
-    ensures { Gives (λ _. now world.entry state.new) result
-        (run (still world.entry) (called (still world.entry) 0) here.now
-        (append held.now.n (plain_values held.now.values.items)) (now world.entry state.old)) }
+    ensures { Gives (λ _. run_state world.entry state.new) result
+        (run (definitions world.entry) (macros_below (definitions world.entry) 0) positions.now
+        (append held.now.n (plain_values held.now.values.items))
+        (run_state world.entry state.old)) }
 {
     let word = append_to(
         alloc,
-        &view_of(world, here, state),
+        &view_of(world, positions, state),
         spare,
         held.n,
         &held.values,
@@ -272,102 +281,34 @@ pub(crate) fn append(
     Ok(())
 }
 
-/// What is left of a number, if that is enough.
-fn less(room: usize, size: usize) -> Option<usize>
-    ensures { result ≡ (if nat_le size room then something (room - size) else nothing) }
-{
-    if size <= room {
-        Some(room - size)
-    } else {
-        None
-    }
-}
-
-fn unit_size(word: &LentWord<'_>) -> usize
-    ensures { result ≡ unit_size word.now }
-{
-    if word.is_empty() {
-        0
-    } else {
-        word.rendered().len() + 2
-    }
-}
-
-fn atom_size(atom: &LentAtom<'_>) -> usize
-    ensures { result ≡ atom_size atom.now }
-{
-    match &atom.held {
-        AtomHeld::Unit(word) => unit_size(word),
-        AtomHeld::Slot => 0,
-        AtomHeld::Space => 1,
-    }
-}
-
-/// What is left after the atoms, if that is enough.
-fn less_atoms(room: usize, atoms: &[LentAtom<'_>]) -> Option<usize>
-    ensures { result ≡ (if nat_le (atoms_size atoms.now) room
-        then something (room - atoms_size atoms.now) else nothing) }
-{
-    let mut left = room;
-    for atom in atoms {
-        match less(left, atom_size(atom)) {
-            None => return None,
-            Some(rest) => left = rest,
-        }
-    }
-    Some(left)
-}
-
-/// What is left after a piece, if that is enough.
-fn less_piece(room: usize, piece: &LentPiece<'_>) -> Option<usize>
-    ensures { result ≡ (if nat_le (piece_size piece.now) room
-        then something (room - piece_size piece.now) else nothing) }
-{
-    match &piece.held {
-        PieceHeld::Atom(atom) => less(room, atom_size(atom)),
-        PieceHeld::Chunk(name, atoms) => match less(room, name.rendered().len() + 4) {
-            None => None,
-            Some(rest) => less_atoms(rest, atoms.as_slice()),
-        },
-    }
-}
-
 /// Adds a piece to the output.
-#[tactic(auto, unfolding(crate::specs::Running::placed))]
 fn place<'u>(
     world: World<'_>,
     piece: LentPiece<'u>,
     state: &mut State<'u>,
 ) -> Result<(), ExecRefusal>
-    ensures { Gives (λ _. now world.entry state.new) result
-        (placed piece.entry (now world.entry state.old)) }
+    ensures { Gives (λ _. run_state world.entry state.new) result
+        (placed piece.entry (run_state world.entry state.old)) }
 {
     let _world = world;
-    match less_piece(state.room, &piece) {
-        None => Err(ExecRefusal::OutputTooLong),
-        Some(left) => {
-            state.pieces.push(piece)?;
-            state.room = left;
-            Ok(())
-        }
-    }
+    state.pieces.push(piece)
 }
 
 /// Adds pieces to the output, in order.
 fn put_pieces(
     alloc: Global,
     world: World<'_>,
-    here: &[Option<usize>],
+    positions: &[Option<usize>],
     pieces: &[StatedPiece],
     state: &mut State<'_>,
     spare: &mut Spare,
 ) -> Result<(), ExecRefusal>
-    ensures { Gives (λ _. now world.entry state.new) result
-        (outs (still world.entry) here.now (map plain_piece pieces.now)
-        (now world.entry state.old)) }
+    ensures { Gives (λ _. run_state world.entry state.new) result
+        (outs (definitions world.entry) positions.now (map plain_piece pieces.now)
+        (run_state world.entry state.old)) }
 {
     'pieces: for piece in pieces {
-        let made = piece_of(alloc, &view_of(world, here, state), spare, piece)?;
+        let made = piece_of(alloc, &view_of(world, positions, state), spare, piece)?;
         place(world, made, state)?;
     }
     Ok(())
@@ -377,14 +318,14 @@ fn put_pieces(
 pub(crate) fn put_out(
     alloc: Global,
     world: World<'_>,
-    here: &[Option<usize>],
+    positions: &[Option<usize>],
     held: &Out,
     state: &mut State<'_>,
     spare: &mut Spare,
 ) -> Result<(), ExecRefusal>
-    ensures { Gives (λ _. now world.entry state.new) result
-        (run (still world.entry) (called (still world.entry) 0) here.now
-        (out (map plain_piece held.now.pieces.items)) (now world.entry state.old)) }
+    ensures { Gives (λ _. run_state world.entry state.new) result
+        (run (definitions world.entry) (macros_below (definitions world.entry) 0) positions.now
+        (out (map plain_piece held.now.pieces.items)) (run_state world.entry state.old)) }
 {
-    put_pieces(alloc, world, here, &held.pieces, state, spare)
+    put_pieces(alloc, world, positions, &held.pieces, state, spare)
 }

@@ -340,10 +340,10 @@ pub(crate) fn division_on(side: Side, queue: bool, unit: &Lent<'_>) -> Option<Di
 }
 
 /// The number of the unit that stands at a position.
-pub(crate) fn number_at(here: &[Option<usize>], pos: usize) -> Option<usize>
-    ensures { result ≡ number_at here.now pos }
+pub(crate) fn number_at(positions: &[Option<usize>], pos: usize) -> Option<usize>
+    ensures { result ≡ number_at positions.now pos }
 {
-    match here.get(pos) {
+    match positions.get(pos) {
         None => None,
         Some(unit) => *unit,
     }
@@ -351,13 +351,13 @@ pub(crate) fn number_at(here: &[Option<usize>], pos: usize) -> Option<usize>
 
 /// The unit that stands at a position.
 pub(crate) fn unit_at<'a, 'u>(
-    here: &[Option<usize>],
+    positions: &[Option<usize>],
     units: &'a [Lent<'u>],
     pos: usize,
 ) -> Option<&'a Lent<'u>>
-    ensures { option_copied result ≡ unit_at here.now units.now pos }
+    ensures { option_copied result ≡ unit_at positions.now units.now pos }
 {
-    match number_at(here, pos) {
+    match number_at(positions, pos) {
         None => None,
         Some(n) => units.get(n),
     }
@@ -392,7 +392,7 @@ pub(crate) fn part_at<'a>(
     ensures value { result.now ≡ part_at (sight view.now) pos part side queue }
     ensures proper { AreProper result.now }
 {
-    match unit_at(view.here, view.units, pos) {
+    match unit_at(view.positions, view.units, pos) {
         None => &[],
         Some(unit) => {
             let side = side_in(view.world.form, side);

@@ -2,7 +2,8 @@
 ghost use Rattle.std.specs.Prelude.{◌≡◌, ◌++◌, ◌∷◌, [], OnOk};
 ghost use Rattle.std.specs.List.{flat_map};
 ghost use Rattle.ap_exec.specs.Results.{Gives};
-ghost use Rattle.ap_exec.specs.Filling.{text, gap, word_marks, unit_marks, atom_marks, atoms_marks, chunk_marks, piece_marks, marks, left_over, fill_of, within_span, Appends, Writes};
+ghost use Rattle.ap_exec.specs.Filling.{text, gap, word_marks, unit_marks, atom_marks, atoms_marks, chunk_marks, piece_marks, marks, left_over, fill_of, within_span};
+ghost use Rattle.ap_exec.specs.FillingParts.{Appends, Writes};
 
 use crate::lending::lend_template;
 use crate::lent_template::{AtomHeld, LentAtom, LentPiece, LentTemplate, LentWord, PieceHeld};

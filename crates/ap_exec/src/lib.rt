@@ -31,7 +31,8 @@
 //! - What is written to a part of a word is read there, by a condition on the value for each part;
 //!   it stands at the stretch that was written over, what stands around it stays, and so does the
 //!   other side of a border between head and queue (`written_parts_are_read`).
-//! - The limit on an output counts the bytes of its pieces (`pieces_are_counted`).
+//! - Statements add pieces, and the limit on an output counts the bytes of these
+//!   (`pieces_are_counted`).
 //! - Of words of the program a rule makes such words alone (`running_keeps_words`); sound rules
 //!   give chunks where they make chunks, and else units (`sound_rules_give`).
 //! - Where no clip leaves out a queue, a rule does the same wherever these borders stand
@@ -40,7 +41,7 @@
 //! # Definitions to read first
 //!
 //! - `specs/Acting.antt`: `act_of`: what a rule does to a match and the variables.
-//! - `specs/Running.antt`: `run`, `called`, `placed`: what statements do.
+//! - `specs/Running.antt`: `run`, `macros_below`, `placed`: what statements do.
 //! - `specs/Values.antt`: `value_of`, and `specs/Parts.antt`: `clip_of`, `span_of`: what values and
 //!   clips give.
 //! - `specs/Conditions.antt`: `holds`, and `specs/Comparing.antt`: `compared`: whether a condition
@@ -64,6 +65,7 @@ mod lending;
 mod lent;
 mod lent_template;
 mod matched;
+mod output;
 mod pieces;
 mod recasing;
 mod refusal;

@@ -68,7 +68,7 @@ fn lent_by<'u>(view: &View<'_, 'u>, clip: &Clip) -> Option<&'u Word>
     if clip.part != ClipPart::Whole || clip.link_to.is_some() {
         return None;
     }
-    match unit_at(view.here, view.units, clip.pos) {
+    match unit_at(view.positions, view.units, clip.pos) {
         None => None,
         Some(unit) => lent_on(side_in(view.world.form, clip.side), clip.queue, unit),
     }
@@ -355,7 +355,7 @@ fn push_content<'u>(
             if !gives_content(clip.part, &clip.link_to) {
                 return Ok(());
             }
-            match unit_at(view.here, view.units, clip.pos) {
+            match unit_at(view.positions, view.units, clip.pos) {
                 None => Ok(()),
                 Some(unit) => push_parts(alloc, unit.content(), into),
             }

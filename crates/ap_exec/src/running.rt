@@ -5,9 +5,9 @@ ghost use Rattle.ap_rules.specs.Views.{plain_statement, plain_choose, plain_when
 ghost use Rattle.ap_exec.specs.Choosing.{chosen};
 ghost use Rattle.ap_exec.specs.Costs.{cost_one, macro_cost};
 ghost use Rattle.ap_exec.specs.Results.{Gives};
-ghost use Rattle.ap_exec.specs.Running.{Still, Now, run_all, called, places_of, body_at, sight_of};
+ghost use Rattle.ap_exec.specs.Running.{Definitions, RunState, run_all, macros_below, places_of, body_at, sight_of};
 ghost use Rattle.ap_exec.specs.Stacks.{left, rest_first, one_first, StandsOn, IsScope, IsNested, Leads, stack_cost, rest_cost, between, body_of};
-ghost use Rattle.ap_exec.specs.States.{body_in, now, still, sight};
+ghost use Rattle.ap_exec.specs.States.{body_in, run_state, definitions, sight};
 
 use crate::changes::{append, assign, modify_case, put_out};
 use crate::clips::number_at;
@@ -52,7 +52,7 @@ fn push_places(
 
 /// The statements of a macro, or none where there is no macro of that number.
 fn body_at(macros: &[DefMacro], n: usize) -> &[Statement]
-    ensures { (world : Still) → world.bodies ≡ map body_in macros.now →
+    ensures { (world : Definitions) → world.bodies ≡ map body_in macros.now →
         body_of result.now ≡ body_at world n }
 {
     match macros.get(n) {
@@ -64,10 +64,11 @@ fn body_at(macros: &[DefMacro], n: usize) -> &[Statement]
 /// What values are read from, while a body is run.
 fn view_in<'a, 'u>(
     world: &'a World<'_>,
-    here: &'a [Option<usize>],
+    positions: &'a [Option<usize>],
     state: &'a State<'u>,
 ) -> View<'a, 'u>
-    ensures { sight result ≡ sight_of (still world.now) here.now (now world.now state.now) }
+    ensures { sight result ≡ sight_of (definitions world.now) positions.now
+        (run_state world.now state.now) }
 {
     let world = World {
         form: world.form,
@@ -78,7 +79,7 @@ fn view_in<'a, 'u>(
     };
     View {
         world,
-        here,
+        positions,
         units: &state.units,
         fresh: &state.fresh,
     }
@@ -114,17 +115,17 @@ fn run_choose<'a>(
 ) -> Result<(), ExecRefusal>
     requires { StandsOn stack.old scope }
     ensures leads { Leads result
-        (one_first (still world.entry) stack.old scope (plain_choose held.now)
-        (now world.entry state.now))
-        (left (still world.entry) stack.new (now world.entry state.now)) }
+        (one_first (definitions world.entry) stack.old scope (plain_choose held.now)
+        (run_state world.entry state.now))
+        (left (definitions world.entry) stack.new (run_state world.entry state.now)) }
     ensures nested { OnOk result (IsNested stack.new) }
     ensures cost { OnOk result
-        (stack_cost (still world.entry) stack.new < cost_one
-        (macro_cost (still world.entry) scope.visible) (plain_choose held.now) + stack_cost
-        (still world.entry) stack.old) }
+        (stack_cost (definitions world.entry) stack.new < cost_one
+        (macro_cost (definitions world.entry) scope.visible) (plain_choose held.now) + stack_cost
+        (definitions world.entry) stack.old) }
 {
-    let here = &stack.positions[scope.from..scope.to];
-    let view = view_in(&world, here, state);
+    let positions = &stack.positions[scope.from..scope.to];
+    let view = view_in(&world, positions, state);
     let taken = choice(alloc, &view, &held.whens, &held.otherwise)?;
     stack.push(taken, scope)?;
     Ok(())
@@ -139,13 +140,13 @@ fn run_call<'a>(
     stack: &mut Stack<'a>,
 ) -> Result<(), Memory>
     requires { StandsOn stack.old scope }
-    ensures left { OnOk result ((s : Now) → left (still world.entry) stack.new s
-        ≡ one_first (still world.entry) stack.old scope
+    ensures left { OnOk result ((s : RunState) → left (definitions world.entry) stack.new s
+        ≡ one_first (definitions world.entry) stack.old scope
         (call_macro held.now.n held.now.params.items) s) }
     ensures nested { OnOk result (IsNested stack.new) }
     ensures cost { OnOk result
-        (stack_cost (still world.entry) stack.new < macro_cost (still world.entry) scope.visible
-        held.now.n + 2 + stack_cost (still world.entry) stack.old) }
+        (stack_cost (definitions world.entry) stack.new
+        < macro_cost (definitions world.entry) scope.visible held.now.n + 2 + stack_cost (definitions world.entry) stack.old) }
 {
     if held.n >= scope.visible {
         return Ok(());
@@ -172,21 +173,21 @@ fn run_statement<'a>(
 ) -> Result<(), ExecRefusal>
     requires { StandsOn stack.old scope }
     ensures leads { Leads result
-        (one_first (still world.entry) stack.old scope (plain_statement statement.now)
-        (now world.entry state.old))
-        (left (still world.entry) stack.new (now world.entry state.new)) }
+        (one_first (definitions world.entry) stack.old scope (plain_statement statement.now)
+        (run_state world.entry state.old))
+        (left (definitions world.entry) stack.new (run_state world.entry state.new)) }
     ensures nested { OnOk result (IsNested stack.new) }
     ensures cost { OnOk result
-        (stack_cost (still world.entry) stack.new < cost_one
-        (macro_cost (still world.entry) scope.visible) (plain_statement statement.now) + stack_cost
-        (still world.entry) stack.old) }
+        (stack_cost (definitions world.entry) stack.new < cost_one
+        (macro_cost (definitions world.entry) scope.visible) (plain_statement statement.now)
+        + stack_cost (definitions world.entry) stack.old) }
 {
-    let here = &stack.positions[scope.from..scope.to];
+    let positions = &stack.positions[scope.from..scope.to];
     match statement {
-        Statement::Let(held) => assign(alloc, world, here, held, state, spare),
-        Statement::Append(held) => append(alloc, world, here, held, state, spare),
-        Statement::Out(held) => put_out(alloc, world, here, held, state, spare),
-        Statement::ModifyCase(held) => modify_case(alloc, world, here, held, state, spare),
+        Statement::Let(held) => assign(alloc, world, positions, held, state, spare),
+        Statement::Append(held) => append(alloc, world, positions, held, state, spare),
+        Statement::Out(held) => put_out(alloc, world, positions, held, state, spare),
+        Statement::ModifyCase(held) => modify_case(alloc, world, positions, held, state, spare),
         Statement::Choose(held) => run_choose(alloc, world, scope, held, stack, state),
         Statement::CallMacro(held) => {
             run_call(world, scope, held, stack)?;
@@ -206,13 +207,13 @@ fn run_first<'a>(
 ) -> Result<(), ExecRefusal>
     requires { StandsOn stack.old frame.scope }
     ensures leads { Leads result
-        (rest_first (still world.entry) stack.old frame.entry.scope frame.entry.rest.now
-        (now world.entry state.old))
-        (left (still world.entry) stack.new (now world.entry state.new)) }
+        (rest_first (definitions world.entry) stack.old frame.entry.scope frame.entry.rest.now
+        (run_state world.entry state.old))
+        (left (definitions world.entry) stack.new (run_state world.entry state.new)) }
     ensures nested { OnOk result (IsNested stack.new) }
     ensures cost { OnOk result
-        (stack_cost (still world.entry) stack.new < rest_cost (still world.entry) frame.entry.scope
-        frame.entry.rest.now + 1 + stack_cost (still world.entry) stack.old) }
+        (stack_cost (definitions world.entry) stack.new
+        < rest_cost (definitions world.entry) frame.entry.scope frame.entry.rest.now + 1 + stack_cost (definitions world.entry) stack.old) }
 {
     match frame.rest.split_first() {
         None => Ok(()),
@@ -227,24 +228,25 @@ fn run_first<'a>(
 pub(crate) fn run_body<'a>(
     alloc: Global,
     world: World<'a>,
-    here: Vec<Option<usize>>,
+    positions: Vec<Option<usize>>,
     action: &'a [Statement],
     state: &mut State<'_>,
     spare: &mut Spare,
 ) -> Result<(), ExecRefusal>
-    ensures { Gives (λ _. now world.entry state.new) result
-        (run_all (still world.entry) (called (still world.entry) (length world.entry.macros.now))
-        here.items (body_of action.now) (now world.entry state.old)) }
+    ensures { Gives (λ _. run_state world.entry state.new) result
+        (run_all (definitions world.entry)
+        (macros_below (definitions world.entry) (length world.entry.macros.now)) positions.items
+        (body_of action.now) (run_state world.entry state.old)) }
 {
     let scope = Scope {
         from: 0,
-        to: here.len(),
+        to: positions.len(),
         visible: world.macros.len(),
     };
     let bodies = no_frames(alloc)?;
     let mut stack = Stack {
         frames: bodies,
-        positions: here,
+        positions,
     };
     stack.push(action, scope)?;
     'frames: while let Some(frame) = stack.frames.pop() {

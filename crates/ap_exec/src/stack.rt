@@ -1,6 +1,6 @@
 //! What is left to run of a rule and of the macros that it calls.
 ghost use Rattle.std.specs.Prelude.{◌≡◌, ◌+◌, ◌≤◌, OnOk};
-ghost use Rattle.ap_exec.specs.Running.{Still, Now};
+ghost use Rattle.ap_exec.specs.Running.{Definitions, RunState};
 ghost use Rattle.ap_exec.specs.Stacks.{left, rest_first, StandsOn, IsNested, stack_cost, rest_cost};
 
 use ap_rules::Statement;
@@ -34,12 +34,12 @@ impl<'a> Stack<'a> {
     /// Puts statements on top, unless there are none.
     pub(crate) fn push(&mut self, rest: &'a [Statement], scope: Scope) -> Result<(), Memory>
         requires { StandsOn self.old scope }
-        ensures left { OnOk result ((w : Still) (s : Now) →
+        ensures left { OnOk result ((w : Definitions) (s : RunState) →
             left w self.new s ≡ rest_first w self.old scope rest.now s) }
         ensures nested { OnOk result (IsNested self.new) }
         ensures stands { OnOk result (StandsOn self.new scope) }
         ensures positions { self.new.positions ≡ self.old.positions }
-        ensures cost { OnOk result ((w : Still) →
+        ensures cost { OnOk result ((w : Definitions) →
             stack_cost w self.new ≤ rest_cost w scope rest.now + 1 + stack_cost w self.old) }
     {
         if rest.is_empty() {

@@ -1,5 +1,5 @@
 use crate::lent::Lent;
-use crate::lent_template::LentTemplate;
+use crate::output::Output;
 use ap_rules::{DefAttr, DefList, DefMacro, Form};
 use ap_symbol::Word;
 
@@ -20,15 +20,14 @@ pub(crate) struct World<'a> {
 pub(crate) struct State<'a> {
     pub(crate) units: Vec<Lent<'a>>,
     pub(crate) fresh: Vec<Option<Word>>,
-    pub(crate) pieces: LentTemplate<'a>,
-    pub(crate) room: usize,
+    pub(crate) pieces: Output<'a>,
 }
 
 /// What values are read from. At each position stands the number of a unit, where there is one.
 #[derive(Clone, Copy)]
 pub(crate) struct View<'a, 'u> {
     pub(crate) world: World<'a>,
-    pub(crate) here: &'a [Option<usize>],
+    pub(crate) positions: &'a [Option<usize>],
     pub(crate) units: &'a [Lent<'u>],
     pub(crate) fresh: &'a [Option<Word>],
 }

@@ -238,7 +238,7 @@ fn short_clip<'a>(view: &View<'a, '_>, clip: &Clip) -> Option<&'a [Symbol]>
     if clip.link_to.is_some() {
         return None;
     }
-    match unit_at(view.here, view.units, clip.pos) {
+    match unit_at(view.positions, view.units, clip.pos) {
         None => None,
         Some(unit) => {
             let side = side_in(view.world.form, clip.side);

@@ -20,6 +20,7 @@ use Rattle.ap_stream.specs.declared.item.Item.TheVariants as item
 use Rattle.ap_stream.specs.declared.item.Read.{Read}
 use Rattle.ap_stream.proofs.EachKept.{neither}
 use Rattle.ap_live.specs.Lexicon.{Lexicon}
+use Rattle.ap_live.specs.Readable.{GivesReadable}
 use Rattle.ap_lookup.specs.Lookup.{translations, translations_by}
 use Rattle.ap_lookup.specs.Translation.{translation}
 use Rattle.ap_lookup.specs.Works.{bilingual_unit, bilingual_text}
@@ -33,19 +34,28 @@ use Rattle.ap_exec.specs.Starting.{start_of}
 use Rattle.ap_exec.specs.declared.matched.MatchedUnit.{MatchedUnit}
 use Rattle.ap_exec.proofs.Borderless.{borders_do_not_matter}
 use Rattle.ap_chunk.specs.Carrying.{Held, Step, Gives, Stops, goes_on, carried}
-use Rattle.ap_chunk.specs.Matches.{translated, named, matched_item, matched_items, matched_of, item_blanks, blanks_of}
+use Rattle.ap_chunk.specs.Matches.{Sees, translated, named, seen_item, seen_items, matched_of, item_blanks, blanks_of}
 use Rattle.ap_chunk.specs.Parts.{Part, word_of, unit_part, part_of, parts_of, taken_by, units_in}
 use Rattle.ap_chunk.specs.Patterns.{patterns_of}
 use Rattle.ap_chunk.specs.Going.{chosen_of}
-use Rattle.ap_chunk.specs.Stages.{span, choice, acted_step, rule_step, lone_step, unmatched_step, chosen_step, is_overfull, chunk_step, transferred_text}
-use Rattle.ap_chunk.specs.Unmatched.{default_text, unit_text, unmatched_text}
+use Rattle.ap_chunk.specs.Stages.{span, choice, acted_step, rule_step, lone_step, unmatched_step, match_step, chosen_step, is_overfull, chunk_step, transferred_text}
+use Rattle.ap_chunk.specs.Unmatched.{default_text, unit_text, lone_text, unmatched_text}
 use Rattle.ap_chunk.specs.declared.choice.Choice.{Choice}
-use Rattle.ap_pipe.specs.Joined.{Sees, seen_item, seen_items, default_of, lone_text, run_step, alone_step, taken_step, seen_step, seen_through, headed, marked_or, looked_up}
+use Rattle.ap_pipe.specs.Joined.{default_of, seen_run, seen_alone, seen_step, headed, marked_or, looked_up}
 use Rattle.ap_pipe.specs.JoinedLaws.{TransferSees, JoinedAgrees}
 use Rattle.ap_pipe.specs.Row.{last_fault}
 use Rattle.ap_pipe.specs.declared.station.RowFault.{RowFault}
 use Rattle.ap_pipe.proofs.ItemsBack.{things_of}
 use Rattle.ap_pipe.proofs.ItemsRead.{with_translations, remade, all_remade, lookup_back}
+
+-- what is written for an item without a match, and the step where a rule matches some units
+abbrev seen_text : Sees → Rules → Item → List ℕ
+seen_text sees rules thing = lone_text (λ words. default_of rules (sees words)) rules thing
+
+abbrev seen_taken : Sees → Rules → Held → List Read → Option Choice → Step
+seen_taken sees rules vars items chosen =
+    match_step (λ rule taken. seen_run sees rules rule vars taken)
+    (seen_alone sees rules vars items) rules items chosen
 
 -- what a rule sees behind bilingual lookup, and in joined transfer
 
@@ -203,8 +213,8 @@ units_same lexicon rs ss h =
 
 -- an item without a match
 lone_same : (lexicon : Lexicon) (rules : Rules) (thing : Item) →
-    lone_text translated rules (remade lexicon thing)
-    ≡ lone_text (sees_joined lexicon) rules thing
+    seen_text translated rules (remade lexicon thing)
+    ≡ seen_text (sees_joined lexicon) rules thing
 lone_same lexicon rules (item.Plain c) = refl
 lone_same lexicon rules (item.Blank bytes) = refl
 lone_same lexicon rules (item.Unit words) =
@@ -220,7 +230,7 @@ step_at over step = if over then Stops limit.SpanTooLong else step
 -- steps
 module _ (lexicon : Lexicon) (rules : Rules) (keep : KeepQueues (plain_rules rules)) where
   run_same : (rule : ℕ) (vars : Held) (rs ss : List Read) → Same lexicon rs ss →
-      run_step translated rules rule vars ss ≡ run_step (sees_joined lexicon) rules rule vars rs
+      seen_run translated rules rule vars ss ≡ seen_run (sees_joined lexicon) rules rule vars rs
   run_same rule vars rs ss h =
       ap (λ n. acted_step n (blanks_of ss) (act_of (plain_rules rules) rule
       (record { chunk = None; units = seen_items translated ss }) vars))
@@ -237,28 +247,28 @@ module _ (lexicon : Lexicon) (rules : Rules) (keep : KeepQueues (plain_rules rul
       (record { chunk = None; units = seen_items (sees_joined lexicon) rs }) vars keep)
 
   alone_same : (vars : Held) (rs ss : List Read) → Same lexicon rs ss →
-      alone_step translated rules vars ss ≡ alone_step (sees_joined lexicon) rules vars rs
+      seen_alone translated rules vars ss ≡ seen_alone (sees_joined lexicon) rules vars rs
   alone_same vars [] [] h = refl
   alone_same vars [] (s ∷ ss) h = absurd h
   alone_same vars (r ∷ rs) [] h = absurd h
   alone_same vars (r ∷ rs) (s ∷ ss) h =
-      ap (λ (thing : Item). lone_step vars (lone_text translated rules thing)) h.0
+      ap (λ (thing : Item). lone_step vars (seen_text translated rules thing)) h.0
       ∙ ap (lone_step vars) (lone_same lexicon rules r.item)
 
   taken_same : (vars : Held) (rs ss : List Read) (c : Option Choice) → Same lexicon rs ss →
-      taken_step translated rules vars ss c ≡ taken_step (sees_joined lexicon) rules vars rs c
+      seen_taken translated rules vars ss c ≡ seen_taken (sees_joined lexicon) rules vars rs c
   taken_same vars rs ss None h = alone_same vars rs ss h
   taken_same vars rs ss (Some c) h =
       ap (λ (parts : List Part). if nat_lt 0 c.size
-      then run_step translated rules c.rule vars (take (taken_by c.size parts) ss)
-      else alone_step translated rules vars ss) (parts_same lexicon rules rs ss h)
+      then seen_run translated rules c.rule vars (take (taken_by c.size parts) ss)
+      else seen_alone translated rules vars ss) (parts_same lexicon rules rs ss h)
       ∙ by (taken_by c.size (parts_of rules rs)) (nat_lt 0 c.size)
     where
       by : (n : ℕ) (v : Bool) →
-          (if v then run_step translated rules c.rule vars (take n ss)
-          else alone_step translated rules vars ss)
-          ≡ (if v then run_step (sees_joined lexicon) rules c.rule vars (take n rs)
-          else alone_step (sees_joined lexicon) rules vars rs)
+          (if v then seen_run translated rules c.rule vars (take n ss)
+          else seen_alone translated rules vars ss)
+          ≡ (if v then seen_run (sees_joined lexicon) rules c.rule vars (take n rs)
+          else seen_alone (sees_joined lexicon) rules vars rs)
       by n true = run_same c.rule vars (take n rs) (take n ss) (same_take lexicon n rs ss h)
       by n false = alone_same vars rs ss h
 
@@ -269,10 +279,10 @@ module _ (lexicon : Lexicon) (rules : Rules) (keep : KeepQueues (plain_rules rul
       (parts_same lexicon rules rs ss h)
 
   chosen_same : (vars : Held) (rs ss : List Read) → Same lexicon rs ss →
-      taken_step translated rules vars ss (choice rules ss)
-      ≡ taken_step (sees_joined lexicon) rules vars rs (choice rules rs)
+      seen_taken translated rules vars ss (choice rules ss)
+      ≡ seen_taken (sees_joined lexicon) rules vars rs (choice rules rs)
   chosen_same vars rs ss h =
-      ap (taken_step translated rules vars ss) (choice_same rs ss h)
+      ap (seen_taken translated rules vars ss) (choice_same rs ss h)
       ∙ taken_same vars rs ss (choice rules rs) h
 
   -- both go on from there to the same text
@@ -301,8 +311,8 @@ module _ (lexicon : Lexicon) (rules : Rules) (keep : KeepQueues (plain_rules rul
   agree vars zero (r ∷ rs) (s ∷ ss) h e f =
       by (nat_lt span_max (bytes_of (take (span rules (r ∷ rs)) (r ∷ rs))))
       (nat_lt span_max (bytes_of (take (span rules (s ∷ ss)) (s ∷ ss))))
-      (taken_step (sees_joined lexicon) rules vars (r ∷ rs) (choice rules (r ∷ rs)))
-      (taken_step translated rules vars (s ∷ ss) (choice rules (s ∷ ss)))
+      (seen_taken (sees_joined lexicon) rules vars (r ∷ rs) (choice rules (r ∷ rs)))
+      (seen_taken translated rules vars (s ∷ ss) (choice rules (s ∷ ss)))
       (chosen_same vars (r ∷ rs) (s ∷ ss) h) (λ held n. agree held n rs ss h.1) e f
     where
       same : (step : Step) → ((held : Held) (n : ℕ) → Agree held n rs ss) →
@@ -325,22 +335,8 @@ module _ (lexicon : Lexicon) (rules : Rules) (keep : KeepQueues (plain_rules rul
 
 -- transfer of a bilingual text is by what a rule sees of a unit
 
-own_seen : (thing : Item) → matched_item thing ≡ seen_item translated thing
-own_seen (item.Plain c) = refl
-own_seen (item.Blank bytes) = refl
-own_seen (item.Unit words) = refl
-own_seen (item.Chunk c) = refl
-
-items_seen : (rs : List Read) → matched_items rs ≡ seen_items translated rs
-items_seen [] = refl
-items_seen (r ∷ rs) =
-    flat_map-cons (λ (read : Read). matched_item read.item) r rs
-    ∙ ap (λ (us : List MatchedUnit). us ++ matched_items rs) (own_seen r.item)
-    ∙ ap (λ (us : List MatchedUnit). seen_item translated r.item ++ us) (items_seen rs)
-    ∙ sym (flat_map-cons (λ (read : Read). seen_item translated read.item) r rs)
-
 module _ (rules : Rules) (form : rules.form ≡ Transfer) where
-  lone_seen : (thing : Item) → unmatched_text rules thing ≡ lone_text translated rules thing
+  lone_seen : (thing : Item) → unmatched_text rules thing ≡ seen_text translated rules thing
   lone_seen (item.Plain c) = refl
   lone_seen (item.Blank bytes) = refl
   lone_seen (item.Unit words) =
@@ -349,28 +345,25 @@ module _ (rules : Rules) (form : rules.form ≡ Transfer) where
   lone_seen (item.Chunk c) = refl
 
   alone_seen : (vars : Held) (rs : List Read) →
-      unmatched_step rules vars rs ≡ alone_step translated rules vars rs
+      unmatched_step rules vars rs ≡ seen_alone translated rules vars rs
   alone_seen vars [] = refl
   alone_seen vars (r ∷ rs) = ap (lone_step vars) (lone_seen r.item)
 
   run_seen : (rule : ℕ) (vars : Held) (rs : List Read) →
-      rule_step rules rule vars rs ≡ run_step translated rules rule vars rs
+      rule_step rules rule vars rs ≡ seen_run translated rules rule vars rs
   run_seen rule vars rs =
       ap (λ (f : Form). acted_step (length rs) (blanks_of rs)
       (act_of (plain_rules rules) rule (matched_of f rs) vars)) form
-      ∙ ap (λ (units : List MatchedUnit). acted_step (length rs) (blanks_of rs)
-      (act_of (plain_rules rules) rule (record { chunk = None; units = units }) vars))
-      (items_seen rs)
 
   taken_seen : (vars : Held) (rs : List Read) (c : Option Choice) →
-      chosen_step rules vars rs c ≡ taken_step translated rules vars rs c
+      chosen_step rules vars rs c ≡ seen_taken translated rules vars rs c
   taken_seen vars rs None = alone_seen vars rs
   taken_seen vars rs (Some c) = by (taken_by c.size (parts_of rules rs)) (nat_lt 0 c.size)
     where
       by : (n : ℕ) (v : Bool) →
           (if v then rule_step rules c.rule vars (take n rs) else unmatched_step rules vars rs)
-          ≡ (if v then run_step translated rules c.rule vars (take n rs)
-          else alone_step translated rules vars rs)
+          ≡ (if v then seen_run translated rules c.rule vars (take n rs)
+          else seen_alone translated rules vars rs)
       by n true = run_seen c.rule vars (take n rs)
       by n false = alone_seen vars rs
 
@@ -429,9 +422,10 @@ pub none_last : (a : Option RowFault) (n : ℕ) (b : Option StreamFault) → a �
     last_fault a n b ≡ None
 none_last a n b h k = rw (h, k) refl
 
-pub joined_agrees : JoinedAgrees
-joined_agrees lexicon rules text form keep gives e f =
-    let one = neither (seen_through (sees_joined lexicon) rules (reads Lexical 0 text).items).fault
+pub joined_agrees : (lexicon : Lexicon) → GivesReadable lexicon → JoinedAgrees lexicon
+joined_agrees lexicon gives rules text form keep e f =
+    let one = neither (carried (seen_step (sees_joined lexicon) rules) (start_of rules) 0
+    (reads Lexical 0 text).items).fault
     (reads Lexical 0 text).stop e in
     let row = last_none (last_fault None 2 (transferred_text rules
     (bilingual_text lexicon false text Clean).text Clean).fault) 1
@@ -441,7 +435,7 @@ joined_agrees lexicon rules text form keep gives e f =
     let first = neither (each (bilingual_unit lexicon false) (reads Lexical 0 text).items).fault
     (reads Lexical 0 text).stop row.1 in
     let is = transfer_sees rules (bilingual_text lexicon false text Clean).text Clean form in
-    let other = neither (seen_through translated rules
+    let other = neither (carried (seen_step translated rules) (start_of rules) 0
     (reads Bilingual 0 (bilingual_text lexicon false text Clean).text).items).fault
     (reads Bilingual 0 (bilingual_text lexicon false text Clean).text).stop
     (ap (λ (t : Told). t.fault) (sym is) ∙ second.1) in

@@ -1,6 +1,6 @@
 -- A whole row with joined transfer agrees with the row with bilingual lookup and transfer.
 use Rattle.std.specs.Prelude.{◌≡◌, ℕ, suc, false, List, [], ◌∷◌, ◌++◌, None, refl}
-use Rattle.std.proofs.Common.{ap}
+use Rattle.std.proofs.Common.{ap, sym, subst}
 use Rattle.ap_stream.specs.Told.{Ending, Clean, cut_told}
 use Rattle.ap_live.specs.Lexicon.{Lexicon}
 use Rattle.ap_live.specs.Readable.{GivesReadable}
@@ -58,7 +58,7 @@ module _ (lexicon : Lexicon) (rules : Rules) (form : rules.form ≡ Transfer)
       second.1) first.1 in
       same_text behind (suc n) (suc (suc n)) (joined_text lexicon rules x Clean).text
       (transferred_text rules (bilingual_text lexicon false x Clean).text Clean).text Clean
-      (joined_agrees lexicon rules x form keep gives one.1 both)
+      (joined_agrees lexicon gives rules x form keep one.1 both)
 
   -- behind other stages
   behind_stages : (front : List Meaning) (n : ℕ) (x : List ℕ) →
@@ -87,9 +87,9 @@ module _ (lexicon : Lexicon) (rules : Rules) (form : rules.form ≡ Transfer)
       (last_none (meaning (suc n) (front ++ with_lookup) (cut_told end (s x end)).text Clean).fault
       n (cut_told end (s x end)).fault f).0
 
-pub joined_rows_agree : JoinedRowsAgree
-joined_rows_agree p text ending form keep gives e f =
-    behind_first p.bilingual p.transfer form keep gives
+pub joined_rows_agree : (lexicon : Lexicon) → GivesReadable lexicon → JoinedRowsAgree lexicon
+joined_rows_agree lexicon gives p text ending same form keep e f =
+    behind_first p.bilingual p.transfer form keep (subst GivesReadable (sym same) gives)
     (interchunked_text p.interchunk ∷ postchunked_text p.postchunk
     ∷ generated_text p.generator p.marks false ∷ post_generated_text p.post false ∷ [])
     (analysis p.analyser false) (first_pass ∷ split_pass ∷ []) 1 text ending e f

@@ -3,7 +3,6 @@ use Rattle.std.specs.Prelude.{◌≡◌, ℕ, false, List, [], ◌∷◌, None}
 use Rattle.ap_stream.specs.Told.{Told, Ending, Clean}
 use Rattle.ap_stream.specs.declared.dialect.Dialect.TheVariants.{Bilingual}
 use Rattle.ap_live.specs.Lexicon.{Lexicon}
-use Rattle.ap_live.specs.Readable.{GivesReadable}
 use Rattle.ap_analysis.specs.Whole.{analysis}
 use Rattle.ap_passes.specs.Passes.{first_pass, split_pass}
 use Rattle.ap_lookup.specs.PostWorks.{post_generated_text}
@@ -31,12 +30,11 @@ TransferSees = (rules : Rules) (text : List ℕ) (ending : Ending) → rules.for
 abbrev pub looked_up_first : Lexicon → Rules → List Meaning
 looked_up_first lexicon rules = bilingual_text lexicon false ∷ transferred_text rules ∷ []
 
--- Rules of transfer in which no clip leaves out a queue, and a dictionary whose right words can be
--- written: where neither joined transfer nor transfer behind bilingual lookup has a fault, they
--- give the same text.
-abbrev pub JoinedAgrees : Type 0
-JoinedAgrees = (lexicon : Lexicon) (rules : Rules) (text : List ℕ) → rules.form ≡ Transfer
-    → KeepQueues (plain_rules rules) → GivesReadable lexicon
+-- Rules of transfer in which no clip leaves out a queue, and a bilingual dictionary: where neither
+-- joined transfer nor transfer behind bilingual lookup has a fault, they give the same text.
+abbrev pub JoinedAgrees : Lexicon → Type 0
+JoinedAgrees lexicon = (rules : Rules) (text : List ℕ) → rules.form ≡ Transfer
+    → KeepQueues (plain_rules rules)
     → (joined_text lexicon rules text Clean).fault ≡ None
     → (meaning 1 (looked_up_first lexicon rules) text Clean).fault ≡ None
     → (joined_text lexicon rules text Clean).text
@@ -66,10 +64,11 @@ nine_stages p = analysis p.analyser false ∷ first_pass ∷ split_pass
     ∷ interchunked_text p.interchunk ∷ postchunked_text p.postchunk
     ∷ generated_text p.generator p.marks false ∷ post_generated_text p.post false ∷ []
 
--- where neither row has a fault, they give the same text
-abbrev pub JoinedRowsAgree : Type 0
-JoinedRowsAgree = (p : Pair) (text : List ℕ) (ending : Ending) → p.transfer.form ≡ Transfer
-    → KeepQueues (plain_rules p.transfer) → GivesReadable p.bilingual
+-- With this bilingual dictionary, and rules of transfer in which no clip leaves out a queue: where
+-- neither row has a fault, they give the same text.
+abbrev pub JoinedRowsAgree : Lexicon → Type 0
+JoinedRowsAgree lexicon = (p : Pair) (text : List ℕ) (ending : Ending) → p.bilingual ≡ lexicon
+    → p.transfer.form ≡ Transfer → KeepQueues (plain_rules p.transfer)
     → (meaning 1 (eight_stages p) text ending).fault ≡ None
     → (meaning 1 (nine_stages p) text ending).fault ≡ None
     → (meaning 1 (eight_stages p) text ending).text ≡ (meaning 1 (nine_stages p) text ending).text

@@ -3,4 +3,4 @@ use Rattle.ap_exec.specs.Beginning.{lead_in, from_first}
 use Rattle.ap_exec.proofs.beginning.positions_of.Given as goal
 
 abbrev pub invariant-numbers : goal.invariant-numbers
-invariant-numbers l = l.here.items ≡ lead_in l.fn.has_chunk ++ from_first l.number
+invariant-numbers l = l.positions.items ≡ lead_in l.fn.has_chunk ++ from_first l.number

@@ -1,5 +1,6 @@
 use Rattle.std.proofs.Common.{◌≡◌, ◌++◌, drop, List}
-use Rattle.ap_exec.specs.Filling.{Mark, goes_on, atoms_marks}
+use Rattle.ap_exec.specs.Filling.{Mark, atoms_marks}
+use Rattle.ap_exec.specs.FillingParts.{goes_on}
 use Rattle.ap_exec.proofs.filling.put_atoms.Given as goal
 
 abbrev pub invariant-atoms : goal.invariant-atoms

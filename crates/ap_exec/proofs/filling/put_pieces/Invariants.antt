@@ -1,5 +1,6 @@
 use Rattle.std.proofs.Common.{◌≡◌, ◌++◌, drop, List}
-use Rattle.ap_exec.specs.Filling.{Mark, goes_on, marks}
+use Rattle.ap_exec.specs.Filling.{Mark, marks}
+use Rattle.ap_exec.specs.FillingParts.{goes_on}
 use Rattle.ap_exec.proofs.filling.put_pieces.Given as goal
 
 abbrev pub invariant-pieces : goal.invariant-pieces

@@ -5,6 +5,6 @@ use Rattle.ap_exec.proofs.running.push_places.Given as goal
 
 abbrev pub invariant-params : goal.invariant-params
 invariant-params l =
-    let here = between l.scope.from l.scope.to l.fn.positions.items in
+    let positions = between l.scope.from l.scope.to l.fn.positions.items in
     l.positions.items ≡ take l.scope.to l.fn.positions.items
-    ++ (number_at here 0 ∷ map (number_at here) (take l.param-index l.params))
+    ++ (number_at positions 0 ∷ map (number_at positions) (take l.param-index l.params))

@@ -1,18 +1,18 @@
 use Rattle.std.proofs.Common.{◌≡◌, refl, ◌∙◌, ◌++◌, ap, sym, arith, List, ℕ, take, length}
 use Rattle.ap_exec.specs.Results.{Ran, ◌>>=◌}
-use Rattle.ap_exec.specs.Running.{Now, places_of}
-use Rattle.ap_exec.specs.Stacks.{unwound, here_of}
-use Rattle.ap_exec.specs.States.{still}
-use Rattle.ap_exec.proofs.Stacking.{called_past, nested_higher, behind_reaches, call_leads, call_costs}
+use Rattle.ap_exec.specs.Running.{RunState, places_of}
+use Rattle.ap_exec.specs.Stacks.{unwound, positions_within}
+use Rattle.ap_exec.specs.States.{definitions}
+use Rattle.ap_exec.proofs.Stacking.{macros_past, nested_higher, behind_reaches, call_leads, call_costs}
 use Rattle.ap_exec.proofs.running.run_call.Goals as goal
 
 pub returns-then-held-scope-clause-left : goal.returns-then-held-scope-clause-left
 returns-then-held-scope-clause-left c = λ s.
-    let w = still c.args.world in
-    sym (ap (λ (r : Ran Now). r >>= unwound w c.args.stack.now.positions.items
+    let w = definitions c.args.world in
+    sym (ap (λ (r : Ran RunState). r >>= unwound w c.args.stack.now.positions.items
     c.args.stack.now.frames.items)
-    (called_past w c.args.scope.visible c.args.held.now.n
-    (places_of (here_of c.args.stack.now.positions.items c.args.scope)
+    (macros_past w c.args.scope.visible c.args.held.now.n
+    (places_of (positions_within c.args.stack.now.positions.items c.args.scope)
     c.args.held.now.params.items) s c.if-held-scope.true))
 
 pub returns-then-held-scope-clause-nested : goal.returns-then-held-scope-clause-nested
@@ -25,7 +25,7 @@ push-requires c =
     let behind = c.in_ok-push_places.ensures in
     let count : c.len.result ≡ length c.push_places.new.positions.items =
     c.len.ensures ∙ c.push_places.new.positions.ok.0 in
-    let reach = behind_reaches (still c.args.world) c.args.stack.now.positions.items
+    let reach = behind_reaches (definitions c.args.world) c.args.stack.now.positions.items
     c.push_places.new.positions.items _ c.args.stack.now.frames.items c.args.scope
     c.args.held.now.n c.len.result c.body_at.result.now c.requires.is_scope.within
     c.requires.below behind count in
@@ -37,23 +37,23 @@ push-requires c =
 
 pub returns-clause-left : goal.returns-clause-left
 returns-clause-left c = λ s.
-    let w = still c.args.world in
+    let w = definitions c.args.world in
     let count : c.len.result ≡ length c.push_places.new.positions.items =
     c.len.ensures ∙ c.push_places.new.positions.ok.0 in
-    let here = here_of c.args.stack.now.positions.items c.args.scope in
+    let positions = positions_within c.args.stack.now.positions.items c.args.scope in
     c.in_ok-push.ensures.left w s
     ∙ call_leads w c.args.stack.now.positions.items c.push_places.new.positions.items
-    (places_of here c.args.held.now.params.items) c.args.stack.now.frames.items c.args.scope
+    (places_of positions c.args.held.now.params.items) c.args.stack.now.frames.items c.args.scope
     c.args.held.now.n c.len.result c.body_at.result.now c.requires.is_scope.within
     c.requires.below
     (c.in_ok-push_places.ensures
     ∙ ap (λ (ps : List ℕ). take c.args.scope.to c.args.stack.now.positions.items
-    ++ places_of here ps) c.deref.ensures.value) count c.if-held-scope.false
+    ++ places_of positions ps) c.deref.ensures.value) count c.if-held-scope.false
     (c.body_at.ensures w refl) s
 
 pub returns-clause-cost : goal.returns-clause-cost
 returns-clause-cost c =
-    let w = still c.args.world in
+    let w = definitions c.args.world in
     let count : c.len.result ≡ length c.push_places.new.positions.items =
     c.len.ensures ∙ c.push_places.new.positions.ok.0 in
     let cost = call_costs w c.args.stack.now.positions.items c.push_places.new.positions.items _

@@ -1,9 +1,9 @@
 use Rattle.ap_exec.proofs.TextSizes.{texts_are_counted}
-use Rattle.ap_exec.proofs.SizeLaws.{room_is_less_by_pieces, limit_is_by_sizes, outputs_are_within}
+use Rattle.ap_exec.proofs.SizeLaws.{pieces_are_added, limit_is_by_sizes, outputs_are_within}
 use Rattle.ap_exec.proofs.size_laws.pieces_are_counted.Goals as goal
 
-pub returns-clause-room : goal.returns-clause-room
-returns-clause-room c = room_is_less_by_pieces
+pub returns-clause-added : goal.returns-clause-added
+returns-clause-added c = pieces_are_added
 
 pub returns-clause-limit : goal.returns-clause-limit
 returns-clause-limit c = limit_is_by_sizes
