@@ -1,4 +1,4 @@
-use Rattle.std.proofs.Common.{◌≡◌, ◌∙◌, ◌++◌, ap, List, length, is_some, Bool, ℕ, Ok}
+use Rattle.std.proofs.Common.{◌≡◌, ◌∙◌, ◌++◌, ap, sym, List, length, is_some, Bool, ℕ, Ok}
 use Rattle.std.proofs.lemmas.Result.{err_from_is_err_and}
 use Rattle.ap_symbol.specs.declared.symbol.Symbol.{Symbol}
 use Rattle.ap_rules.specs.Views.{plain_rules}
@@ -85,3 +85,9 @@ returns c = λ m units_are chunk_is.
       vars =
           overlaid vars c.run_body.new.state.fresh.items;
     }) in x) c.world_of-world.ensures.vars
+    ∙ ap (λ pieces. let x : Ran Outcome =
+    Ok (record {
+      pieces = pieces;
+      vars =
+          overlaid c.args.vars.now c.run_body.new.state.fresh.items;
+    }) in x) (sym c.into_template-pieces.ensures)
