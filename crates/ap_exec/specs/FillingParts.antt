@@ -1,4 +1,5 @@
--- What the parts of the code that fills a template write. Nothing public cites this.
+-- Of the inside: no public contract stands on this file.
+-- What the parts of the code that fills a template write.
 use Rattle.std.specs.Prelude.{◌≡◌, ℕ, true, List, ◌++◌, Result, Ok, Err}
 use Rattle.ap_exec.specs.Filling.{Mark, filled, is_over}
 use Rattle.ap_exec.specs.declared.filling.Filling.{Filling}
