@@ -3,7 +3,7 @@ use Rattle.std.specs.Prelude.{◌≡◌, ◌⊎◌, ℕ, suc, zero, ◌+◌, ◌
 use Rattle.std.proofs.Common.{arith, ap, sym, ◌∙◌, subst, inl, inr, get_or}
 use Rattle.std.proofs.lemmas.Bool.{cases_lt}
 use Rattle.std.proofs.lemmas.Bool.Decides.{nat_tests}
-use Rattle.std.proofs.lemmas.List.{length-take, length-append, take-append-drop, take-map, drop-map, take_all, length-map, take-take, take_more}
+use Rattle.std.proofs.lemmas.List.{length-take, length-append, take-append-drop, take-map, drop-map, take_all, length-map, take-take}
 use Rattle.std.proofs.Math.Seq.{take-add}
 use Rattle.ap_symbol.specs.Words.{is_white as white_letter}
 use Rattle.ap_symbol.specs.declared.symbol.Symbol.{Symbol}
@@ -419,23 +419,6 @@ module _ (lexicon : Lexicon) (sensitive : Bool) (whole : IsCoherent lexicon) (pi
         (ap (λ (k : ℕ). follows_key true (drop k bytes)) (sym size_key) ∙ follows)
         (ap (λ (k : ℕ). take k bytes) (sym size_key) ∙ same) short place;
   }
-
--- one byte more is read
-pub read_more : (piece : List ℕ) (reads : List Read) (byte : ℕ) → AreRead piece reads →
-    length reads < length piece → length reads < 256 → byte ≡ get_or piece (length reads) 0 →
-    AreRead piece (reads ++ byte_read byte ∷ [])
-read_more piece reads byte is more few e =
-    let size : length (reads ++ byte_read byte ∷ []) ≡ length reads + 1 =
-    (let k = length-append reads (byte_read byte ∷ []) in omega (arith, k)) in
-    record {
-      most = omega (arith, size, more);
-      few = omega (arith, size, few);
-      are = ap (λ (rs : List Read). rs ++ byte_read byte ∷ []) is.are
-          ∙ ap (λ (b : ℕ). byte_reads (take (length reads) piece) ++ byte_read b ∷ []) e
-          ∙ sym (joined (take (length reads) piece) (get_or piece (length reads) 0 ∷ []))
-          ∙ ap byte_reads (sym (take_more piece (length reads) 0 more))
-          ∙ ap (λ (k : ℕ). byte_reads (take k piece)) (sym size);
-    }
 
 pub sought_gives : (lexicon : Lexicon) (sensitive : Bool) (piece : List ℕ) (reads : List Read)
     (count : ℕ) (text : List ℕ) → AreRead piece reads →

@@ -1,6 +1,5 @@
 -- Surfaces of small letters.
-use Rattle.std.proofs.Common.{◌≡◌, ◌⊎◌, inl, inr, ℕ, ◌+◌, ◌≤◌, ◌<◌, Bool, true, false, List, [], ◌∷◌, ◌++◌, refl, sym, ◌∙◌, ap, subst, arith, Option, Some, None, length, take, map, suc, zero, encode_utf8, if◌then◌else◌}
-use Rattle.std.specs.Prelude.{◌&&◌}
+use Rattle.std.proofs.Common.{◌≡◌, inl, inr, ℕ, ◌≤◌, ◌<◌, Bool, true, false, List, [], ◌∷◌, ◌++◌, refl, sym, ◌∙◌, ap, arith, Some, None, length, take, map, suc, zero, encode_utf8, if◌then◌else◌}
 use Rattle.std.specs.Char.{is_ascii_lowercase}
 use Rattle.std.specs.List.{list_all}
 use Rattle.std.proofs.lemmas.Bool.{and_parts}
@@ -20,7 +19,7 @@ use Rattle.ap_stream.specs.Bare.{bare_item}
 use Rattle.ap_stream.specs.Blanks.{is_white as is_white_byte}
 use Rattle.ap_stream.specs.declared.item.Item.TheVariants as item
 use Rattle.ap_stream.specs.declared.item.Read.{Read}
-use Rattle.ap_analysis.specs.Fronts.{AreRead, byte_read, byte_reads}
+use Rattle.ap_analysis.specs.Fronts.{byte_read, byte_reads}
 use Rattle.ap_analysis.specs.Items.{symbol_of, symbols}
 use Rattle.ap_analysis.specs.Licence.{surface}
 use Rattle.ap_analysis.specs.Surfaces.{AreReadIfAny, IsSeen}

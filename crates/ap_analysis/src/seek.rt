@@ -12,6 +12,7 @@ use crate::items::read_of_byte;
 use crate::search::{Found, Search};
 use crate::writing::{Written, step_within, take_room};
 use ap_fst::Compiled;
+use ap_live::Walked;
 use ap_stream::{FRONT_MAX, Read, is_bare};
 use ap_symbol::{Bytes, Memory, Word, is_white};
 use std::alloc::Global;
@@ -80,7 +81,9 @@ fn found_in(
             return Ok(None);
         };
         read_on(alloc, piece, end, reads)?;
-        let found = search.look(compiled, sensitive, reads.as_slice(), false, asks)?;
+        let mut walked = Walked::new(alloc);
+        let items = reads.as_slice();
+        let found = search.look(&mut walked, compiled, sensitive, items, false, asks)?;
         if found.is_some() {
             return Ok(found);
         }

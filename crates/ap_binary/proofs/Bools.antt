@@ -9,10 +9,6 @@ or_cases false b h = inr h
 pub both_true : (a b : Bool) → a ≡ true → b ≡ true → (a && b) ≡ true
 both_true a b e f = rw (e, f) refl
 
-pub and_false : (b : Bool) → false ≡ (b && false)
-and_false true = refl
-and_false false = refl
-
 pub not_true : (b : Bool) → not b ≡ true → b ≡ false
 not_true true h = sym h
 not_true false h = refl

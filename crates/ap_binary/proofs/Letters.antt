@@ -1,5 +1,5 @@
 -- The letters of an alphabet's line.
-use Rattle.std.proofs.Common.{◌≡◌, inl, inr, ℕ, suc, zero, ◌+◌, ◌<◌, ◌≤◌, Bool, true, false, not, ◌&&◌, nat_le, List, [], ◌∷◌, ◌++◌, length, get_or, refl, sym, ◌∙◌, ap, subst, append_assoc, append-nil, arith, Option, Some, None}
+use Rattle.std.proofs.Common.{◌≡◌, inl, inr, ℕ, suc, zero, ◌+◌, ◌<◌, ◌≤◌, Bool, true, false, not, nat_le, List, [], ◌∷◌, ◌++◌, length, refl, sym, ◌∙◌, ap, subst, append_assoc, append-nil, arith, Option, Some, None}
 use Rattle.std.specs.Prelude.{◌↔◌, IsTrue, if◌then◌else◌, codes, IfSome}
 use Rattle.std.specs.List.{list_all}
 use Rattle.std.specs.Ordering.{nat_cmp}
@@ -16,7 +16,7 @@ use Rattle.ap_binary.specs.Reading.{◌>>=◌, Fails}
 use Rattle.ap_binary.specs.Pieces.{is_character, scalar_of, unless_white, character_of, number_at, character_at, byte_at, word_at, begins_with, next_letter_at, with_letters, letters_in, alphabet_at}
 use Rattle.ap_binary.specs.declared.refusal.CutError.{CutError}
 use Rattle.ap_binary.specs.declared.refusal.CutError.TheVariants.{Bad, Memory}
-use Rattle.ap_binary.proofs.Bools.{and_false, same_bool}
+use Rattle.ap_binary.proofs.Bools.{same_bool}
 use Rattle.ap_binary.proofs.Options.{bound, IsBound, some_if, some_unless, bind_some, chosen_if}
 
 -- ---- reading goes on
@@ -170,13 +170,6 @@ letters_are (suc n) least bytes letters rest h = elim (cases_Bool (begins_with 3
 pub listed_is : (xs : List ℕ) (c : ℕ) (b : Bool) → (IsTrue b ↔ IsIn c xs) → b ≡ has_letter xs c
 listed_is xs c b h = same_bool b (has_letter xs c) (λ t. in_has xs c (h.0 t))
     (λ t. h.1 (has_in xs c t))
-
-pub fails_at : {X : Type 0} (p : X → Bool) (xs : List X) (i : ℕ) (d : X) → i < length xs →
-    p (get_or xs i d) ≡ false → false ≡ list_all p xs
-fails_at p [] i d lt e = absurd (omega arith)
-fails_at p (x ∷ xs) zero d lt e = rw e refl
-fails_at p (x ∷ xs) (suc i) d lt e =
-    and_false (p x) ∙ ap (λ z. p x && z) (fails_at p xs i d (omega arith) e)
 
 -- ---- the alphabet
 

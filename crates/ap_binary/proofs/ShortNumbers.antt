@@ -1,5 +1,5 @@
 -- A number that is read digit by digit in one pass.
-use Rattle.std.proofs.Common.{◌≡◌, ℕ, ◌+◌, ◌-◌, ◌*◌, ◌<◌, ◌≤◌, ◌^◌, Bool, true, false, List, [], ◌∷◌, refl, sym, ◌∙◌, ap, subst, arith, length, take, drop, suc, Option, Some, None}
+use Rattle.std.proofs.Common.{◌≡◌, ℕ, ◌+◌, ◌-◌, ◌*◌, ◌≤◌, Bool, true, false, List, [], ◌∷◌, refl, sym, ◌∙◌, ap, subst, arith, length, take, drop, suc, Option, Some, None}
 use Rattle.std.specs.List.{prefix_len}
 use Rattle.std.proofs.lemmas.Bool.{cond-true, cond-false}
 use Rattle.std.proofs.lemmas.List.Sums.{prefix_len-le-length}
@@ -43,19 +43,6 @@ read_on bytes value len b front d is =
       len_is = omega arith;
       value_is = sym (front_value value b (drop (len + 1) bytes) d)
           ∙ ap (λ (z : List ℕ). value_after value (digits z)) (sym front) ∙ is.value_is;
-    }
-
-pub read_up : (bytes : List ℕ) (value len : ℕ) → prefix_len is_digit (drop len bytes) ≡ 0 →
-    value < 2 ^ 64 → IsSoFar bytes value len → IsShort bytes value len
-read_up bytes value len none small is =
-    let whole : len + prefix_len is_digit (drop len bytes) ≡ prefix_len is_digit bytes =
-    is.len_is in
-    let all : len ≡ prefix_len is_digit bytes = omega arith in
-    record {
-      len_is = all;
-      value_is = ap (λ n. value_after value (take n (drop len bytes))) (sym none) ∙ is.value_is
-          ∙ ap (λ n. value_after 0 (take n bytes)) (sym all);
-      small = small;
     }
 
 -- what is read of bytes whose digits are so many, by whether they are a numeral

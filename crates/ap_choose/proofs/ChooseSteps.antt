@@ -84,20 +84,6 @@ count_append [] xs = omega arith
 count_append (read ∷ items) xs = let a = count_more read (items ++ xs) in let b =
     count_more read items in let c = count_append items xs in omega (arith, a, b, c)
 
-unit_within : (n : ℕ) (items : List Read) → unit_place n items ≤ length items
-unit_within n [] = omega arith
-unit_within zero (read ∷ items) = by (is_unit read.item) (unit_within zero items)
-  where
-    by : (c : Bool) {k m : ℕ} → k ≤ m → cond c 0 (suc k) ≤ suc m
-    by true le = omega arith
-    by false le = omega (arith, le)
-unit_within (suc n) (read ∷ items) = by (is_unit read.item) (unit_within n items)
-    (unit_within (suc n) items)
-  where
-    by : (c : Bool) {j k m : ℕ} → j ≤ m → k ≤ m → suc (cond c j k) ≤ suc m
-    by true a b = omega (arith, a)
-    by false a b = omega (arith, b)
-
 unit_grows : (n : ℕ) (items xs : List Read) → unit_place n items ≤ unit_place n (items ++ xs)
 unit_grows n [] xs = omega arith
 unit_grows zero (read ∷ items) xs = by (is_unit read.item) (unit_grows zero items xs)
@@ -111,11 +97,6 @@ unit_grows (suc n) (read ∷ items) xs = by (is_unit read.item) (unit_grows n it
     by : (c : Bool) {j k l m : ℕ} → j ≤ l → k ≤ m → suc (cond c j k) ≤ suc (cond c l m)
     by true a b = omega (arith, a)
     by false a b = omega (arith, b)
-
--- it stands among items that have so many units
-pub record Stands (n : ℕ) (items xs : List Read) : Type 0 where
-  pub same : unit_place n (items ++ xs) ≡ unit_place n items
-  pub less : unit_place n items < length items
 
 zero_stands : (c : Bool) (a b k m : ℕ) → (0 < m → (b ≡ a) × (a < k)) → 0 < cond c 1 0 + m →
     (cond c 0 (suc b) ≡ cond c 0 (suc a)) × (cond c 0 (suc a) < suc k)

@@ -57,9 +57,6 @@ module _ (pairs : List Pair) where
 
   module _ (before : Reading) (units : List (List Reading)) (more : Reading → Option (List Reading))
       (finds : (one : Reading) → Finds one units (more one)) where
-    abbrev begin : List Reading → Option (List Reading) → Type 0
-    begin unit o = Finds before (unit ∷ units) o
-
     -- what begins with one reading
     data Tries (one : Reading) : Option (List Reading) → Type 0 where
       fails : {o : Option (List Reading)} → o ≡ None → ((row : List Reading) → IsChoice units row →

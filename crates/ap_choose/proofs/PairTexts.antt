@@ -49,14 +49,6 @@ pub record IsSoFar (text : List ℕ) (at line : ℕ) (found : List Pair) : Type 
   pub bad : (n : ℕ) → IsFirstBadOf (lines (drop at text)) (suc n) →
       IsFirstBadOf (lines text) (line + n)
 
-pub at_start : (text : List ℕ) → IsSoFar text 0 1 []
-at_start text = record {
-  within = omega arith;
-  count = omega arith;
-  said = λ more h. h;
-  bad = λ n h. let one : suc n ≡ 1 + n = omega arith in subst (IsFirstBadOf (lines text)) one h;
-}
-
 empty_says : Says [] []
 empty_says = record { utf8 = ([], (refl, refl)); shape = inl refl }
 

@@ -3,23 +3,19 @@ use Rattle.std.specs.Prelude.{◌≡◌, ℕ, suc, ◌+◌, ◌<◌, ◌≤◌, 
 use Rattle.std.proofs.Common.{arith, ap, sym, subst, ◌∙◌, inl, inr, append_assoc}
 use Rattle.std.proofs.lemmas.List.{append-nil, drop_more, drop_all}
 use Rattle.ap_symbol.specs.declared.symbol.Symbol.{Symbol}
-use Rattle.ap_stream.specs.declared.item.Item.{Item}
 use Rattle.ap_stream.specs.declared.item.Item.TheVariants as item
 use Rattle.ap_stream.specs.declared.item.Read.{Read}
 use Rattle.ap_choose.specs.declared.chance.Chance.{Chance}
 use Rattle.ap_choose.specs.Choice.{Reading, numbered, first_tag}
 use Rattle.ap_choose.specs.Chances.{has_number, Thins, AreThin}
 use Rattle.ap_choose.specs.Numbering.{number_of}
-use Rattle.ap_choose.specs.Sentences.{readings, unit_of, units}
+use Rattle.ap_choose.specs.Sentences.{units}
 
 -- the chances so far, of the words before a place
 pub record IsThinning (names : List (List ℕ)) (words : List (List Symbol)) (at : ℕ)
     (found : List Chance) : Type 0 where
   pub on : (more : List Chance) → Thins names found (numbered at (drop at words)) more →
       Thins names [] (numbered 0 words) (found ++ more)
-
-pub thin_start : (names : List (List ℕ)) (words : List (List Symbol)) → IsThinning names words 0 []
-thin_start names words = record { on = λ more h. h }
 
 pub thin_end : (names : List (List ℕ)) (words : List (List Symbol)) (at : ℕ) (found : List Chance) →
     length words ≤ at → IsThinning names words at found → Thins names [] (numbered 0 words) found
@@ -72,40 +68,9 @@ pub record AreThinning (names : List (List ℕ)) (items : List Read) (at : ℕ)
   pub on : (more : List (List Chance)) → AreThin names (units (drop at items)) more →
       AreThin names (units items) (found ++ more)
 
-pub units_start : (names : List (List ℕ)) (items : List Read) → AreThinning names items 0 []
-units_start names items = record { on = λ more h. h }
-
 pub units_end : (names : List (List ℕ)) (items : List Read) (at : ℕ) (found : List (List Chance)) →
     length items ≤ at → AreThinning names items at found → AreThin names (units items) found
 units_end names items at found le h =
     let none : units (drop at items) ≡ [] = ap units (drop_all at items le) in
     subst (AreThin names (units items)) (append-nil found)
     (h.on [] (subst (λ (us : List (List Reading)). AreThin names us []) (sym none) tt))
-
-module _ (names : List (List ℕ)) (items : List Read) (at : ℕ) (found : List (List Chance))
-    (h : AreThinning names items at found) (lt : at < length items) (read : Read)
-    (is : read ≡ get_or items at read) where
-  next_units : units (drop at items) ≡ unit_of read.item ++ units (drop (at + 1) items)
-  next_units = ap units (drop_more items at read lt ∙ ap (λ (r : Read). r ∷ drop (at + 1) items)
-      (sym is))
-
-  pub unit_more : (words : List (List Symbol)) (chances : List Chance) (new : List (List Chance)) →
-      read.item ≡ item.Unit words → Thins names [] (numbered 0 (readings words)) chances →
-      new ≡ found ++ chances ∷ [] → AreThinning names items (at + 1) new
-  unit_more words chances new e k n = record {
-    on = λ more j.
-        let all : units (drop at items) ≡ numbered 0 (readings words) ∷ units (drop (at + 1) items)
-        = next_units ∙ ap (λ (thing : Item). unit_of thing ++ units (drop (at + 1) items)) e in
-        subst (AreThin names (units items)) (sym (append_assoc found (chances ∷ []) more)
-        ∙ ap (λ (f : List (List Chance)). f ++ more) (sym n))
-        (h.on (chances ∷ more) (subst (λ (us : List (List Reading)). AreThin names us
-        (chances ∷ more)) (sym all) (k, j)));
-  }
-
-  pub other_more : unit_of read.item ≡ [] → AreThinning names items (at + 1) found
-  other_more e = record {
-    on =
-        λ more j. h.on more (subst (λ (us : List (List Reading)). AreThin names us more)
-        (sym (next_units
-        ∙ ap (λ (us : List (List Reading)). us ++ units (drop (at + 1) items)) e)) j);
-  }

@@ -1,5 +1,5 @@
 -- A turn of choosing at work, as its state is seen.
-use Rattle.std.specs.Prelude.{◌≡◌, ◌⊎◌, ℕ, ◌+◌, ◌<◌, ◌≤◌, nat_lt, nat_eq, Bool, true, false, not, ◌&&◌, ◌||◌, cond, List, [], ◌∷◌, ◌++◌, drop, length, get_or, refl}
+use Rattle.std.specs.Prelude.{◌≡◌, ◌⊎◌, ℕ, ◌+◌, ◌<◌, ◌≤◌, nat_lt, nat_eq, Bool, true, false, not, ◌&&◌, ◌||◌, cond, List, [], ◌∷◌, ◌++◌, drop, length, refl}
 use Rattle.std.specs.List.{AllByRecursion}
 use Rattle.std.proofs.Common.{arith, ap, sym, subst, ◌∙◌, inl, inr}
 use Rattle.std.proofs.lemmas.Bool.Decides.{nat_tests}
@@ -207,10 +207,3 @@ bytes_on items now new read e n =
     let a = bytes_append items (read ∷ []) in
     let b : bytes_of (items ++ read ∷ []) ≡ bytes_of items + read.size = omega (arith, a) in
     ap bytes_of n ∙ b ∙ ap (λ (z : List Read). bytes_of z + read.size) e
-
--- the first item, as a slice has it
-pub spelled_first : (items slice : List Read) (d : Read) → slice ≡ items → 0 < length items →
-    spelled (get_or slice 0 d).item ≡ first_spelled items
-spelled_first [] slice d e some = absurd (omega (arith, some))
-spelled_first (read ∷ items) slice d e some = ap (λ (q : List Read). spelled (get_or q 0 d).item) e
-    ∙ sym (append-nil (spelled read.item))

@@ -1,9 +1,9 @@
 -- The walk backwards over the units, and what the walk forwards finds.
-use Rattle.std.specs.Prelude.{◌≡◌, ℕ, suc, ◌-◌, ◌+◌, ◌<◌, ◌≤◌, Bool, true, List, [], ◌∷◌, ◌++◌, length, drop, reverse, get_or, Option, Some, None, refl}
+use Rattle.std.specs.Prelude.{◌≡◌, ℕ, suc, ◌-◌, ◌<◌, ◌≤◌, Bool, true, List, [], ◌∷◌, length, reverse, get_or, Option, Some, None, refl}
 use Rattle.std.specs.List.{filter}
 use Rattle.std.specs.Option.{option_map}
 use Rattle.std.proofs.Common.{arith, ap, sym, ◌∙◌}
-use Rattle.std.proofs.lemmas.List.{drop_more, length-reverse, get_or-reverse, reverse-append}
+use Rattle.std.proofs.lemmas.List.{length-reverse, get_or-reverse}
 use Rattle.ap_choose.specs.declared.chance.Chance.{Chance}
 use Rattle.ap_choose.specs.Chances.{bars_chances}
 use Rattle.ap_choose.specs.Choice.{firsts, allowed_choice}
@@ -14,9 +14,6 @@ use Rattle.ap_choose.proofs.Choices.{some_or, allowed_best, picked_best}
 filter_all : {X : Type 0} (xs : List X) → filter (λ _. true) xs ≡ xs
 filter_all [] = refl
 filter_all {X} (x ∷ xs) = ap (λ (q : List X). x ∷ q) (filter_all xs)
-
-reverse_push : {X : Type 0} (x : X) (xs : List X) → reverse (x ∷ xs) ≡ reverse xs ++ x ∷ []
-reverse_push x xs = reverse-append (x ∷ []) xs
 
 module _ {A : Type 0} (bars : A → A → Bool) where
   -- at the last unit
@@ -42,24 +39,6 @@ module _ {A : Type 0} (bars : A → A → Bool) where
       ∙ get_or-reverse (first ∷ units) (length units) next (omega arith)
       ∙ ap (λ (n : ℕ). get_or (first ∷ units) n next) zero in
       ap (λ (q : List A). filter (λ one. may_go bars one q) unit) found
-
-  -- one unit more
-  pub one_more : (unit : List A) (units : List (List A)) (left : ℕ) → 0 < left →
-      left ≤ length units → unit ≡ get_or units (left - 1) unit
-      → reverse (viable bars (drop left units)) ++ filter
-      (goes_on bars (viable bars (drop left units))) unit ∷ []
-      ≡ reverse (viable bars (drop (left - 1) units))
-  one_more unit units left some le is =
-      let cut : drop (left - 1) units ≡ unit ∷ drop left units = (
-      let next : left - 1 + 1 ≡ left = omega (arith, some) in
-      drop_here ∙ ap (λ (n : ℕ). get_or units (left - 1) unit ∷ drop n units) next
-      ∙ ap (λ (one : List A). one ∷ drop left units) (sym is)) in
-      sym (ap (λ (q : List (List A)). reverse (viable bars q)) cut
-      ∙ reverse_push (filter (goes_on bars (viable bars (drop left units))) unit)
-      (viable bars (drop left units)))
-    where
-      drop_here : drop (left - 1) units ≡ get_or units (left - 1) unit ∷ drop (left - 1 + 1) units
-      drop_here = drop_more units (left - 1) unit (omega (arith, some, le))
 
 module _ (numbers : Numbered) where
   abbrev start : Chance

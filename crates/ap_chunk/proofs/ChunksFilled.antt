@@ -238,11 +238,6 @@ left_good_atoms [] blanks h = h
 left_good_atoms (a ∷ more) blanks h = left_good_atoms more (left_by_atom a blanks)
     (left_good_atom a blanks h)
 
-good_append : (a b : List Inner) → GoodParts a → GoodParts b → GoodParts (a ++ b)
-good_append [] b h k = k
-good_append (inner.Unit words ∷ a) b h k = (h.0, good_append a b h.1 k)
-good_append (inner.Blank bytes ∷ a) b h k = (h.0, good_append a b h.1 k)
-
 atoms_good : (atoms : List Atom) (blanks : List (List ℕ)) → HoldAtoms atoms → AreGood blanks →
     GoodParts (atoms_parts atoms blanks)
 atoms_good [] blanks w h = tt

@@ -1,6 +1,6 @@
 -- The first step, by what the search found at the front; and that it is the same however the items
 -- go on.
-use Rattle.std.specs.Prelude.{◌≡◌, ℕ, zero, suc, ◌<◌, ◌≤◌, nat_lt, Bool, true, false, List, [], ◌∷◌, ◌++◌, length, take, Option, Some, None, Result, Ok, Err, refl, if◌then◌else◌}
+use Rattle.std.specs.Prelude.{◌≡◌, ℕ, zero, suc, ◌<◌, ◌≤◌, nat_lt, Bool, true, false, List, [], ◌∷◌, ◌++◌, length, take, Option, Some, None, refl, if◌then◌else◌}
 use Rattle.std.proofs.Common.{arith, ap, sym, ◌∙◌, subst}
 use Rattle.std.proofs.lemmas.List.{append-nil, take-append-le}
 use Rattle.ap_stream.specs.Limits.{span_max, unit_max}
@@ -11,42 +11,16 @@ use Rattle.ap_rules.specs.declared.rules.Form.{Form}
 use Rattle.ap_rules.specs.declared.rules.Rules.{Rules}
 use Rattle.ap_symbol.specs.declared.symbol.Symbol.{Symbol}
 use Rattle.ap_chunk.specs.Chunks.{first_words, first_text}
-use Rattle.ap_exec.specs.Acting.{Outcome}
-use Rattle.ap_exec.specs.Filling.{fill_of}
-use Rattle.ap_exec.specs.Results.{Ran, Fails}
-use Rattle.ap_exec.specs.Results.{Gives as Does}
-use Rattle.ap_exec.specs.declared.refusal.ExecRefusal.{ExecRefusal}
-use Rattle.ap_exec.specs.declared.refusal.ExecRefusal.TheVariants.{ValueTooLong, OutputTooLong, Memory}
 use Rattle.ap_chunk.specs.Carrying.{Held, Step, Stops}
 use Rattle.ap_chunk.specs.Parts.{parts_of, taken_by}
 use Rattle.ap_chunk.specs.Searching.{IsTaken, IsFront}
-use Rattle.ap_chunk.specs.Stages.{span, choice, acted_step, filled_step, rule_step, unmatched_step, chosen_step, is_overfull, tested_step, chunk_step}
-use Rattle.ap_chunk.specs.Working.{Gave}
+use Rattle.ap_chunk.specs.Stages.{span, choice, rule_step, unmatched_step, chosen_step, is_overfull, tested_step, chunk_step}
 use Rattle.ap_chunk.specs.declared.choice.Choice.{Choice}
 use Rattle.ap_chunk.specs.declared.search.Front.{Front}
-use Rattle.ap_chunk.proofs.ChunkSteps.{tested_by, chosen_some, chosen_empty, taken_some, parts_length}
+use Rattle.ap_chunk.proofs.ChunkSteps.{tested_by, chosen_some, taken_some, parts_length}
 use Rattle.ap_chunk.proofs.Fronts.{parts_append}
 
 -- What a rule gives.
-
-pub act_failed : (n : ℕ) (blanks : List (List ℕ)) (vars : Held) (e : ExecRefusal)
-    (ran : Ran Outcome) → Fails e ran → Gave (Err e) vars n (acted_step n blanks ran)
-act_failed n blanks vars ValueTooLong ran h = ap (acted_step n blanks) h
-act_failed n blanks vars OutputTooLong ran h = ap (acted_step n blanks) h
-act_failed n blanks vars Memory ran h = tt
-
-fill_gave : (n : ℕ) (vars : Held) (r : Result (List ℕ) ExecRefusal) (ran : Ran (List ℕ)) →
-    Does (λ b. b) r ran → Gave r vars n (filled_step n vars ran)
-fill_gave n vars (Ok text) ran h = ap (filled_step n vars) h
-fill_gave n vars (Err ValueTooLong) ran h = ap (filled_step n vars) h
-fill_gave n vars (Err OutputTooLong) ran h = ap (filled_step n vars) h
-fill_gave n vars (Err Memory) ran h = tt
-
-pub act_gave : (n : ℕ) (blanks : List (List ℕ)) (o : Outcome) (ran : Ran Outcome)
-    (r : Result (List ℕ) ExecRefusal) → ran ≡ Ok o → Does (λ b. b) r (fill_of o.pieces blanks) →
-    Gave r o.vars n (acted_step n blanks ran)
-act_gave n blanks o ran r e h = subst (λ (x : Ran Outcome). Gave r o.vars n (acted_step n blanks x))
-    (sym e) (fill_gave n o.vars r (fill_of o.pieces blanks) h)
 
 -- By its cases.
 
@@ -103,16 +77,7 @@ module _ (rules : Rules) (vars : Held) (items : List Read) (front : Front)
 -- the step that is chosen
 module _ (rules : Rules) (vars : Held) (reads : List Read) (choice : Option Choice) (taken : ℕ)
     (is : IsTaken choice taken (parts_of rules reads)) where
-  pub none_chosen : choice ≡ None → unmatched_step rules vars reads
-      ≡ chosen_step rules vars reads choice
-  none_chosen e = ap (chosen_step rules vars reads) (sym e)
-
   module _ (c : Choice) (e : choice ≡ Some c) where
-    pub empty_chosen : c.size ≡ 0 → unmatched_step rules vars reads
-        ≡ chosen_step rules vars reads choice
-    empty_chosen z = sym (chosen_empty rules vars reads c z)
-        ∙ ap (chosen_step rules vars reads) (sym e)
-
     taken_here : taken_by c.size (parts_of rules reads) ≡ taken
     taken_here =
         ap (taken_by c.size) (sym (append-nil (parts_of rules reads)))

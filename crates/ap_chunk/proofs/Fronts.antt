@@ -8,15 +8,14 @@ use Rattle.ap_chunk.specs.Going.{chosen_of}
 use Rattle.ap_chunk.specs.Choice.{unit_of}
 use Rattle.ap_chunk.specs.Parts.{Part, unit, gap, wall, part_of, parts_of, units_in, together}
 use Rattle.ap_chunk.specs.Patterns.{patterns_of}
-use Rattle.ap_chunk.specs.Searching.{IsKind, IsNext, IsWalk, IsEnd, IsKnown, IsFront}
+use Rattle.ap_chunk.specs.Searching.{IsKind, IsNext, IsWalk, IsEnd, IsFront}
 use Rattle.ap_chunk.specs.declared.parts.Kind.{Kind}
 use Rattle.ap_chunk.specs.declared.parts.Kind.TheVariants as kinds
 use Rattle.ap_chunk.specs.Stages.{span, choice}
 use Rattle.ap_chunk.specs.declared.search.Front.{Front}
 use Rattle.ap_chunk.specs.declared.search.Walk.{Walk}
-use Rattle.ap_chunk.specs.declared.search.Search.{Search}
 use Rattle.ap_chunk.proofs.ChunkSteps.{parts_length}
-use Rattle.ap_chunk.proofs.Walks.{walk_more, span_grows, span_all, last_end, end_last}
+use Rattle.ap_chunk.proofs.Walks.{span_grows, span_all, last_end, end_last}
 
 pub parts_append : (rules : Rules) (reads xs : List Read) → parts_of rules (reads ++ xs)
     ≡ parts_of rules reads ++ parts_of rules xs
@@ -127,27 +126,6 @@ module _ (rules : Rules) (reads : List Read) (walk : Walk) (p : walk.choosing.pa
   look_found false true end w e either =
       front_is true (last_end (parts_of rules reads) walk (w refl) (e refl
       ∙ sym (parts_length rules reads)))
-
--- where no further item is asked for
-pub front_last : (last : Bool) (rules : Rules) (reads : List Read) (front : Front) →
-    IsFront last rules reads front → IsFront true rules reads front
-front_last last rules reads front f = record {
-  within = f.within;
-  chosen_is = λ xs e. f.chosen_is xs (λ g. e refl);
-  span_is = λ xs e. f.span_is xs (λ g. e refl);
-  taken_is = f.taken_is;
-  taken_within = f.taken_within;
-}
-
--- the same search where more items come
-pub known_more : (rules : Rules) (reads xs : List Read) (search : Search) →
-    IsKnown rules reads search → IsKnown rules (reads ++ xs) search
-known_more rules reads xs search k = record {
-  patterns = k.patterns;
-  walk = λ e. subst (λ (parts : List Part). IsWalk parts search.walk)
-      (sym (parts_append rules reads xs)) (walk_more (parts_of rules reads) search.walk (k.walk e)
-      (parts_of rules xs));
-}
 
 pub front_in : (last : Bool) (rules : Rules) (reads : List Read) (look : Option Front)
     (front : Front) → look ≡ Some front → IfSome look (IsFront last rules reads) →

@@ -1,5 +1,5 @@
 -- What is kept beside patterns.
-use Rattle.std.proofs.Common.{◌≡◌, ℕ, zero, suc, ◌+◌, ◌<◌, ◌≤◌, ◌==◌, Bool, true, false, not, ◌&&◌, ◌||◌, cond, List, [], ◌∷◌, ◌++◌, length, get_or, take, set, Vec, Global, Some, None, refl, ap, sym, ◌∙◌, arith, inl, inr}
+use Rattle.std.proofs.Common.{◌≡◌, ℕ, zero, suc, ◌+◌, ◌<◌, ◌≤◌, ◌==◌, Bool, true, false, ◌&&◌, ◌||◌, cond, List, [], ◌∷◌, ◌++◌, length, get_or, take, set, Vec, Global, Some, None, refl, ap, sym, ◌∙◌, arith, inl, inr}
 use Rattle.std.specs.List.{list_any}
 use Rattle.std.proofs.lemmas.Bool.{false≢true, eq-eqb, ne_eqb, cases_eq, cases_order, or_cases, or_left, or_right, cases_Bool}
 use Rattle.std.proofs.lemmas.List.{take_more}
@@ -146,11 +146,6 @@ index_more patterns at v old new h is index on = λ c r.
     (sym (length_lists (take at patterns) ∙ taken at patterns (omega (arith, h))))
     ∙ ap (λ l. begins_with c (list_at l r)) (sym (lists_append (take at patterns) v)
     ∙ ap lists (ap (λ w. take at patterns ++ w ∷ []) is ∙ sym (take_more patterns at v h)))
-
--- the first pattern without an item
-over_if : (p : List ℕ) → ends p [] ≡ not (is_filled p)
-over_if [] = refl
-over_if (c ∷ cs) = refl
 
 first_at : (p : List ℕ) (patterns : List (List ℕ)) →
     cond (is_filled p) (suc (first_empty patterns)) 0 < suc (length patterns) →

@@ -88,21 +88,6 @@ least_on patterns count u live least k ne units n are =
     ∙ sym (over_more patterns units u r))
     (least_of (λ r. false) None (filter (finishes patterns count u) live) (λ r. refl)))
 
--- the first unit
-pub kept_first : (patterns : List (List ℕ)) (u : ℕ → Bool) (live kept : List ℕ) →
-    ((r : ℕ) → has kept r ≡ is_live patterns (u ∷ []) r)
-    → (units : List (ℕ → Bool)) → 0 ≡ length units → AreLive patterns units live →
-    AreLive patterns (units ++ u ∷ []) kept
-kept_first patterns u live kept h [] n are = λ some r. h r
-kept_first patterns u live kept h (v ∷ units) n are = absurd (omega (arith, n))
-
-pub least_first : (patterns : List (List ℕ)) (u : ℕ → Bool) (live : List ℕ) (least : Option ℕ) →
-    IsLeast (is_over patterns (u ∷ [])) least
-    → (units : List (ℕ → Bool)) → 0 ≡ length units → AreLive patterns units live →
-    IsLeast (is_over patterns (units ++ u ∷ [])) least
-least_first patterns u live least h [] n are = h
-least_first patterns u live least h (v ∷ units) n are = absurd (omega (arith, n))
-
 -- one more category
 starts_at : (c n : ℕ) (b : Bool) → (c ≡ n → b ≡ true) →
     (nat_lt c (n + 1) && b) ≡ ((nat_lt c n && b) || (c == n))

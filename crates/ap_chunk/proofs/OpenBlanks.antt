@@ -43,10 +43,6 @@ either : (v : Bool) (f g : First) → FirstOpen f → FirstOpen g → FirstOpen 
 either true f g h k = h
 either false f g h k = k
 
-nothing_blank : further 0 (blank 0 []) ≡ Open
-unfolding blank
-nothing_blank = refl
-
 further_open : (n : ℕ) → further n (blank 0 []) ≡ Open
 unfolding blank
 further_open n = refl

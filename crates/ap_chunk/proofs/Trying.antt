@@ -116,19 +116,6 @@ pub end_left : (parts tags : List Symbol) (trial : Trial) → IsTried parts tags
 end_left parts tags trial tried h k = end_is parts tags trial tried h
     ∙ none_dropped parts trial.part k
 
--- the first trial
-abbrev pub first_trial : Trial
-first_trial = record { part = 0; tag = 0; star = None }
-
-pub begun : (parts tags : List Symbol) → IsTried parts tags first_trial
-begun parts tags = record {
-  whole = sym (or_none (take_tags parts tags));
-  forgotten =
-      λ h. absurd (false≢true h);
-  order = omega arith;
-  within = omega arith;
-}
-
 -- what is left to do falls
 less : (x k d m r s : ℕ) → x ≡ k + suc d → r < m → k * m + r < x * m + s
 less x k d m r s e h = let f : x * m ≡ k * m + (d * m + m) = ap (λ y. y * m) e ∙ omega arith in
@@ -264,12 +251,6 @@ pub back_on : (parts tags : List Symbol) (trial : Trial) (star : LastStar) →
     (length tags) trial)
 back_on parts tags trial star es h e tried =
     (back_step parts tags trial star es h e tried, back_falls parts tags trial star es h tried)
-
-pub no_way_back : (parts tags : List Symbol) (trial : Trial) → trial.star ≡ None →
-    take_tags (drop trial.part parts) (drop trial.tag tags) ≡ false → IsTried parts tags trial →
-    take_tags parts tags ≡ false
-no_way_back parts tags trial es e tried =
-    tried.whole ∙ ap (λ b. b || fits_later parts tags trial.star) e ∙ ap (fits_later parts tags) es
 
 -- a step, by what the next part is for the next tag
 many_by : (o : Option Symbol) (parts tags : List Symbol) (trial : Trial) (x : Symbol) →

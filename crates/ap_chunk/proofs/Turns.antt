@@ -1,5 +1,5 @@
 -- A turn of the work, as its state is seen.
-use Rattle.std.specs.Prelude.{◌≡◌, ℕ, ◌+◌, ◌<◌, ◌≤◌, true, List, [], ◌∷◌, ◌++◌, drop, length, Option, Some, None, IfSome, Result, Ok, Err, OnOk, OnErr}
+use Rattle.std.specs.Prelude.{◌≡◌, ℕ, ◌+◌, ◌<◌, ◌≤◌, true, List, [], ◌∷◌, ◌++◌, drop, length, Option, Some, None, IfSome, Result, Ok, Err, OnOk}
 use Rattle.std.specs.List.{AllByRecursion}
 use Rattle.std.proofs.Common.{arith, refl, ap, sym, ◌∙◌, subst}
 use Rattle.std.proofs.lemmas.List.{append-nil}
@@ -11,21 +11,15 @@ use Rattle.ap_stream.specs.declared.fault.LimitKind.{LimitKind}
 use Rattle.ap_stream.specs.declared.fault.LimitKind.TheVariants.{SpanTooLong}
 use Rattle.ap_stream.specs.declared.fault.StreamFault.TheVariants.{Limit}
 use Rattle.ap_stream.specs.declared.item.Read.{Read}
-use Rattle.ap_stream.proofs.StepLaws.{fewer_left, fewer_bytes, all_pushed, bytes_append}
+use Rattle.ap_stream.proofs.StepLaws.{fewer_left, fewer_bytes, bytes_append}
 use Rattle.ap_rules.specs.declared.rules.Rules.{Rules}
 use Rattle.ap_chunk.specs.Carrying.{Held}
-use Rattle.ap_chunk.specs.Kept.{AllKept}
-use Rattle.ap_chunk.specs.Searching.{IsKnown}
-use Rattle.ap_chunk.specs.Tests.{row_of}
-use Rattle.ap_chunk.specs.declared.kept.Kept.{Kept}
 use Rattle.ap_chunk.specs.Stages.{span, chunk_step, chunked, dialect_of}
 use Rattle.ap_chunk.specs.Working.{Working, chunk_work, IsFirstStep, IsFirstPlace}
-use Rattle.ap_chunk.specs.declared.search.Search.{Search}
 use Rattle.ap_chunk.specs.declared.writing.Written.{Written}
 use Rattle.ap_chunk.specs.declared.writing.Written.TheVariants as code
 use Rattle.ap_chunk.proofs.Carried.{carried_none, turn_gives, turn_stops}
 use Rattle.ap_chunk.proofs.ChunkSteps.{Uses, step_uses, step_overlong}
-use Rattle.ap_chunk.proofs.Fronts.{known_more}
 
 pub step_is : (h : Working) (vars : Held) (step : Option Written) (made is : Written) →
     step ≡ Some made → made ≡ is → IfSome step (IsFirstStep h vars) → IsFirstStep h vars is
@@ -90,22 +84,6 @@ module _ (h : Working) (vars : Held) (some : 0 < length h.items) where
         )
 
 -- An item more, or none for want of memory.
-
-abbrev pub IsWork : Rules → Search → Kept → List Read → Type 0
-IsWork rules search kept items = AllByRecursion (IsRead (dialect_of rules.form)) items
-    × (IsKnown rules items search × AllKept (row_of rules) kept)
-
-pub work_pushed : {T E : Type 0} (r : Result T E) (rules : Rules) (search : Search)
-    (kept : Kept) (items new : List Read) (read : Read) → IsRead (dialect_of rules.form) read →
-    OnOk r (new ≡ items ++ read ∷ []) → OnErr r (new ≡ items) → IsWork rules search kept items →
-    IsWork rules search kept new
-work_pushed (Ok x) rules search kept items new read is ok err work =
-    subst (λ (z : List Read). IsWork rules search kept z) (sym ok) (
-      all_pushed (IsRead (dialect_of rules.form)) items read work.0 is,
-      (known_more rules items (read ∷ []) search work.1.0, work.1.1),
-    )
-work_pushed (Err x) rules search kept items new read is ok err work =
-    subst (λ (z : List Read). IsWork rules search kept z) (sym err) work
 
 pub bytes_on : {T E : Type 0} (r : Result T E) (items now new : List Read) (read : Read) →
     items ≡ now → OnOk r (new ≡ items ++ read ∷ []) →

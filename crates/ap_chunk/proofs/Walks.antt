@@ -2,7 +2,7 @@
 use Rattle.std.proofs.Common.{◌≡◌, ℕ, zero, suc, ◌+◌, ◌<◌, ◌≤◌, Bool, true, false, List, [], ◌∷◌, ◌++◌, length, drop, Option, Some, None, refl, ap, sym, ◌∙◌, arith, inl, inr, subst, length-append, append_assoc, cond}
 use Rattle.std.proofs.Math.Seq.{drop-length}
 use Rattle.std.proofs.lemmas.Bool.{false≢true, or_cases, or_left, or_right, and_parts, and_from}
-use Rattle.std.proofs.lemmas.List.{append-nil, drop-append-le, length-drop}
+use Rattle.std.proofs.lemmas.List.{append-nil, length-drop}
 use Rattle.std.specs.Prelude.{slice_get}
 use Rattle.ap_chunk.specs.Choice.{opens, SomeOpens, IsChosen}
 use Rattle.ap_chunk.specs.Going.{chosen_of}
@@ -377,37 +377,6 @@ module _ (parts : List Part) (walk : Walk) (w : IsWalk parts walk) where
       nothing : (xs : List Part) → (true ≡ true → xs ≡ []) → drop walk.seen parts ++ xs ≡ []
       nothing xs last = ap (λ (ps : List Part). drop walk.seen parts ++ ps) (last refl)
           ∙ append-nil (drop walk.seen parts) ∙ ap (λ k. drop k parts) e ∙ drop-length parts
-
-  -- more items come
-  pub walk_more : (ys : List Part) → IsWalk (parts ++ ys) walk
-  walk_more ys = record {
-    units = w.units;
-    stands = w.stands;
-    few = w.few;
-    within = (let l = length-append parts ys in let le = w.within in omega (arith, l, le));
-    best_is = w.best_is;
-    units_on = λ xs. ap (units_in false) (append_assoc parts ys xs) ∙ w.units_on (ys ++ xs)
-        ∙ ap (λ (ps : List Part). w.units ++ units_in walk.after ps) (sym (behind xs));
-    span_on = λ xs. ap (together walk.choosing.patterns [] false) (append_assoc parts ys xs)
-        ∙ w.span_on (ys ++ xs)
-        ∙ ap (λ (ps : List Part). walk.seen + together walk.choosing.patterns w.units walk.after ps)
-        (sym (behind xs));
-    taken_on = λ k xs. ap (taken_by (length w.units + suc k)) (append_assoc parts ys xs)
-        ∙ w.taken_on k (ys ++ xs) ∙ ap (λ (ps : List Part). walk.seen + taken_by (suc k) ps)
-        (sym (behind xs));
-    taken_is = taken_more walk.best w.taken_is;
-    taken_within = w.taken_within;
-  }
-    where
-      behind : (xs : List Part) → drop walk.seen (parts ++ ys) ++ xs ≡ drop walk.seen parts ++
-          (ys ++ xs)
-      behind xs = ap (λ (ps : List Part). ps ++ xs) (drop-append-le walk.seen parts ys w.within)
-          ∙ append_assoc (drop walk.seen parts) ys xs
-
-      taken_more : (best : Option Choice) → IsTaken best walk.taken parts →
-          IsTaken best walk.taken (parts ++ ys)
-      taken_more None h = tt
-      taken_more (Some c) h = λ xs. ap (taken_by c.size) (append_assoc parts ys xs) ∙ h (ys ++ xs)
 
   -- all items are seen together, and so they are however they go on
   pub span_grows : walk.seen ≡ length parts → (xs : List Part) →

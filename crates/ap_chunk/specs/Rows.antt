@@ -30,9 +30,13 @@ IsSeenBy Interchunk (chunk_item c) word = word ≡ c.name
 IsSeenBy Postchunk (chunk_item c) word = word ≡ c.name
 IsSeenBy _ _ word = ⊥
 
--- An item is a unit of a match where it is seen by a word, and then of those categories that take
--- this word.
-abbrev pub UnitsTell : Type 0
-UnitsTell = (rules : Rules) (item : Item) (word : List Symbol) → IsSeenBy rules.form item word →
+-- By these rules an item is a unit of a match where it is seen by a word, and then of those
+-- categories that take this word.
+abbrev pub TakesDecides : Rules → Type 0
+TakesDecides rules = (item : Item) (word : List Symbol) → IsSeenBy rules.form item word →
     (test : ℕ → Bool) × (part_of rules item ≡ unit test)
     × ((n : ℕ) → (test n ≡ true) ↔ NumberTakes rules word n)
+
+-- This holds of all rules.
+abbrev pub UnitsTell : Type 0
+UnitsTell = (rules : Rules) → TakesDecides rules

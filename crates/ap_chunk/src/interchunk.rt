@@ -3,10 +3,12 @@ ghost use Rattle.ap_stream.specs.Steps.{bytes_of};
 ghost use Rattle.ap_stream.specs.Told.{Ending};
 ghost use Rattle.ap_stream.specs.Rest.{rest_of, held_of, rest_at_fault, rest_at_cut, rest_pending_first};
 ghost use Rattle.ap_rules.specs.declared.rules.Form.TheVariants as form;
+ghost use Rattle.ap_chunk.specs.Rows.{TakesDecides};
 ghost use Rattle.ap_chunk.specs.Stages.{interchunked_text};
 ghost use Rattle.ap_chunk.specs.Working.{chunk_work};
 
 use crate::chunk_work::ChunkWork;
+use crate::laws::rows_tell;
 use ap_rules::Rules;
 use ap_stream::{Dialect, Finish, Pipe, Stage, StageFault, Staged};
 use ap_symbol::Memory;
@@ -45,7 +47,8 @@ impl Model for Interchunk {
 }
 
 impl Interchunk {
-    /// A new stage by these rules, which are rules of interchunk. The error means want of memory.
+    /// A new stage by these rules, which are rules of interchunk. A chunk is of those categories
+    /// that take its name, and of no others. The error means want of memory.
     pub fn new(alloc: Global, rules: Rules) -> Result<Interchunk, Memory>
         requires { rules.form ≡ form.Interchunk }
         ensures rest { IfOk result (λ made. (x : List ℕ) (e : Ending) → rest_of chunk_work made x e
@@ -53,7 +56,9 @@ impl Interchunk {
         ensures pending { IfOk result (λ made. made.pending ≡ []) }
         ensures ended { IfOk result (λ made. made.ended ≡ false) }
         ensures fault { IfOk result (λ made. made.fault ≡ None) }
+        ensures categories { TakesDecides rules }
     {
+        rows_tell();
         let work = ChunkWork::new(alloc, rules)?;
         Ok(Interchunk {
             stage: Staged::new(alloc, Dialect::Chunked, work),

@@ -49,7 +49,7 @@ use Rattle.ap_command.specs.Reading.{IsKeptAs, made_way}
 use Rattle.ap_command.specs.declared.words.Mode.{Mode}
 use Rattle.ap_command.specs.declared.words.Mode.TheVariants as option
 use Rattle.ap_command.specs.Rows.{Stage, ByFile, FirstReadings, SplitWords, Chooses, Meaning, IsMeaning, AreMeanings, KeepsSuperblanks, EachKeepsSuperblanks, EachLinks, read_by, written_by, stage_reads, stage_writes, given_by, Transfers, Interchunks, Postchunks, Deformats, Reformats, AnalysesAlone, Explains, KeepsAs, LinksAs, ReadAsWritten}
-use Rattle.ap_command.specs.Stream.{status_of_outcome, Always, Flows, IsStage, AreStages, IsRow}
+use Rattle.ap_command.specs.Stream.{status_of_outcome, Flows, IsStage, AreStages, IsRow}
 use Rattle.ap_command.specs.Words.{way_of}
 use Rattle.ap_command.proofs.Named.{malformed-bounds, limit-bounds}
 
@@ -259,10 +259,6 @@ no-more Open = tt
 no-more Clean = (refl, refl)
 no-more Failed = (refl, refl)
 no-more TooLong = (refl, refl)
-
-pub instance-of : (row : List ℕ → TextEnding → RowTold) (input : List ℕ) (intake : Intake)
-    (P : RowTold → Type 0) → Always row input intake P → P (row (input ++ []) (text_ending intake))
-instance-of row input intake P h = h [] (text_ending intake) (no-more intake)
 
 -- the number of the stage of a fault
 last-from : (behind : Option RowFault) (n : ℕ) (own : Option StreamFault) (f : RowFault) →

@@ -21,10 +21,6 @@ pub all-made : (sentences more : ℕ) → more ≡ sentences → left_of Head 0 
     ≡ made_text sentences
 all-made sentences more e = all-left 0 more ∙ ap (sentences_from 0) e
 
--- behind a part the next one is left
-gone : (xs ys zs : List ℕ) → drop (length xs) xs ++ (ys ++ zs) ≡ ys ++ zs
-gone xs ys zs = ap (λ a. a ++ (ys ++ zs)) (drop-length xs)
-
 pub on-number : (number more : ℕ) → 0 < more → left_of Number number 0 more
     ≡ left_of Head number (length (head number)) more
 on-number number zero h = absurd (omega arith)
@@ -75,10 +71,6 @@ more-given whole left next into piece behind at count e f l k =
     (sym (ap (λ (n : ℕ). take (n + count) (take at into ++ (piece ++ behind))) (sym front)
     ∙ take-append-add (take at into) (piece ++ behind) count
     ∙ ap (λ x. take at into ++ x) (take-append-le count piece behind k)))
-
-pub none-left : (part : Part) (number at more : ℕ) → more ≡ 0 → left_of part number at more ≡ []
-none-left part number at zero e = refl
-none-left part number at (suc more) e = absurd (omega arith)
 
 -- the bytes of a sentence
 either-short : (b : Bool) (xs ys : List ℕ) (most : ℕ) → length xs ≤ most → length ys ≤ most →

@@ -1,4 +1,4 @@
-use Rattle.std.proofs.Common.{◌≡◌, ℕ, ◌<◌, ◌≤◌, List, arith, subst, sym, inl, inr, refl, Result, Ok, Err, IfErr}
+use Rattle.std.proofs.Common.{◌≡◌, ℕ, ◌<◌, ◌≤◌, List, arith, subst, sym, inl, inr, Result, Ok, Err, IfErr}
 use Rattle.ap_dix.specs.declared.refusal.DixKind.{DixKind}
 use Rattle.ap_dix.specs.declared.refusal.DixKind.TheVariants.{NotUtf8, Syntax, UnknownElement, UnknownAttribute, MissingAttribute, Misplaced, DuplicateName, UndeclaredSymbol, UndefinedParadigm, BadRegex, Weighted, Unsupported}
 use Rattle.ap_dix.specs.Refusals.{kind_number}
@@ -11,7 +11,6 @@ use Rattle.ap_rules.specs.declared.rules.Form.{Form}
 use Rattle.ap_rules.specs.Refusals.{kind_number as rule_number}
 use Rattle.ap_command.specs.declared.content.Content.{Content}
 use Rattle.ap_command.specs.declared.status.Status.{Status}
-use Rattle.ap_command.specs.declared.status.Status.TheVariants.{Limit}
 use Rattle.ap_command.specs.Messages.{IsTold}
 use Rattle.ap_command.specs.declared.reading.Manner.{Manner}
 use Rattle.ap_command.specs.declared.reading.Reading.{Reading}
@@ -147,8 +146,3 @@ pub told-if : (reading : Reading) (text : List ℕ) (result : Result Content Sta
     IfErr result (λ s. IsTold s words)
 told-if reading text (Ok kept) words h within = h
 told-if reading text (Err status) words h within = read-told reading text status words h within
-
-pub file-told : (file words : ℕ) → file < words → IsTold (Limit 0 6 file) words
-file-told file words h = inl (refl, refl, h)
-
-pub ruleset naming = (read-told, file-told)

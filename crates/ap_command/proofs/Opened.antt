@@ -296,10 +296,6 @@ opened-one words files r text text' (Ok k) l e h = record {
   kept_as = (h.kept_as, tt);
 }
 
--- no file was read
-pub opened-none : (words : List (List ℕ)) (files : FilesStanding) → AreOpened words files [] []
-opened-none words files = record { said = []; opened = tt; kept_as = tt }
-
 all-more : (words : List (List ℕ)) (files : FilesStanding) (rs ss : List Reading)
     (cs ds : List Said) → AllOpen words files rs cs → AllOpen words files ss ds →
     AllOpen words files (rs ++ ss) (cs ++ ds)

@@ -1,7 +1,7 @@
 -- What options of `lt-proc` choose, where a mode was named or not before them, and `-c` stood or
 -- not.
 use Rattle.std.proofs.Common.{◌≡◌, ℕ, ◌+◌, ◌<◌, ◌-◌, suc, Bool, true, false, cond, ◌||◌, ◌&&◌, List, [], ◌∷◌, ◌++◌, length, take, drop, get_or, sym, ◌∙◌, ap, refl, Option, Some, None, Result, Ok, Err, String, add-one}
-use Rattle.std.specs.Prelude.{if◌then◌else◌, codes, is_some, unwrap_or}
+use Rattle.std.specs.Prelude.{if◌then◌else◌, codes, is_some}
 use Rattle.std.specs.List.{cons_option, list_all, slice_index_or}
 use Rattle.std.specs.String.{string_bytes}
 use Rattle.std.specs.declared.alloc.Global.{Global}
@@ -32,26 +32,6 @@ chosen_behind named sensitive options =
     choice (list_all is_option options) (modes_before named ++ modes_in options)
     (cases_before sensitive ++ cases_in options)
 
-abbrev refused : Result Chosen UsageFault
-refused = Err (record {})
-
-unlisted : (c : Bool) (m : Option Mode) (listed : Bool) (modes : List Mode) (cases : List (List ℕ))
-    → c ≡ false → m ≡ None → choice ((c || is_some m) && listed) modes cases ≡ refused
-unlisted true m listed modes cases e f = absurd (let x : true ≡ false = e in cc)
-unlisted false (Some n) listed modes cases e f = absurd (let x : Some n ≡ None = f in cc)
-unlisted false None listed modes cases e f = refl
-
-two-modes : (listed : Bool) (m n : Mode) (modes : List Mode) (cases : List (List ℕ)) →
-    choice listed (m ∷ n ∷ modes) cases ≡ refused
-two-modes true m n modes cases = refl
-two-modes false m n modes cases = refl
-
-two-cases : (listed one : Bool) (modes : List Mode) (c d : List ℕ) (cases : List (List ℕ)) →
-    at_most_one modes ≡ one → choice listed modes (c ∷ d ∷ cases) ≡ refused
-two-cases false one modes c d cases e = refl
-two-cases true false modes c d cases e = rw e refl
-two-cases true true modes c d cases e = rw e refl
-
 named-step : (c : Bool) (m : Option Mode) (n : Mode) (listed sensitive : Bool) (modes : List Mode)
     (o : List ℕ) (cases : List (List ℕ)) → c ≡ false → m ≡ Some n
     → choice ((c || is_some m) && listed) (modes_before None ++ cons_option m modes)
@@ -63,24 +43,9 @@ named-step false None n listed sensitive modes o cases e f =
 named-step false (Some k) n listed sensitive modes o cases e f =
     ap (λ x. choice listed (x ∷ modes) (cases_before sensitive ++ cases)) (let x : k ≡ n = cc in x)
 
-twice-step : (c : Bool) (m : Option Mode) (n k : Mode) (listed : Bool) (modes : List Mode)
-    (cases : List (List ℕ)) → c ≡ false → m ≡ Some n →
-    choice ((c || is_some m) && listed) (modes_before (Some k) ++ cons_option m modes)
-    cases ≡ refused
-twice-step true m n k listed modes cases e f = absurd (let x : true ≡ false = e in cc)
-twice-step false None n k listed modes cases e f = absurd (let x : None ≡ Some n = f in cc)
-twice-step false (Some j) n k listed modes cases e f = two-modes listed k j modes cases
-
 -- the option is `-c`
 is-c : (o : List ℕ) → is_case_option o ≡ true → o ≡ codes "-c"
 is-c o e = (bytes_eq-Decides o (codes "-c")).0 e
-
--- an option that is none of those listed
-pub other-option : (named : Option Mode) (sensitive : Bool) (o : List ℕ) (os : List (List ℕ)) →
-    is_case_option o ≡ false → mode_of_lem o ≡ None →
-    chosen_behind named sensitive (o ∷ os) ≡ refused
-other-option named sensitive o os e f =
-    unlisted (is_case_option o) (mode_of_lem o) (list_all is_option os) _ _ e f
 
 -- an option that names a mode, first and again
 pub mode-first : (sensitive : Bool) (o : List ℕ) (os : List (List ℕ)) (n : Mode) →
@@ -90,30 +55,10 @@ mode-first sensitive o os n e f =
     named-step (is_case_option o) (mode_of_lem o) n (list_all is_option os) sensitive (modes_in os)
     o (cases_in os) e f
 
-pub mode-again : (k : Mode) (sensitive : Bool) (o : List ℕ) (os : List (List ℕ)) (n : Mode) →
-    is_case_option o ≡ false → mode_of_lem o ≡ Some n →
-    chosen_behind (Some k) sensitive (o ∷ os) ≡ refused
-mode-again k sensitive o os n e f =
-    twice-step (is_case_option o) (mode_of_lem o) n k (list_all is_option os) (modes_in os) _ e f
-
 -- `-c`, first and again
 pub case-first : (named : Option Mode) (o : List ℕ) (os : List (List ℕ)) → is_case_option o ≡ true →
     chosen_behind named false (o ∷ os) ≡ chosen_behind named true os
 case-first named o os e = ap (λ x. chosen_behind named false (x ∷ os)) (is-c o e)
-
-pub case-again : (named : Option Mode) (o : List ℕ) (os : List (List ℕ)) → is_case_option o ≡ true →
-    chosen_behind named true (o ∷ os) ≡ refused
-case-again named o os e = ap (λ x. chosen_behind named true (x ∷ os)) (is-c o e)
-    ∙ two-cases (list_all is_option os) _ (modes_before named ++ modes_in os) (codes "-c")
-    (codes "-c") (cases_in os) refl
-
--- no option is left
-pub none-left : (named : Option Mode) (sensitive : Bool) → chosen_behind named sensitive []
-    ≡ Ok (record { mode = unwrap_or named mode.A; sensitive = sensitive })
-none-left None false = refl
-none-left None true = refl
-none-left (Some n) false = refl
-none-left (Some n) true = refl
 
 -- the option at that place, and those behind it
 pub texts-next : (words : List (String Global)) (i : ℕ) (word : String Global) → i < length words →

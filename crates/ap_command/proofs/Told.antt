@@ -77,10 +77,6 @@ pub on-err : {U E : Type 0} (r : Result U E) (P : Type 0) → OnErr r P → true
 on-err (Ok u) P h t = cc
 on-err (Err e) P h t = h
 
-pub joined-none : joined [] ≡ []
-unfolding joined
-joined-none = refl
-
 pub joined-3 : (a a' b b' c c' : List ℕ) → a ≡ a' → b ≡ b' → c ≡ c' →
     joined (a ∷ b ∷ c ∷ []) ≡ joined (a' ∷ b' ∷ c' ∷ [])
 joined-3 a a' b b' c c' p q r = cc

@@ -1,4 +1,6 @@
-ghost use Rattle.std.specs.Prelude.{◌≡◌, ◌+◌, ◌<◌, ◌^◌, ℕ, IfOk};
+ghost use Rattle.std.specs.Prelude.{◌≡◌, ◌+◌, ◌<◌, ◌^◌, [], ◌∷◌, ℕ, IfOk};
+ghost use Rattle.ap_fst.specs.declared.compiled.Way.TheVariants.{Untold};
+ghost use Rattle.ap_command.specs.declared.reading.Manner.TheVariants.{Either};
 ghost use Rattle.ap_command.specs.declared.words.Command.TheVariants.{Run};
 ghost use Rattle.ap_command.specs.Words.{files_of, way_of, AreWithin};
 
@@ -81,85 +83,63 @@ fn files_of_run(alloc: Global, mono: usize) -> Result<Vec<Reading>, AllocError>
     ]?)
 }
 
+/// One file, by its place among the words.
+fn one_file(alloc: Global, place: usize, manner: Manner) -> Result<Vec<Reading>, AllocError>
+    ensures { IfOk result (λ files. files.items ≡ record { place = place; manner = manner } ∷ []) }
+{
+    Ok(vec![in alloc; Reading { place, manner }]?)
+}
+
+/// Two files, by their places among the words.
+fn two_files(alloc: Global, first: Reading, second: Reading) -> Result<Vec<Reading>, AllocError>
+    ensures { IfOk result (λ files. files.items ≡ first ∷ second ∷ []) }
+{
+    Ok(vec![in alloc; first, second]?)
+}
+
+/// A file in which either direction may be told.
+fn of_either_way(place: usize) -> Reading
+    ensures { result ≡ record { place = place; manner = Either Untold } }
+{
+    Reading {
+        place,
+        manner: Manner::Either(Way::Untold),
+    }
+}
+
 /// The files that a command reads, in order.
 pub(crate) fn files_of(alloc: Global, command: Command) -> Result<Vec<Reading>, AllocError>
     requires { AreWithin (2 ^ 64) (files_of command) }
     ensures { IfOk result (λ files. files.items ≡ files_of command) }
 {
     match command {
-        Command::Proc { mode, file, .. } => Ok(vec![in alloc;
-            Reading {
-                place: file,
-                manner: Manner::Either(way_of(mode))
-            },
-        ]?),
-        Command::Expand { dix } => Ok(vec![in alloc;
-            Reading {
-                place: dix,
-                manner: Manner::Plain
-            },
-        ]?),
-        Command::Comp { way, dix, .. } => Ok(vec![in alloc;
-            Reading {
-                place: dix,
-                manner: Manner::Made(way)
-            },
-        ]?),
-        Command::Trim { mono, bi, .. } => Ok(vec![in alloc;
-            Reading {
+        Command::Proc { mode, file, .. } => one_file(alloc, file, Manner::Either(way_of(mode))),
+        Command::Expand { dix } => one_file(alloc, dix, Manner::Plain),
+        Command::Comp { way, dix, .. } => one_file(alloc, dix, Manner::Made(way)),
+        Command::Trim { mono, bi, .. } => {
+            let mono = Reading {
                 place: mono,
-                manner: Manner::Either(Way::Lr)
-            },
-            Reading {
-                place: bi,
-                manner: Manner::Either(Way::Untold)
-            },
-        ]?),
+                manner: Manner::Either(Way::Lr),
+            };
+            two_files(alloc, mono, of_either_way(bi))
+        }
         Command::First
         | Command::Pretransfer
         | Command::Destxt
         | Command::Retxt
         | Command::Work { .. } => Ok(Vec::new(alloc)),
-        Command::Choose { pairs } => Ok(vec![in alloc;
-            Reading {
-                place: pairs,
-                manner: Manner::Paired
-            },
-        ]?),
-        Command::TransferAlone { t1x } => Ok(vec![in alloc;
-            Reading {
+        Command::Choose { pairs } => one_file(alloc, pairs, Manner::Paired),
+        Command::TransferAlone { t1x } => one_file(alloc, t1x, Manner::Ruled(Form::Transfer)),
+        Command::Transfer { t1x, bidix } => {
+            let rules = Reading {
                 place: t1x,
-                manner: Manner::Ruled(Form::Transfer)
-            },
-        ]?),
-        Command::Transfer { t1x, bidix } => Ok(vec![in alloc;
-            Reading {
-                place: t1x,
-                manner: Manner::Ruled(Form::Transfer)
-            },
-            Reading {
-                place: bidix,
-                manner: Manner::Either(Way::Untold)
-            },
-        ]?),
-        Command::Interchunk { t2x } => Ok(vec![in alloc;
-            Reading {
-                place: t2x,
-                manner: Manner::Ruled(Form::Interchunk)
-            },
-        ]?),
-        Command::Compound { file, .. } => Ok(vec![in alloc;
-            Reading {
-                place: file,
-                manner: Manner::Either(way_of(Mode::A))
-            },
-        ]?),
-        Command::Postchunk { t3x } => Ok(vec![in alloc;
-            Reading {
-                place: t3x,
-                manner: Manner::Ruled(Form::Postchunk)
-            },
-        ]?),
+                manner: Manner::Ruled(Form::Transfer),
+            };
+            two_files(alloc, rules, of_either_way(bidix))
+        }
+        Command::Interchunk { t2x } => one_file(alloc, t2x, Manner::Ruled(Form::Interchunk)),
+        Command::Compound { file, .. } => one_file(alloc, file, Manner::Either(way_of(Mode::A))),
+        Command::Postchunk { t3x } => one_file(alloc, t3x, Manner::Ruled(Form::Postchunk)),
         Command::Run { mono, .. } => files_of_run(alloc, mono),
         Command::Text { mono, .. } => files_of_run(alloc, mono),
     }

@@ -1,13 +1,11 @@
-use Rattle.std.proofs.Common.{◌≡◌, ◌⊎◌, inl, inr, ℕ, ◌+◌, ◌<◌, ◌≤◌, List, [], ◌∷◌, ◌++◌, refl, sym, ◌∙◌, ap, subst, length, take, get_or}
+use Rattle.std.proofs.Common.{◌≡◌, ◌⊎◌, inl, inr, ℕ, ◌+◌, ◌<◌, List, [], ◌∷◌, ◌++◌, refl, sym, ◌∙◌, ap, subst, length, take, get_or}
 use Rattle.std.specs.Prelude.{◌↔◌}
-use Rattle.std.proofs.lemmas.List.{take_more, take_all}
+use Rattle.std.proofs.lemmas.List.{take_more}
 use Rattle.ap_dix.specs.Derivation.{Label as EntryLabel}
 use Rattle.ap_symbol.specs.Lists.{IsIn}
 use Rattle.ap_fst.specs.Sketches.{Sketch}
-use Rattle.ap_fst.specs.Paths.{Accepts}
-use Rattle.ap_fst.specs.declared.label.Label.{Label}
 use Rattle.ap_compile.specs.Drafts.{IsDraftOf, IsMoreBy, Any}
-use Rattle.ap_compile.proofs.Drafting.{same_draft, more_added, no_draft}
+use Rattle.ap_compile.proofs.Drafting.{same_draft, more_added}
 
 pub in_front : {X : Type 0} (x : X) (xs ys : List X) → IsIn x xs → IsIn x (xs ++ ys)
 in_front x [] ys h = elim h [ ]
@@ -50,11 +48,3 @@ any_more Q a made xs x d i lt is ha hm =
     subst (λ zs. IsDraftOf (Any Q zs) made) (sym e)
     (same_draft (λ w. Any Q (take i xs) w ⊎ Q x w) (Any Q (take i xs ++ x ∷ [])) made
     (more_added (Any Q (take i xs)) (Q x) a made ha hm) (λ w. any_last Q (take i xs) x w))
-
-pub any_none : {X : Type 0} (Q : X → List EntryLabel → Type 0) (made : Sketch) →
-    ((w : List Label) → Accepts made w → ⊥) → IsDraftOf (Any Q []) made
-any_none Q made h = no_draft (Any Q []) made h (λ w s. elim s.listed [ ])
-
-pub any_all : {X : Type 0} (Q : X → List EntryLabel → Type 0) (made : Sketch) (xs : List X) (i : ℕ)
-    → length xs ≤ i → IsDraftOf (Any Q (take i xs)) made → IsDraftOf (Any Q xs) made
-any_all Q made xs i le h = subst (λ zs. IsDraftOf (Any Q zs) made) (take_all i xs le) h

@@ -1,9 +1,8 @@
-use Rattle.std.proofs.Common.{◌≡◌, ◌⊎◌, inl, inr, ℕ, ◌+◌, ◌<◌, ◌≤◌, Bool, List, [], ◌∷◌, ◌++◌, refl, sym, ◌∙◌, ap, subst, append_assoc, append-nil, arith, Some, slice_get, length, take, get_or, suc, zero}
+use Rattle.std.proofs.Common.{◌≡◌, ◌⊎◌, inl, inr, ℕ, ◌+◌, ◌<◌, List, [], ◌∷◌, ◌++◌, refl, sym, ◌∙◌, ap, subst, append_assoc, append-nil, arith, Option, Some, slice_get, length, take, get_or, suc, zero}
 use Rattle.std.specs.Prelude.{IsTrue, ◌↔◌}
 use Rattle.std.specs.List.{list_all}
 use Rattle.std.proofs.lemmas.Bool.{and_parts}
-use Rattle.std.proofs.lemmas.List.{take_more, take_all}
-use Rattle.std.proofs.lemmas.Option.{slice_get-get_or}
+use Rattle.std.proofs.lemmas.List.{take_more}
 use Rattle.ap_symbol.specs.Lists.{IsAt}
 use Rattle.ap_symbol.specs.declared.symbol.Symbol.{Symbol}
 use Rattle.ap_dix.specs.Derivation.{Label as EntryLabel, Derives, nothing, identity, pair, paradigm, expression, paired, facing}
@@ -64,11 +63,6 @@ labels_more xs a b made label i at ha hb hm =
       }),
     ))
 
-pub labels_all : (xs : List EntryLabel) (made : Sketch) (i : ℕ) → length xs ≤ i →
-    IsDraftOf (λ w. w ≡ take i xs) made → IsDraftOf (λ w. w ≡ xs) made
-labels_all xs made i le h =
-    subst (λ (zs : List EntryLabel). IsDraftOf (λ w. w ≡ zs) made) (take_all i xs le) h
-
 -- what one part derives, by its kind
 
 pub one_identity : (d : Dictionary) (direction : Direction) (word : List Symbol)
@@ -125,10 +119,11 @@ one_paradigm d direction n w (paradigm {own = own} pardef entry at listed kept d
           };
     }
 
-pub paradigm_draft : (d : Dictionary) (direction : Direction) (drafts : List Sketch) (n : ℕ)
-    (draft made : Sketch) → AreDrafts d direction drafts → slice_get drafts n ≡ Some draft →
+pub paradigm_draft : (d : Dictionary) (direction : Direction) (n : ℕ)
+    (drafts : List (Option Sketch)) (draft made : Sketch) → AreDrafts d direction drafts →
+    slice_get drafts n ≡ Some (Some draft) →
     made ≡ draft → IsDraftOf (Derives d direction (Paradigm n ∷ [])) made
-paradigm_draft d direction drafts n draft made are at same =
+paradigm_draft d direction n drafts draft made are at same =
     subst (λ (x : Sketch). IsDraftOf (Derives d direction (Paradigm n ∷ [])) x) (sym same)
     (same_draft (SpellsAt d direction n) (Derives d direction (Paradigm n ∷ [])) draft
     (are.each n draft at)
@@ -248,12 +243,6 @@ parts_more d direction a b made parts part p i lt is ha hb hm =
       (λ k. derives_cut d direction (take i parts) (part ∷ []) w k),
     )))
 
-pub parts_all : (d : Dictionary) (direction : Direction) (made : Sketch) (parts : List EntryPart)
-    (i : ℕ) → length parts ≤ i → IsDraftOf (Derives d direction (take i parts)) made →
-    IsDraftOf (Derives d direction parts) made
-parts_all d direction made parts i le h =
-    subst (λ (zs : List EntryPart). IsDraftOf (Derives d direction zs) made) (take_all i parts le) h
-
 -- paradigms
 
 pub snoc_get : {X : Type 0} (xs : List X) (x y : X) (k : ℕ) → slice_get (xs ++ x ∷ []) k ≡ Some y →
@@ -268,50 +257,29 @@ snoc_get (z ∷ xs) x y (suc k) h =
           inr (omega arith, b)
     ]
 
-nothing_at : (n : ℕ) (draft : Sketch) → slice_get (let none : List Sketch = [] in none) n
-    ≡ Some draft → ⊥
-nothing_at zero draft e = cc
-nothing_at (suc n) draft e = cc
-
-pub drafts_none : (d : Dictionary) (direction : Direction) (drafts : List Sketch) → drafts ≡ [] →
-    AreDrafts d direction drafts
-drafts_none d direction drafts e =
-    record {
-      each = λ n draft at. let none : slice_get [] n ≡ Some draft =
-          ap (λ (z : List Sketch). slice_get z n) (sym e) ∙ at in absurd (nothing_at n draft none);
-    }
-
-pub drafts_more : (d : Dictionary) (direction : Direction) (drafts drafts' : List Sketch)
-    (draft : Sketch) (pardef p : Pardef) (i : ℕ) → i ≡ length drafts → i < length d.pardefs →
-    pardef ≡ get_or d.pardefs i p → AreDrafts d direction drafts → drafts' ≡ drafts ++ draft ∷ []
-    → IsDraftOf (Any (Spells d direction) pardef.entries) draft → AreDrafts d direction drafts'
-drafts_more d direction drafts drafts' draft pardef p i n lt is h e made = record {
-  each = λ k x at. elim (snoc_get drafts draft x k
-      (ap (λ (z : List Sketch). slice_get z k) (sym e) ∙ at)) [
-        | inl (a, b) ↦ h.each k x b
-        | inr (a, b) ↦
-            let at' : slice_get d.pardefs k ≡ Some pardef =
-            ap (slice_get d.pardefs) (let q : k ≡ i = omega arith in q)
-            ∙ slice_get-get_or d.pardefs i p lt ∙ ap Some (sym is) in
-            subst (λ (z : Sketch). IsDraftOf (SpellsAt d direction k) z) b
-            (same_draft (Any (Spells d direction) pardef.entries) (SpellsAt d direction k)
-            draft made (λ w. (
-              (λ s. record { pardef = pardef; at = at'; spells = s }),
-              (λ s. let there : Some s.pardef ≡ Some pardef = sym s.at ∙ at' in
-                  let same : s.pardef ≡ pardef = cc in
-                  subst (λ (q : Pardef). Any (Spells d direction) q.entries w) same s.spells),
-            )))
-      ];
+pub drafts_more : (d : Dictionary) (direction : Direction) (drafts : List (Option Sketch))
+    (draft : Option Sketch) (pardef : Pardef) (i : ℕ) → i ≡ length drafts →
+    slice_get d.pardefs i ≡ Some pardef → AreDrafts d direction drafts
+    → ((made : Sketch) → draft ≡ Some made →
+    IsDraftOf (Any (Spells d direction) pardef.entries) made) →
+    AreDrafts d direction (drafts ++ draft ∷ [])
+drafts_more d direction drafts draft pardef i n is h made = record {
+  each = λ k x at. elim (snoc_get drafts draft (Some x) k at) [
+    | inl (a, b) ↦ h.each k x b
+    | inr (a, b) ↦
+        let at' : slice_get d.pardefs k ≡ Some pardef =
+        ap (slice_get d.pardefs) (let q : k ≡ i = omega arith in q) ∙ is in
+        same_draft (Any (Spells d direction) pardef.entries) (SpellsAt d direction k) x
+        (made x b) (λ w. (
+          (λ s. record { pardef = pardef; at = at'; spells = s }),
+          (λ s. let there : Some s.pardef ≡ Some pardef = sym s.at ∙ at' in
+              let same : s.pardef ≡ pardef = cc in
+              subst (λ (q : Pardef). Any (Spells d direction) q.entries w) same s.spells),
+        ))
+  ];
 }
 
 -- what is sound
-
-pub all_at : {X : Type 0} (p : X → Bool) (xs : List X) (i : ℕ) (x d : X) → i < length xs →
-    x ≡ get_or xs i d → IsTrue (list_all p xs) → IsTrue (p x)
-all_at p [] i x d h e all = absurd (omega arith)
-all_at p (y ∷ ys) zero x d h e all = ap p e ∙ (and_parts (p y) (list_all p ys) all).0
-all_at p (y ∷ ys) (suc i) x d h e all =
-    all_at p ys i x d (omega arith) e ((and_parts (p y) (list_all p ys) all).1)
 
 pub sound_at : (n : ℕ) (pardefs : List Pardef) (i m : ℕ) (pardef p : Pardef) → i < length pardefs →
     m ≡ n + i → pardef ≡ get_or pardefs i p → IsTrue (are_sound_pardefs n pardefs) →

@@ -419,9 +419,6 @@ nil_back : {X : Type 0} (xs ys : List X) → [] ≡ xs ++ ys → ys ≡ []
 nil_back [] ys e = sym e
 nil_back (x ∷ xs) ys e = let no : ⊥ = cc in absurd no
 
-pub no_symbol : (x : Symbol) → [] ≡ x ∷ [] → ⊥
-no_symbol x e = cc
-
 pub empty_both : (P Q : List Symbol → Type 0) → IsSplit P Q [] ↔ (P [] × Q [])
 empty_both P Q = (
   (λ h. (

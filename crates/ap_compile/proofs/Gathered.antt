@@ -1,5 +1,5 @@
 -- Gatherings: entries that end alike share one draft of each part that they end with.
-use Rattle.std.proofs.Common.{◌≡◌, ◌⊎◌, inl, inr, ℕ, ◌+◌, ◌-◌, ◌<◌, ◌≤◌, Bool, ◌&&◌, List, [], ◌∷◌, ◌++◌, refl, sym, ◌∙◌, ap, subst, arith, append-nil, append_assoc, length-append, Some, None, slice_get, length, take, get_or, map, suc, zero}
+use Rattle.std.proofs.Common.{◌≡◌, ◌⊎◌, inl, inr, ℕ, ◌+◌, ◌-◌, ◌<◌, ◌≤◌, Bool, ◌&&◌, List, [], ◌∷◌, ◌++◌, refl, sym, ◌∙◌, ap, subst, arith, append-nil, append_assoc, length-append, Option, Some, None, slice_get, length, take, get_or, suc, zero}
 use Rattle.std.specs.Prelude.{IsTrue, ◌↔◌}
 use Rattle.std.specs.List.{list_all}
 use Rattle.std.specs.List.Sorted.{IsPermutation}
@@ -10,7 +10,6 @@ use Rattle.std.proofs.lemmas.List.Folds.{list_all-append}
 use Rattle.std.proofs.lemmas.Option.{slice_get_within}
 use Rattle.ap_symbol.specs.Lists.{IsIn}
 use Rattle.ap_dix.specs.Derivation.{Label as EntryLabel, Derives, nothing, is_kept}
-use Rattle.ap_dix.specs.Soundness.{is_sound_part}
 use Rattle.ap_dix.specs.declared.dictionary.Dictionary.{Dictionary}
 use Rattle.ap_dix.specs.declared.dictionary.Direction.{Direction}
 use Rattle.ap_dix.specs.declared.dictionary.Entry.{Entry}
@@ -20,8 +19,8 @@ use Rattle.ap_fst.specs.Paths.{Accepts, IsEither}
 use Rattle.ap_fst.specs.declared.label.Label.{Label}
 use Rattle.ap_fst.proofs.Listing.{in_permutation}
 use Rattle.ap_compile.specs.Labels.{derived_labels, ArePlain}
-use Rattle.ap_compile.specs.Drafts.{IsDraftOf, IsCut, Any, Spells}
-use Rattle.ap_compile.specs.Gatherings.{HasPlace, SpellsFrom, Tells, endings, shared, InLevels, Gathers, IsPlainDraft, IsPlainGathering, IsGatheringOf, IsGrown, among_made, before_shared, AreSoundParts}
+use Rattle.ap_compile.specs.Drafts.{IsDraftOf, IsCut, Any, Spells, AreDraftedParts, is_drafted_part}
+use Rattle.ap_compile.specs.Gatherings.{HasPlace, SpellsFrom, Tells, endings, shared, InLevels, Gathers, IsPlainDraft, IsPlainGathering, IsGatheringOf, IsGrown, among_made, before_shared}
 use Rattle.ap_compile.specs.declared.gathering.Gathering.{Gathering}
 use Rattle.ap_compile.specs.declared.gathering.Level.{Level}
 use Rattle.ap_compile.specs.declared.places.Place.{Place}
@@ -145,7 +144,7 @@ pub shared_length : (back parts : List EntryPart) → length (shared back parts)
 shared_length back [] = omega arith
 shared_length back (p ∷ parts) = shared_length (p ∷ back) parts ∙ omega arith
 
-both_true : (a b : Bool) → IsTrue a → IsTrue b → IsTrue (a && b)
+pub both_true : (a b : Bool) → IsTrue a → IsTrue b → IsTrue (a && b)
 both_true a b h k = rw (h, k) refl
 
 shared_all : (p : EntryPart → Bool) (back parts : List EntryPart) →
@@ -157,10 +156,10 @@ shared_all p back (x ∷ parts) h =
     let l = and_parts (p x) (list_all p back) k.1 in
     (both_true (p x) (list_all p parts) l.0 k.0, l.1)
 
-pub shared_sound : (bound : ℕ) (parts tail : List EntryPart) → shared [] parts ≡ tail →
-    AreSoundParts bound tail → AreSoundParts bound parts
-shared_sound bound parts tail e h =
-    (shared_all (is_sound_part bound) [] parts (subst (AreSoundParts bound) (sym e) h)).0
+pub shared_drafted : (drafts : List (Option Sketch)) (parts tail : List EntryPart) → shared [] parts ≡ tail →
+    AreDraftedParts drafts tail → AreDraftedParts drafts parts
+shared_drafted drafts parts tail e h =
+    (shared_all (is_drafted_part drafts) [] parts (subst (AreDraftedParts drafts) (sym e) h)).0
 
 pub endings_last : (levels : List Level) (l : Level) → endings (levels ++ l ∷ []) ≡ endings levels
     ++ l.ending.now ∷ []
@@ -526,11 +525,6 @@ closed_endings g rest l e =
     ∙ ap (take (length (endings rest.levels.items))) whole
     ∙ take-append_seam (endings rest.levels.items) (l.ending.now ∷ []))
 
-pub none_closed : (g : Gathering) → g.levels.items ≡ [] →
-    endings g.levels.items ≡ take (length g.levels.items - 1) (endings g.levels.items)
-none_closed g e = subst (λ (z : List Level). endings z
-    ≡ take (length z - 1) (endings z)) (sym e) refl
-
 -- a level more, with nothing in it
 pub level_opened : (d : Dictionary) (direction : Direction) (g new : Gathering) (l : Level) →
     new.levels.items ≡ g.levels.items ++ l ∷ [] → new.made ≡ g.made →
@@ -647,23 +641,23 @@ ending_at (x ∷ levels) (suc n) l d lt e = ending_at levels n l d (omega arith)
 pub endings_length : (levels : List Level) → length (endings levels) ≡ length levels
 endings_length levels = length-map levels (λ (m : Level). m.ending.now)
 
--- fewer parts are sound too
+-- fewer parts are drafted too
 
-pub sound_take : (bound n : ℕ) (parts : List EntryPart) → AreSoundParts bound parts →
-    AreSoundParts bound (take n parts)
-sound_take bound zero parts h = refl
-sound_take bound (suc n) [] h = refl
-sound_take bound (suc n) (x ∷ parts) h =
-    let l = and_parts (is_sound_part bound x) (list_all (is_sound_part bound) parts) h in
-    both_true (is_sound_part bound x) (list_all (is_sound_part bound) (take n parts)) l.0
-    (sound_take bound n parts l.1)
+pub drafted_take : (drafts : List (Option Sketch)) (n : ℕ) (parts : List EntryPart) → AreDraftedParts drafts parts →
+    AreDraftedParts drafts (take n parts)
+drafted_take drafts zero parts h = refl
+drafted_take drafts (suc n) [] h = refl
+drafted_take drafts (suc n) (x ∷ parts) h =
+    let l = and_parts (is_drafted_part drafts x) (list_all (is_drafted_part drafts) parts) h in
+    both_true (is_drafted_part drafts x) (list_all (is_drafted_part drafts) (take n parts)) l.0
+    (drafted_take drafts n parts l.1)
 
-pub tail_sound : (bound : ℕ) (parts front tail : List EntryPart) → parts ≡ front ++ tail →
-    AreSoundParts bound parts → AreSoundParts bound tail
-tail_sound bound parts front tail e h =
-    (and_parts (list_all (is_sound_part bound) front) (list_all (is_sound_part bound) tail)
-    (sym (list_all-append (is_sound_part bound) front tail)
-    ∙ subst (AreSoundParts bound) e h)).1
+pub tail_drafted : (drafts : List (Option Sketch)) (parts front tail : List EntryPart) → parts ≡ front ++ tail →
+    AreDraftedParts drafts parts → AreDraftedParts drafts tail
+tail_drafted drafts parts front tail e h =
+    (and_parts (list_all (is_drafted_part drafts) front) (list_all (is_drafted_part drafts) tail)
+    (sym (list_all-append (is_drafted_part drafts) front tail)
+    ∙ subst (AreDraftedParts drafts) e h)).1
 
 -- one level fewer
 pub closed_less : (levels last next : List EntryPart) (n k m : ℕ) → length levels ≡ n →

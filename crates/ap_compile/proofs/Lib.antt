@@ -5,6 +5,7 @@ pub mod Forming
 pub mod Spanning
 pub mod Deriving
 pub mod Gathered
+pub mod LastUses
 pub mod Telling
 pub mod Lettering
 pub mod Silences

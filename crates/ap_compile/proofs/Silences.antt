@@ -1,8 +1,8 @@
 -- Entries that derive labels with an empty input side.
-use Rattle.std.proofs.Common.{◌≡◌, inl, inr, ℕ, ◌+◌, ◌<◌, ◌≤◌, Bool, List, [], ◌∷◌, ◌++◌, refl, sym, ◌∙◌, ap, subst, append_assoc, append-nil, arith, Option, Some, None, slice_get, length, take, get_or, suc, zero}
+use Rattle.std.proofs.Common.{◌≡◌, inl, inr, ℕ, ◌+◌, ◌<◌, Bool, List, [], ◌∷◌, ◌++◌, refl, sym, ◌∙◌, ap, subst, append_assoc, append-nil, arith, Option, Some, None, slice_get, length, take, get_or, suc, zero}
 use Rattle.std.specs.Prelude.{IsTrue, ◌↔◌}
 use Rattle.std.specs.Option.{MatchOption, option_to_list, is_some}
-use Rattle.std.proofs.lemmas.List.{take_more, take_all}
+use Rattle.std.proofs.lemmas.List.{take_more}
 use Rattle.std.proofs.lemmas.Option.{slice_get-get_or}
 use Rattle.ap_symbol.specs.Lists.{IsIn}
 use Rattle.ap_symbol.specs.declared.symbol.Symbol.{Symbol}
@@ -192,11 +192,6 @@ silent_more d direction parts part p i lt is s t =
     subst (λ (z : List EntryPart). IsSilent d direction z) (sym e)
     (silent_joined d direction (take i parts) (part ∷ []) s t)
 
-pub silent_all : (d : Dictionary) (direction : Direction) (parts : List EntryPart) (i : ℕ) →
-    length parts ≤ i → IsSilent d direction (take i parts) → IsSilent d direction parts
-silent_all d direction parts i le s =
-    subst (λ (z : List EntryPart). IsSilent d direction z) (take_all i parts le) s
-
 -- the list before, at and after a place
 pub record IsSplit {X : Type 0} (xs : List X) (i : ℕ) (x : X) : Type 0 where
   pub after : List X
@@ -220,9 +215,6 @@ loud_part d direction parts part p i lt is s =
     (silent_back d direction (take i parts) (part ∷ k.after) q)
 
 -- entries
-
-no_entry : (d : Dictionary) (direction : Direction) → HasEmptyEntry d direction [] → ⊥
-no_entry d direction h = elim h.listed [ ]
 
 in_both : (d : Dictionary) (direction : Direction) (a b : List Entry) →
     (HasEmptyEntry d direction a → ⊥) → (HasEmptyEntry d direction b → ⊥) →
@@ -249,12 +241,6 @@ no_empty_more d direction entries entry p i lt is f g h =
     ∙ ap (λ z. take i entries ++ z ∷ []) (sym is) in
     in_both d direction (take i entries) (entry ∷ []) f (one_entry d direction entry g)
     (subst (λ (z : List Entry). HasEmptyEntry d direction z) e h)
-
-pub no_empty_all : (d : Dictionary) (direction : Direction) (entries : List Entry) (i : ℕ) →
-    length entries ≤ i → (HasEmptyEntry d direction (take i entries) → ⊥) →
-    HasEmptyEntry d direction entries → ⊥
-no_empty_all d direction entries i le f h =
-    f (subst (λ (z : List Entry). HasEmptyEntry d direction z) (sym (take_all i entries le)) h)
 
 pub first_at : (d : Dictionary) (direction : Direction) (entries : List Entry) (entry p : Entry)
     (i line : ℕ) → i < length entries → entry ≡ get_or entries i p → line ≡ entry.line →
@@ -290,18 +276,6 @@ told_empty d direction entries (Some line) b e m = (
   }),
   (λ h. e),
 )
-
-nothing_at : (n : ℕ) (b : Bool) → slice_get (let none : List Bool = [] in none) n ≡ Some b → ⊥
-nothing_at zero b e = cc
-nothing_at (suc n) b e = cc
-
-pub empties_none : (d : Dictionary) (direction : Direction) (empties : List Bool) → empties ≡ [] →
-    AreEmpties d direction empties
-empties_none d direction empties e =
-    record {
-      each = λ n b at. let none : slice_get [] n ≡ Some b =
-          ap (λ (z : List Bool). slice_get z n) (sym e) ∙ at in absurd (nothing_at n b none);
-    }
 
 pub empties_more : (d : Dictionary) (direction : Direction) (empties empties' : List Bool)
     (empty : Bool) (pardef p : Pardef) (i : ℕ) → i ≡ length empties → i < length d.pardefs →
@@ -346,13 +320,6 @@ no_section_more d direction sections section p i lt is f g h =
     ∙ ap (λ z. section_entries (take i sections) ++ z) (append-nil section.entries) in
     in_both d direction (section_entries (take i sections)) section.entries f g
     (subst (λ (z : List Entry). HasEmptyEntry d direction z) k h)
-
-pub no_section_all : (d : Dictionary) (direction : Direction) (sections : List Section) (i : ℕ) →
-    length sections ≤ i → (HasEmptyEntry d direction (section_entries (take i sections)) → ⊥) →
-    HasEmptyEntry d direction (section_entries sections) → ⊥
-no_section_all d direction sections i le f h =
-    f (subst (λ (z : List Section). HasEmptyEntry d direction (section_entries z))
-    (sym (take_all i sections le)) h)
 
 pub first_section : (d : Dictionary) (direction : Direction) (sections : List Section)
     (section p : Section) (i line : ℕ) → i < length sections → section ≡ get_or sections i p →

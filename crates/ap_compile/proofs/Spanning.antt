@@ -60,12 +60,6 @@ span_none first a = no_more (OfStrings (IsOfSpan first first)) a
     (λ w o. let k : IsOfSpan first first o.string = o.held in let low : first ≤ k.code = k.low in
     let high : k.code < first = k.high in omega arith)
 
-pub span_empty : (first end : ℕ) (a : Sketch) → end ≤ first →
-    IsMoreBy (OfStrings (IsOfSpan first end)) a a
-span_empty first end a le =
-    no_more (OfStrings (IsOfSpan first end)) a (λ w o. let k : IsOfSpan first end o.string = o.held
-    in let low : first ≤ k.code = k.low in let high : k.code < end = k.high in omega arith)
-
 either_strings : (P Q : List Symbol → Type 0) (w : List EntryLabel) →
     (OfStrings P w ⊎ OfStrings Q w) ↔ OfStrings (λ s. P s ⊎ Q s) w
 either_strings P Q w = (

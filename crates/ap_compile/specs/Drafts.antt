@@ -1,10 +1,13 @@
-use Rattle.std.specs.Prelude.{◌≡◌, ◌↔◌, ◌⊎◌, ℕ, IsTrue, List, [], ◌∷◌, ◌++◌, Some, slice_get}
+use Rattle.std.specs.Prelude.{◌≡◌, ◌↔◌, ◌⊎◌, ℕ, Bool, true, false, ◌&&◌, IsTrue, List, [], ◌∷◌, ◌++◌, Option, Some, slice_get}
+use Rattle.std.specs.List.{list_all}
 use Rattle.ap_symbol.specs.Lists.{IsIn}
 use Rattle.ap_dix.specs.Derivation.{Label as EntryLabel, Derives, is_kept}
+use Rattle.ap_dix.specs.Soundness.{is_entry_symbol, is_sound_form}
 use Rattle.ap_dix.specs.declared.dictionary.Dictionary.{Dictionary}
 use Rattle.ap_dix.specs.declared.dictionary.Direction.{Direction}
 use Rattle.ap_dix.specs.declared.dictionary.Entry.{Entry}
 use Rattle.ap_dix.specs.declared.dictionary.EntryPart.{EntryPart}
+use Rattle.ap_dix.specs.declared.dictionary.EntryPart.TheVariants.{Identity, Pair, Paradigm, Expression}
 use Rattle.ap_dix.specs.declared.dictionary.Kind.{Kind}
 use Rattle.ap_dix.specs.declared.dictionary.Pardef.{Pardef}
 use Rattle.ap_dix.specs.declared.dictionary.Section.{Section}
@@ -66,7 +69,36 @@ pub record SpellsAt (d : Dictionary) (direction : Direction) (n : ℕ)
   pub at : slice_get d.pardefs n ≡ Some pardef
   pub spells : Any (Spells d direction) pardef.entries labels
 
--- drafts of the first paradigms, in order
-pub record AreDrafts (d : Dictionary) (direction : Direction) (drafts : List Sketch) : Type 0 where
-  pub each : (n : ℕ) (draft : Sketch) → slice_get drafts n ≡ Some draft →
+-- Drafts of the first paradigms, in order. A paradigm that nothing more uses may have none.
+pub record AreDrafts (d : Dictionary) (direction : Direction) (drafts : List (Option Sketch)) :
+    Type 0 where
+  pub each : (n : ℕ) (draft : Sketch) → slice_get drafts n ≡ Some (Some draft) →
       IsDraftOf (SpellsAt d direction n) draft
+
+abbrev pub is_draft : Option (Option Sketch) → Bool
+is_draft (Some (Some draft)) = true
+is_draft _ = false
+
+-- the paradigm of that number has its draft among these
+abbrev pub has_draft : List (Option Sketch) → ℕ → Bool
+has_draft drafts n = is_draft (slice_get drafts n)
+
+-- the part is sound, and the paradigm that it names has its draft among these
+abbrev pub is_drafted_part : List (Option Sketch) → EntryPart → Bool
+is_drafted_part drafts (Identity word) = list_all is_entry_symbol word
+is_drafted_part drafts (Pair left right) = list_all is_entry_symbol left
+    && list_all is_entry_symbol right
+is_drafted_part drafts (Paradigm n) = has_draft drafts n
+is_drafted_part drafts (Expression e text) = is_sound_form e
+
+-- each of the parts is such
+abbrev pub AreDraftedParts : List (Option Sketch) → List EntryPart → Type 0
+AreDraftedParts drafts parts = IsTrue (list_all (is_drafted_part drafts) parts)
+
+abbrev pub is_drafted_entry : List (Option Sketch) → Entry → Bool
+is_drafted_entry drafts entry = list_all (is_drafted_part drafts) entry.parts
+
+-- so is each part of the entries of the sections
+abbrev pub AreDraftedSections : List (Option Sketch) → List Section → Type 0
+AreDraftedSections drafts sections = IsTrue (list_all
+    (λ (section : Section). list_all (is_drafted_entry drafts) section.entries) sections)

@@ -1,10 +1,8 @@
 -- Of the inside: no public contract stands on this file.
 -- Entries gathered by the parts that they end with.
-use Rattle.std.specs.Prelude.{◌≡◌, ◌↔◌, ◌⊎◌, ℕ, IsTrue, List, [], ◌∷◌, ◌++◌, Some, map, slice_get}
-use Rattle.std.specs.List.{list_all}
+use Rattle.std.specs.Prelude.{◌≡◌, ◌↔◌, ◌⊎◌, List, [], ◌∷◌, ◌++◌, Some, map, slice_get}
 use Rattle.ap_symbol.specs.Lists.{IsIn}
 use Rattle.ap_dix.specs.Derivation.{Label as EntryLabel, Derives}
-use Rattle.ap_dix.specs.Soundness.{is_sound_part}
 use Rattle.ap_dix.specs.declared.dictionary.Dictionary.{Dictionary}
 use Rattle.ap_dix.specs.declared.dictionary.Direction.{Direction}
 use Rattle.ap_dix.specs.declared.dictionary.Entry.{Entry}
@@ -88,7 +86,3 @@ pub data IsGrown (old : Gathering) (more : Sketch) (new : Gathering) : Type 0 wh
   before_shared : (levels : List Level) (l m : Level) → old.levels.items ≡ levels ++ l ∷ [] →
       new.levels.items ≡ levels ++ m ∷ [] → new.made ≡ old.made → m.ending.now ≡ l.ending.now
       → ((w : List Label) → Accepts m.fronts w ↔ IsEither l.fronts more w) → IsGrown old more new
-
--- each of the parts is sound where so many paradigms stand above
-abbrev pub AreSoundParts : ℕ → List EntryPart → Type 0
-AreSoundParts bound parts = IsTrue (list_all (is_sound_part bound) parts)

@@ -1,5 +1,6 @@
 pub mod Labels
 pub mod Drafts
+pub mod LastUses
 pub mod Gatherings
 pub mod Partners
 pub mod Empties

@@ -1,10 +1,10 @@
-ghost use Rattle.std.specs.Prelude.{◌≡◌, ℕ, length, IfOk, Err};
+ghost use Rattle.std.specs.Prelude.{◌≡◌, ℕ, IfOk, Err};
 ghost use Rattle.ap_compile.specs.declared.compiling.CompileRefusal.TheVariants.{EmptySide};
 ghost use Rattle.ap_min.specs.Canonical.{IsCanonical};
 ghost use Rattle.ap_dix.specs.Soundness.{IsSound};
 ghost use Rattle.ap_fst.specs.Sections.{IsSection};
 ghost use Rattle.ap_compile.specs.Compiling.{AcceptsStrings, IsCompiledFrom, way_of};
-ghost use Rattle.ap_compile.specs.Drafts.{AreDrafts};
+ghost use Rattle.ap_compile.specs.Drafts.{AreDrafts, AreDraftedSections};
 ghost use Rattle.ap_compile.specs.Empties.{HasEmptyEntry, IsFirstEmpty, section_entries};
 
 use crate::alphabet::closure;
@@ -44,12 +44,12 @@ fn compiled_section(
     alloc: Global,
     direction: Direction,
     dictionary: &Dictionary,
-    drafts: &[Draft],
+    drafts: &[Option<Draft>],
     kind: Kind,
 ) -> Result<Fst, Memory>
     requires sound { IsSound dictionary.now }
     requires drafts { AreDrafts dictionary.now direction drafts.now }
-    requires count { length drafts.now ≡ length dictionary.now.pardefs }
+    requires drafted { AreDraftedSections drafts.now dictionary.now.sections }
     requires none { HasEmptyEntry dictionary.now direction
         (section_entries dictionary.now.sections) → ⊥ }
     ensures strings { IfOk result (λ fst. AcceptsStrings dictionary.now direction kind fst) }

@@ -1,10 +1,10 @@
-ghost use Rattle.std.specs.Prelude.{◌≡◌, ◌<◌, ◌∷◌, [], List, length, max, IsTrue, IfOk, slice_get};
+ghost use Rattle.std.specs.Prelude.{◌≡◌, ◌<◌, ◌∷◌, [], List, ℕ, length, max, IsTrue, IfOk, Some as something, slice_get};
 ghost use Rattle.std.specs.List.{list_all};
 ghost use Rattle.ap_dix.specs.Derivation.{Derives, paired, facing, is_kept};
-ghost use Rattle.ap_dix.specs.Soundness.{is_entry_symbol, is_sound_part};
+ghost use Rattle.ap_dix.specs.Soundness.{is_entry_symbol};
 ghost use Rattle.ap_dix.specs.declared.dictionary.Dictionary.{Dictionary as Lexicon};
 ghost use Rattle.ap_compile.specs.Labels.{label_of, IsEntryWord};
-ghost use Rattle.ap_compile.specs.Drafts.{IsDraftOf, AreDrafts};
+ghost use Rattle.ap_compile.specs.Drafts.{IsDraftOf, AreDrafts, has_draft, is_drafted_part};
 
 use crate::expressions::expression_draft;
 use ap_dix::{Direction, Entry, EntryPart};
@@ -72,14 +72,25 @@ fn faced_draft(
     }
 }
 
+/// The draft of the paradigm of that number.
+fn draft_at(drafts: &[Option<Draft>], n: usize) -> &Draft
+    requires { IsTrue (has_draft drafts.now n) }
+    ensures { slice_get drafts.now n ≡ something (something result.now) }
+{
+    match drafts.get(n) {
+        Some(Some(draft)) => draft,
+        _ => unreachable!(),
+    }
+}
+
 /// Accepts what this part derives.
 pub fn part_draft(
     alloc: Global,
     direction: Direction,
-    drafts: &[Draft],
+    drafts: &[Option<Draft>],
     part: &EntryPart,
 ) -> Result<Draft, Memory>
-    requires { IsTrue (is_sound_part (length drafts.now) part.now) }
+    requires { IsTrue (is_drafted_part drafts.now part.now) }
     ensures { IfOk result (λ made. (d : Lexicon) → AreDrafts d direction drafts.now →
         IsDraftOf (Derives d direction (part.now ∷ [])) made) }
 {
@@ -87,7 +98,7 @@ pub fn part_draft(
         EntryPart::Identity(word) => faced_draft(alloc, direction, word, word),
         EntryPart::Pair(left, right) => faced_draft(alloc, direction, left, right),
         EntryPart::Paradigm(n) => {
-            let draft = &drafts[*n];
+            let draft = draft_at(drafts, *n);
             draft.copy(alloc)
         }
         EntryPart::Expression(expression, _) => expression_draft(alloc, expression.tree()),
@@ -98,10 +109,10 @@ pub fn part_draft(
 pub fn parts_draft(
     alloc: Global,
     direction: Direction,
-    drafts: &[Draft],
+    drafts: &[Option<Draft>],
     parts: &[EntryPart],
 ) -> Result<Draft, Memory>
-    requires { IsTrue (list_all (is_sound_part (length drafts.now)) parts.now) }
+    requires { IsTrue (list_all (is_drafted_part drafts.now) parts.now) }
     ensures { IfOk result (λ made. (d : Lexicon) → AreDrafts d direction drafts.now →
         IsDraftOf (Derives d direction parts.now) made) }
 {

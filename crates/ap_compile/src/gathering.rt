@@ -2,13 +2,12 @@ ghost use Rattle.std.specs.Prelude.{◌≡◌, ◌-◌, ◌∷◌, ◌++◌, ◌
 ghost use Rattle.std.specs.List.{list_all};
 ghost use Rattle.std.specs.Option.{option_copied};
 ghost use Rattle.ap_dix.specs.Derivation.{Label as EntryLabel, Derives};
-ghost use Rattle.ap_dix.specs.Soundness.{is_sound_entry, is_sound_part};
 ghost use Rattle.ap_dix.specs.declared.dictionary.Dictionary.{Dictionary as Lexicon};
 ghost use Rattle.ap_dix.specs.declared.dictionary.EntryPart.{EntryPart as LexiconPart};
 ghost use Rattle.ap_fst.specs.Paths.{Accepts, IsEither};
 ghost use Rattle.ap_fst.specs.declared.label.Label.{Label};
-ghost use Rattle.ap_compile.specs.Drafts.{IsCut, IsDraftOf, Any, Spells, AreDrafts};
-ghost use Rattle.ap_compile.specs.Gatherings.{Tells, IsGrown, endings, shared, Gathers, IsPlainDraft, IsPlainGathering, IsGatheringOf, AreSoundParts, SpellsFrom};
+ghost use Rattle.ap_compile.specs.Drafts.{IsCut, IsDraftOf, Any, Spells, AreDrafts, AreDraftedParts, is_drafted_entry, is_drafted_part};
+ghost use Rattle.ap_compile.specs.Gatherings.{Tells, IsGrown, endings, shared, Gathers, IsPlainDraft, IsPlainGathering, IsGatheringOf, SpellsFrom};
 
 use crate::drafts::{is_entry_kept, part_draft, parts_draft};
 use crate::places::{Place, places_by_ending};
@@ -129,10 +128,10 @@ fn with_more<'a>(gathering: Gathering<'a>, more: Draft) -> Result<Gathering<'a>,
 fn closed(
     alloc: Global,
     direction: Direction,
-    drafts: &[Draft],
+    drafts: &[Option<Draft>],
     level: Level<'_>,
 ) -> Result<Draft, Memory>
-    requires { IsTrue (is_sound_part (length drafts.now) level.ending.now) }
+    requires { IsTrue (is_drafted_part drafts.now level.ending.now) }
     ensures { IfOk result (λ made. (d : Lexicon) → AreDrafts d direction drafts.now →
         IsPlainDraft level.entry.fronts →
         IsDraftOf (IsCut (Tells level.entry.fronts)
@@ -152,10 +151,10 @@ fn closed(
 fn with_last_closed<'a>(
     alloc: Global,
     direction: Direction,
-    drafts: &[Draft],
+    drafts: &[Option<Draft>],
     gathering: Gathering<'a>,
 ) -> Result<Gathering<'a>, Memory>
-    requires { AreSoundParts (length drafts.now) (endings gathering.levels.items) }
+    requires { AreDraftedParts drafts.now (endings gathering.levels.items) }
     ensures same { IfOk result (λ all. (d : Lexicon) → AreDrafts d direction drafts.now →
         IsPlainGathering gathering.entry →
         IsGatheringOf d direction (Gathers d direction gathering.entry) all) }
@@ -175,11 +174,11 @@ fn with_last_closed<'a>(
 fn closed_to<'a>(
     alloc: Global,
     direction: Direction,
-    drafts: &[Draft],
+    drafts: &[Option<Draft>],
     gathering: Gathering<'a>,
     count: usize,
 ) -> Result<Gathering<'a>, Memory>
-    requires sound { AreSoundParts (length drafts.now) (endings gathering.levels.items) }
+    requires drafted { AreDraftedParts drafts.now (endings gathering.levels.items) }
     requires count { count ≤ length gathering.levels.items }
     ensures same { IfOk result (λ all. (d : Lexicon) → AreDrafts d direction drafts.now →
         IsPlainGathering gathering.entry →
@@ -243,14 +242,14 @@ fn opened_to<'a>(
 fn with_entry<'a>(
     alloc: Global,
     direction: Direction,
-    drafts: &[Draft],
+    drafts: &[Option<Draft>],
     gathering: Gathering<'a>,
     entry: &'a Entry,
 ) -> Result<Gathering<'a>, Memory>
-    requires entry { IsTrue (is_sound_entry (length drafts.now) entry.now) }
-    requires sound { AreSoundParts (length drafts.now) (endings gathering.levels.items) }
-    ensures sound { IfOk result
-        (λ all. AreSoundParts (length drafts.now) (endings all.levels.items)) }
+    requires entry { IsTrue (is_drafted_entry drafts.now entry.now) }
+    requires drafted { AreDraftedParts drafts.now (endings gathering.levels.items) }
+    ensures drafted { IfOk result
+        (λ all. AreDraftedParts drafts.now (endings all.levels.items)) }
     ensures strings { IfOk result (λ all. (d : Lexicon) → AreDrafts d direction drafts.now →
         IsPlainGathering gathering.entry →
         IsGatheringOf d direction (λ w. Gathers d direction gathering.entry w
@@ -279,15 +278,15 @@ fn entry_at(entries: &[Entry], at: usize) -> Option<&Entry>
 fn with_place<'a>(
     alloc: Global,
     direction: Direction,
-    drafts: &[Draft],
+    drafts: &[Option<Draft>],
     entries: &'a [Entry],
     gathering: Gathering<'a>,
     place: &Place,
 ) -> Result<Gathering<'a>, Memory>
-    requires entries { IsTrue (list_all (is_sound_entry (length drafts.now)) entries.now) }
-    requires sound { AreSoundParts (length drafts.now) (endings gathering.levels.items) }
-    ensures sound { IfOk result
-        (λ all. AreSoundParts (length drafts.now) (endings all.levels.items)) }
+    requires entries { IsTrue (list_all (is_drafted_entry drafts.now) entries.now) }
+    requires drafted { AreDraftedParts drafts.now (endings gathering.levels.items) }
+    ensures drafted { IfOk result
+        (λ all. AreDraftedParts drafts.now (endings all.levels.items)) }
     ensures strings { IfOk result (λ all. (d : Lexicon) → AreDrafts d direction drafts.now →
         IsPlainGathering gathering.entry →
         IsGatheringOf d direction (λ w. Gathers d direction gathering.entry w
@@ -303,13 +302,13 @@ fn with_place<'a>(
 fn gathered<'a>(
     alloc: Global,
     direction: Direction,
-    drafts: &[Draft],
+    drafts: &[Option<Draft>],
     entries: &'a [Entry],
     places: &[Place],
 ) -> Result<Gathering<'a>, Memory>
-    requires { IsTrue (list_all (is_sound_entry (length drafts.now)) entries.now) }
-    ensures sound { IfOk result
-        (λ all. AreSoundParts (length drafts.now) (endings all.levels.items)) }
+    requires { IsTrue (list_all (is_drafted_entry drafts.now) entries.now) }
+    ensures drafted { IfOk result
+        (λ all. AreDraftedParts drafts.now (endings all.levels.items)) }
     ensures strings { IfOk result (λ all. (d : Lexicon) → AreDrafts d direction drafts.now →
         IsGatheringOf d direction (Any (SpellsFrom d direction entries.now) places.now) all) }
 {
@@ -328,10 +327,10 @@ fn gathered<'a>(
 pub fn entries_draft(
     alloc: Global,
     direction: Direction,
-    drafts: &[Draft],
+    drafts: &[Option<Draft>],
     entries: &[Entry],
 ) -> Result<Draft, Memory>
-    requires { IsTrue (list_all (is_sound_entry (length drafts.now)) entries.now) }
+    requires { IsTrue (list_all (is_drafted_entry drafts.now) entries.now) }
     ensures { IfOk result (λ made. (d : Lexicon) → AreDrafts d direction drafts.now →
         IsDraftOf (Any (Spells d direction) entries.now) made) }
 {

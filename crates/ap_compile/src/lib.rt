@@ -22,8 +22,9 @@
 //!   (`same_strings_same_compiled`).
 //! - No transducer with at most one edge per state and label that accepts what a kind of section
 //!   derives has fewer states (`compiled_is_least`).
-//! - Of time and memory nothing is promised. Each paradigm is made canonical once, and entries
-//!   whose last parts agree share one draft of each of these parts.
+//! - Of time and memory nothing is promised. Each paradigm that is used is made canonical once, and
+//!   let go after its last use; entries whose last parts agree share one draft of each of these
+//!   parts.
 //!
 //! # Definitions to read first
 //!
@@ -34,6 +35,7 @@
 //! - `specs/Empties.antt`: `IsFirstEmpty`, `HasEmptyEntry`: the first entry with an empty input
 //!   side.
 //! - `specs/Gatherings.antt`: `Gathers`: entries gathered by the parts that they end with.
+//! - `specs/LastUses.antt`: `AreLastUses`, `AreDraftsTo`: until when the draft of a paradigm is there.
 //! - `ap_min/specs/Canonical.antt`: `IsCanonical`: the one transducer of its label strings.
 #![tactic(auto)]
 
@@ -43,6 +45,7 @@ mod drafts;
 mod empties;
 mod expressions;
 mod gathering;
+mod last_uses;
 mod laws;
 mod paradigms;
 mod places;

@@ -1,13 +1,12 @@
-ghost use Rattle.std.specs.Prelude.{◌≡◌, ◌↔◌, List, length, IsTrue, IfOk};
+ghost use Rattle.std.specs.Prelude.{◌≡◌, ◌↔◌, List, IsTrue, IfOk};
 ghost use Rattle.std.specs.List.{list_all};
 ghost use Rattle.ap_dix.specs.Derivation.{Strings};
-ghost use Rattle.ap_dix.specs.Soundness.{is_sound_entry, IsSound};
 ghost use Rattle.ap_dix.specs.declared.dictionary.Dictionary.{Dictionary as Lexicon};
 ghost use Rattle.ap_fst.specs.Walks.{AcceptsLabels};
 ghost use Rattle.ap_fst.specs.declared.label.Label.{Label};
 ghost use Rattle.ap_min.specs.Canonical.{IsCanonical};
 ghost use Rattle.ap_compile.specs.Labels.{derived_labels, ArePlain};
-ghost use Rattle.ap_compile.specs.Drafts.{IsDraftOf, IsMoreBy, Any, SpellsIn, AreDrafts};
+ghost use Rattle.ap_compile.specs.Drafts.{IsDraftOf, IsMoreBy, Any, SpellsIn, AreDrafts, AreDraftedSections, is_drafted_entry};
 
 use crate::gathering::entries_draft;
 use crate::small::canonical_form;
@@ -19,12 +18,12 @@ use std::alloc::Global;
 fn with_section(
     alloc: Global,
     direction: Direction,
-    drafts: &[Draft],
+    drafts: &[Option<Draft>],
     kind: Kind,
     made: Draft,
     section: &Section,
 ) -> Result<Draft, Memory>
-    requires { IsTrue (list_all (is_sound_entry (length drafts.now)) section.now.entries) }
+    requires { IsTrue (list_all (is_drafted_entry drafts.now) section.now.entries) }
     ensures { IfOk result (λ all. (d : Lexicon) → AreDrafts d direction drafts.now →
         IsMoreBy (SpellsIn d direction kind section.now) made all) }
 {
@@ -39,13 +38,11 @@ fn with_section(
 fn kind_draft(
     alloc: Global,
     direction: Direction,
-    drafts: &[Draft],
+    drafts: &[Option<Draft>],
     kind: Kind,
     sections: &[Section],
 ) -> Result<Draft, Memory>
-    requires { IsTrue (list_all
-        (λ (section : Section). list_all (is_sound_entry (length drafts.now)) section.entries)
-        sections.now) }
+    requires { AreDraftedSections drafts.now sections.now }
     ensures { IfOk result (λ made. (d : Lexicon) → AreDrafts d direction drafts.now →
         IsDraftOf (Any (SpellsIn d direction kind) sections.now) made) }
 {
@@ -57,17 +54,17 @@ fn kind_draft(
 }
 
 /// The transducer of the sections of a kind: the canonical one of exactly the label strings that a
-/// kept entry of such a section derives in the direction. The drafts are those of the paradigms.
+/// kept entry of such a section derives in the direction. The drafts are those of the paradigms
+/// that these entries use.
 pub fn section(
     alloc: Global,
     direction: Direction,
     dictionary: &Dictionary,
-    drafts: &[Draft],
+    drafts: &[Option<Draft>],
     kind: Kind,
 ) -> Result<Fst, Memory>
-    requires sound { IsSound dictionary.now }
     requires drafts { AreDrafts dictionary.now direction drafts.now }
-    requires count { length drafts.now ≡ length dictionary.now.pardefs }
+    requires drafted { AreDraftedSections drafts.now dictionary.now.sections }
     ensures strings { IfOk result (λ fst. (w : List Label) →
         AcceptsLabels fst w ↔ Strings dictionary.now direction kind (derived_labels w)) }
     ensures plain { IfOk result (λ fst. (w : List Label) → AcceptsLabels fst w → ArePlain w) }

@@ -14,7 +14,7 @@ use Rattle.ap_symbol.proofs.RecasedWords.{stays_proper}
 use Rattle.ap_fst.specs.Sections.{Parts, IsCompiled, section_of}
 use Rattle.ap_fst.proofs.Listing.{in_map, in_mapped, IsImage, in_filter, filter_in, IsKept}
 use Rattle.ap_live.specs.Found.{in_order}
-use Rattle.ap_live.specs.Lexicon.{Lexicon, Reads, lexicon_of, Spelled}
+use Rattle.ap_live.specs.Lexicon.{Reads, lexicon_of, Spelled}
 use Rattle.ap_live.specs.Readings.{carried, any_words}
 use Rattle.ap_live.specs.Relations.{relation_of}
 use Rattle.ap_live.proofs.AnyWords.{IsAny, any_is, any_of, any_proper, carried_proper}
@@ -75,9 +75,6 @@ some_length [] h = absurd (h refl)
 some_length (x ∷ symbols) h = omega arith
 
 module _ (law : OneRendering) (p : Parts) (sensitive : Bool) (compiled : IsCompiled p) where
-  abbrev lexicon : Lexicon
-  lexicon = lexicon_of p sensitive
-
   part_to : (part : Part) (symbols w : List Symbol) →
       IsIn w (map bare (filter (holds (tag_of part)) (any_words (lexicon_of p sensitive) symbols))) →
       IsPart p sensitive part symbols w

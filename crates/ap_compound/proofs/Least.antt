@@ -52,12 +52,6 @@ lesser_right (Some k) (Some n) m h =
     let low : r.0 ≤ n = r.1.1 in
     (r.0, (r.1.0, omega arith))
 
-pub least_none : (at : ℕ → ℕ → Type 0) → IsLeast at 0 None
-least_none at = record {
-  attained = λ m e. absurd (none-some m e);
-  least = λ i m lt h. absurd (omega (arith, lt));
-}
-
 -- with one number more, if there is one at the bound
 pub least_more : (at : ℕ → ℕ → Type 0) (bound : ℕ) (found next made : Option ℕ) →
     IsLeast at bound found → ((m : ℕ) → next ≡ Some m → at bound m) →

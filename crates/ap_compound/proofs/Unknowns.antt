@@ -6,7 +6,7 @@ use Rattle.ap_symbol.specs.Fitting.{fits_lem, lists_fit}
 use Rattle.ap_symbol.specs.Rendering.{rendering}
 use Rattle.ap_symbol.specs.declared.symbol.Symbol.{Symbol}
 use Rattle.ap_symbol.specs.declared.symbol.Symbol.TheVariants.{Letter, Tag, Blank, Join, Queue, Alarm, Star, At}
-use Rattle.ap_stream.specs.PlainBytes.{IsRendered}
+use Rattle.ap_stream.specs.UnitBytes.{IsRendered}
 use Rattle.ap_compound.specs.Works.{is_unknown, is_starred}
 
 other_both : (b t : Bool) → t ≡ false → (b && t) ≡ false

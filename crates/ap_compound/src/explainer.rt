@@ -141,15 +141,18 @@ impl UnitWriter for Explainer {
     ghost given = { λ e words. compound_unit (lexicon_of e.compiled e.sensitive)
         e.sensitive words };
 
-    fn write(&mut self, unit: &Unit, into: &mut Bytes) -> Result<(), Memory> {
+    fn write(&mut self, unit: &Unit, into: &mut Bytes) -> Result<bool, Memory> {
         if !may_be_unknown(unit) {
-            return self.copy(unit, into);
+            self.copy(unit, into)?;
+            return Ok(true);
         }
         let words = self.words(unit)?;
         if !is_unknown(words.as_slice()) {
-            return self.copy(unit, into);
+            self.copy(unit, into)?;
+            return Ok(true);
         }
         let readings = self.readings(surface_of(words.as_slice()))?;
-        write_explained(words.as_slice(), readings.as_slice(), into)
+        write_explained(words.as_slice(), readings.as_slice(), into)?;
+        Ok(true)
     }
 }

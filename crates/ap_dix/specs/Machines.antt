@@ -46,11 +46,6 @@ cut_end s = if s.escaping then None else Some s.made
 unfoldable pub pieces_of : List ℕ → Option (List Piece)
 pieces_of text = on_some (run cut_step (Some (record { made = []; escaping = false })) text) cut_end
 
--- the ranges of a class so far, with the member that is begun
-abbrev pub with_begun : List Range → Member → List Range
-with_begun ranges (Begun c) = ranges ++ range c c ∷ []
-with_begun ranges _ = ranges
-
 -- the tokens so far, and the class that is open
 pub record Telling : Type 0 where
   pub made : List Token

@@ -1,5 +1,5 @@
 -- The units of a match and their positions, one after another.
-use Rattle.std.proofs.Common.{◌≡◌, ℕ, zero, suc, ◌+◌, ◌<◌, List, [], ◌∷◌, ◌++◌, length, map, set, Option, Some, None, is_some, Ok, refl, ap, sym, ◌∙◌, arith}
+use Rattle.std.proofs.Common.{◌≡◌, ℕ, zero, suc, ◌+◌, List, [], ◌∷◌, ◌++◌, length, map, Option, Some, None, is_some, Ok, refl, ap, sym, ◌∙◌, arith}
 use Rattle.ap_symbol.specs.declared.symbol.Symbol.{Symbol}
 use Rattle.ap_rules.specs.Plain.{PlainStatements, PlainRules}
 use Rattle.ap_rules.specs.Views.{plain_macro, plain_rules}
@@ -8,7 +8,7 @@ use Rattle.ap_rules.specs.declared.rules.DefList.{DefList}
 use Rattle.ap_rules.specs.declared.rules.Rules.{Rules}
 use Rattle.ap_rules.specs.declared.rules.DefMacro.{DefMacro}
 use Rattle.ap_exec.specs.Acting.{shown, units_in, positions_in, from, body_of, definitions_of, action_of, started, act_of, outcome, Outcome}
-use Rattle.ap_exec.specs.Beginning.{chunk_in, lead_in, from_first}
+use Rattle.ap_exec.specs.Beginning.{lead_in, from_first}
 use Rattle.ap_exec.specs.Results.{Ran, seen, Fails}
 use Rattle.ap_exec.specs.Running.{Definitions, RunState, run_all, macros_below}
 use Rattle.ap_exec.specs.Starting.{with_new}
@@ -23,11 +23,6 @@ use Rattle.ap_exec.specs.declared.template.Piece.{Piece}
 pub bodies_are : (ms : List DefMacro) → map body_in ms ≡ map body_of (map plain_macro ms)
 bodies_are [] = refl
 bodies_are (m ∷ ms) = ap (λ (bs : List PlainStatements). body_in m ∷ bs) (bodies_are ms)
-
-pub units_are : (chunk : Option (List Symbol)) (us : List MatchedUnit) →
-    chunk_in chunk ++ map shown us ≡ units_in chunk us
-units_are None us = refl
-units_are (Some name) us = refl
 
 length_shown : (us : List MatchedUnit) → length (map shown us) ≡ length us
 length_shown [] = refl
@@ -72,11 +67,6 @@ overlaid_last (word ∷ words) (Some old ∷ fresh) None =
     ap (λ (ws : List (List Symbol)). old ∷ ws) (overlaid_last words fresh None)
 overlaid_last (word ∷ words) (Some old ∷ fresh) (Some v) =
     ap (λ (ws : List (List Symbol)). old ∷ ws) (overlaid_last words fresh (Some v))
-
-pub set_past : {A : Type 0} (xs : List A) (n : ℕ) (x : A) → length xs < n + 1 → set xs n x ≡ xs
-set_past [] n x h = refl
-set_past (y ∷ ys) zero x h = absurd (omega arith)
-set_past (y ∷ ys) (suc n) x h = ap (λ (zs : List _). y ∷ zs) (set_past ys n x (omega arith))
 
 -- the world of a run
 pub definitions_are : (r : Rules) (attributes : List (List AttrItem)) (lists : List DefList)

@@ -79,14 +79,3 @@ overlaid-None (w ∷ words) (None ∷ fresh) =
     ap (λ (x : List (List Symbol)). w ∷ x) (overlaid-None words fresh)
 overlaid-None (w ∷ words) (Some v ∷ fresh) =
     ap (λ (x : List (List Symbol)). v ∷ x) (overlaid-None words fresh)
-
--- a new value behind the others, where there is such a variable
-pub overlaid-Some : (base : List (List Symbol)) (fresh : List (Option (List Symbol)))
-    (new : List Symbol) → overlaid base (fresh ++ Some new ∷ [])
-    ≡ overlaid (set base (length fresh) new) fresh
-overlaid-Some [] fresh new = refl
-overlaid-Some (w ∷ words) [] new = ap (λ (x : List (List Symbol)). new ∷ x) (overlaid-none words)
-overlaid-Some (w ∷ words) (None ∷ fresh) new =
-    ap (λ (x : List (List Symbol)). w ∷ x) (overlaid-Some words fresh new)
-overlaid-Some (w ∷ words) (Some v ∷ fresh) new =
-    ap (λ (x : List (List Symbol)). v ∷ x) (overlaid-Some words fresh new)

@@ -17,7 +17,3 @@ proper_take (suc n) [] h = h
 proper_take (suc n) (s ∷ word) h =
     let both = and_parts (is_proper s) (list_all is_proper word) h in
     rw (both.0, proper_take n word both.1) refl
-
-pub proper_cut : (start count : ℕ) (word : List Symbol) → AreProper word →
-    AreProper (take count (drop start word))
-proper_cut start count word h = proper_take count (drop start word) (proper_drop start word h)

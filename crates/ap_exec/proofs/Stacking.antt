@@ -12,7 +12,7 @@ use Rattle.ap_rules.specs.declared.statement.Statement.{Statement}
 use Rattle.ap_exec.specs.Choosing.{chosen, taken}
 use Rattle.ap_exec.specs.Conditions.{holds}
 use Rattle.ap_exec.specs.Costs.{cost_all, cost_one, cost_whens, macro_cost}
-use Rattle.ap_exec.specs.Results.{Ran, ◌>>=◌, Fails, Gives}
+use Rattle.ap_exec.specs.Results.{Ran, ◌>>=◌, Fails}
 use Rattle.ap_exec.specs.Running.{Definitions, RunState, Calls, run, run_all, run_choice, macros_below, body_at, sight_of, either_of}
 use Rattle.ap_exec.specs.Stacks.{between, positions_within, body_of, run_rest, unwound, left, rest_first, one_first, AreNested, Leads, frames_cost, rest_cost}
 use Rattle.ap_exec.specs.Units.{Sight, number_at}
@@ -50,13 +50,6 @@ pub fails_then : {A B : Type 0} (e : ExecRefusal) (r : Ran A) (f : A → Ran B) 
 fails_then Memory r f h = tt
 fails_then ValueTooLong r f h = ap (λ (x : Ran _). x >>= f) h
 fails_then OutputTooLong r f h = ap (λ (x : Ran _). x >>= f) h
-
--- a statement that leaves the stack as it is
-pub leads_given : {Y : Type 0} (r : Result Y ExecRefusal) (ran : Ran RunState) (after : RunState) (k
-    : RunState →
-    Ran RunState) → Gives (λ _. after) r ran → Leads r (ran >>= k) (k after)
-leads_given (Ok y) ran after k h = sym (ap (λ (x : Ran RunState). x >>= k) h)
-leads_given (Err e) ran after k h = fails_then e ran k h
 
 pub leads_from : {Y : Type 0} (r : Result Y ExecRefusal) (first before after : Ran RunState) →
     before ≡ first → Leads r before after → Leads r first after

@@ -1,23 +1,11 @@
-use Rattle.std.proofs.Common.{◌≡◌, ℕ, ◌+◌, ◌<◌, ◌≤◌, Bool, List, [], ◌∷◌, ◌++◌, length, get_or, take, arith, sym, ap, ◌∙◌, refl, Some, None}
+use Rattle.std.proofs.Common.{◌≡◌, ℕ, ◌+◌, ◌<◌, ◌≤◌, Bool, List, [], ◌++◌, length, get_or, take, arith, ap, ◌∙◌}
 use Rattle.std.specs.Prelude.{reverse}
-use Rattle.std.proofs.lemmas.List.{append_assoc, append-nil, take-append-le, length-append, nil_from_length}
+use Rattle.std.proofs.lemmas.List.{take-append-le, length-append, nil_from_length}
 use Rattle.ap_dix.specs.declared.dictionary.EntryPart.{EntryPart}
-use Rattle.ap_dix.specs.declared.dictionary.EntryPart.TheVariants.{Identity, Pair, Paradigm, Expression}
-use Rattle.ap_expand.specs.Search.{Opening, Follow, parts_trace, todo_of, end_trace, AreLinked, Begins}
-use Rattle.ap_expand.specs.Walks.{Adds, SameSteps, todo_trace, way_of}
+use Rattle.ap_expand.specs.Search.{Opening, parts_trace, todo_of, end_trace, AreLinked, Begins}
+use Rattle.ap_expand.specs.Walks.{SameSteps, todo_trace, way_of}
 use Rattle.ap_expand.specs.declared.frame.Frame.{Frame}
 use Rattle.ap_expand.proofs.Todo.{Parent, parent-of, todo_of-zero}
-
-pub begins-refl : (xs : List ℕ) → Begins xs xs
-begins-refl xs = record { more = []; is = sym (append-nil xs) }
-
-pub begins-trans : (xs ys zs : List ℕ) → Begins xs ys → Begins ys zs → Begins xs zs
-begins-trans xs ys zs h k =
-    record {
-      more = h.more ++ k.more;
-      is = k.is ∙ ap (λ s. s ++ k.more) h.is
-          ∙ append_assoc xs h.more k.more;
-    }
 
 pub begins-take : (xs ys : List ℕ) (n : ℕ) → Begins xs ys → n ≤ length xs → take n ys ≡ take n xs
 begins-take xs ys n h le = ap (take n) h.is ∙ take-append-le n xs h.more le
@@ -33,50 +21,6 @@ pub record Walked (frames : List Frame) (parts : List EntryPart) (parent : ℕ) 
       new_left new_right
   pub left_begins : Begins left new_left
   pub right_begins : Begins right new_right
-
--- the words of a part
-part-steps : (above : List Opening) (part : EntryPart) (rest : List EntryPart)
-    (left right new_left new_right : List ℕ) (lr rl : Bool) (follow : Follow) →
-    Adds part None left right new_left new_right →
-    parts_trace above (part ∷ rest) follow (way_of left right lr rl)
-    ≡ parts_trace above rest follow (way_of new_left new_right lr rl)
-part-steps above (Identity word) rest left right new_left new_right lr rl follow h =
-    rw (h.left_is, h.right_is) refl
-part-steps above (Pair l r) rest left right new_left new_right lr rl follow h =
-    rw (h.left_is, h.right_is) refl
-part-steps above (Expression e text) rest left right new_left new_right lr rl follow h =
-    rw (h.left_is, h.right_is) refl
-part-steps above (Paradigm n) rest left right new_left new_right lr rl follow h =
-    let is : None ≡ Some n = h.number_is in cc
-
-pub walked-start : (frames : List Frame) (parts : List EntryPart) (parent : ℕ) (left right : List ℕ)
-    → parent ≤ length frames → Walked frames parts parent left right parts parent left right
-walked-start frames parts parent left right h =
-    record {
-      bound = h;
-      steps = λ above lr rl. refl;
-      left_begins = begins-refl left;
-      right_begins =
-          begins-refl right;
-    }
-
-pub walked-part : (frames : List Frame) (parts : List EntryPart) (parent : ℕ) (left right : List ℕ)
-    (now_parts : List EntryPart) (now : ℕ) (now_left now_right : List ℕ) (part : EntryPart)
-    (rest : List EntryPart) (new_left new_right : List ℕ)
-    → Walked frames parts parent left right now_parts now now_left now_right →
-    now_parts ≡ part ∷ rest → Adds part None now_left now_right new_left new_right →
-    Begins now_left new_left → Begins now_right new_right
-    → Walked frames parts parent left right rest now new_left new_right
-walked-part frames parts parent left right now_parts now now_left now_right part rest new_left
-    new_right w is adds bl br = record {
-      bound = w.bound;
-      steps = λ above lr rl. w.steps above lr rl
-          ∙ ap (λ ps. todo_trace above (reverse frames) ps now (way_of now_left now_right lr rl)) is
-          ∙ part-steps above part (rest ++ todo_of (reverse frames) now) now_left now_right new_left
-          new_right lr rl end_trace adds;
-      left_begins = begins-trans left now_left new_left w.left_begins bl;
-      right_begins = begins-trans right now_right new_right w.right_begins br;
-    }
 
 pub walked-parent : (frames : List Frame) (parts : List EntryPart) (parent : ℕ)
     (left right : List ℕ) (now_parts : List EntryPart) (now : ℕ) (now_left now_right : List ℕ)

@@ -14,9 +14,9 @@ use Rattle.ap_stream.specs.declared.fault.StreamFault.TheVariants.{Malformed, Li
 use Rattle.ap_stream.specs.declared.fault.MalformedKind.TheVariants.{NotUtf8, Unfinished}
 use Rattle.ap_stream.specs.declared.fault.LimitKind.TheVariants.{ItemTooLong}
 use Rattle.ap_stream.proofs.Cut.{char_bytes}
-use Rattle.ap_format.specs.Pieces.{Piece, Run, Letter, Pieces, nothing, stopped, followed, run_max, white_size, cut, pieces_of}
+use Rattle.ap_format.specs.Pieces.{Run, Letter, Pieces, nothing, stopped, followed, run_max, white_size, cut, pieces_of}
 use Rattle.ap_format.proofs.PieceLaws.{run_max_is}
-use Rattle.ap_format.specs.Deformatted.{piece_bytes, written, des_from}
+use Rattle.ap_format.specs.Deformatted.{written, des_from}
 use Rattle.ap_format.specs.Standing.{IsWhite, IsBare, AreCopied}
 use Rattle.ap_format.proofs.Runs.{white_parts, white_more, first_dark, dark_front, white_low}
 
@@ -147,10 +147,6 @@ unfolding pieces_of cut
 none_left place = refl
 
 -- what comes of them
-
-pub written_next : (piece : Piece) (more : Pieces) (e : Ending) → written (followed piece more) e
-    ≡ behind (piece_bytes piece) (written more e)
-written_next piece more e = refl
 
 pub written_limit : (place : ℕ) (e : Ending) → written (stopped (Limit ItemTooLong place)) e
     ≡ ends_in [] (Limit ItemTooLong place)

@@ -18,7 +18,7 @@ use Rattle.ap_format.specs.Pieces.{Pieces, run_max, white_size}
 use Rattle.ap_format.proofs.PieceLaws.{run_max_is}
 use Rattle.ap_format.specs.Deformatted.{is_space, run_bytes, written, des_from, Uncut, Deformatting, des_rest, des_rest_from}
 use Rattle.ap_format.specs.declared.cutter.Begun.TheVariants as begun
-use Rattle.ap_format.specs.Standing.{IsWhite, Stands, Stops, Cuts, Closes, AreCopied, kind_of_white}
+use Rattle.ap_format.specs.Standing.{IsWhite, Stands, Stops, Cuts, Closes, kind_of_white}
 use Rattle.std.proofs.lemmas.Bool.{eqb-true, eqb-false}
 use Rattle.ap_format.proofs.Runs.{white_nil, white_dark, white_take, white_within, white_append, dark_front}
 use Rattle.ap_format.proofs.Cuts.{behind_behind, run_front, run_long, letter_front, bad_front, part_end, none_left, part_dark, bare_bytes, written_limit, written_bad}
@@ -32,17 +32,6 @@ cuts_held old new taken out bytes place = record {
   moves = λ x e. rw (place, bytes, append_assoc) refl;
   held = let size = length-append old.bytes taken in let same = ap length bytes in
       omega (arith, size, same);
-}
-
--- bytes that are written as they are
-pub cuts_copied : (old new : Uncut) (taken out after : List ℕ) → old.bytes ≡ [] → new.bytes ≡ [] →
-    AreCopied taken → new.place ≡ counted (old.place + length taken) → after ≡ out ++ taken →
-    Cuts old taken out after new
-cuts_copied old new taken out after empty none copied place is = record {
-  given = taken;
-  written = is;
-  moves = λ x e. rw (empty, none, place) (copied old.place x e);
-  held = let same = ap length none in omega (arith, same);
 }
 
 -- a character whose last byte this is
@@ -180,10 +169,6 @@ white_some (b ∷ bs) (suc n) some h = by (is_white b) some
     by true s = omega arith
     by false s = s
 
-pub white_front : (piece : List ℕ) (most : ℕ) →
-    IsWhite (take (white_size (take most piece)) (take most piece))
-white_front piece most = white_take (take most piece) (white_size (take most piece)) (omega arith)
-
 pub stands_white : (held : List ℕ) → IsWhite held → 0 < length held → length held + 1 ≤ unit_max →
     Stands (kind_of_white (length held)) held
 stands_white held white some most = by (eqb (length held + 1) unit_max) refl
@@ -271,16 +256,6 @@ added_stands old piece new most n white short some m e is =
     let taken = length-take-le n piece count.1 in
     stands_white new (subst IsWhite (sym is) (white_append old (take n piece) white more))
     (omega (arith, size, taken, count.0)) (omega (arith, size, taken, few, m, short))
-
--- what stops a text stops it where nothing was written before
-pub stops_on : (old new : Uncut) (taken out : List ℕ) (fault : StreamFault) →
-    Cuts old taken [] out new → out ≡ [] → Stops new fault → (x : List ℕ) (e : Ending) →
-    des_from old.place (old.bytes ++ (taken ++ x)) e ≡ ends_in [] fault
-stops_on old new taken out fault cuts none stops x e =
-    cuts.moves x e
-    ∙ ap (λ (s : List ℕ). behind s (des_from new.place (new.bytes ++ x) e))
-    (sym cuts.written ∙ none)
-    ∙ stops x e
 
 -- the stage
 

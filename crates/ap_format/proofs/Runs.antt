@@ -118,7 +118,3 @@ pub none_white : (bytes : List ℕ) → 0 < length bytes → is_white (get_or by
 none_white [] some h n = absurd (omega (arith, some))
 none_white (b ∷ bs) some h zero = white_nil
 none_white (b ∷ bs) some h (suc n) = white_dark b (take n bs) h
-
-pub take_one : (bytes : List ℕ) → 0 < length bytes → get_or bytes 0 0 ∷ [] ≡ take 1 bytes
-take_one [] some = absurd (omega (arith, some))
-take_one (b ∷ bs) some = refl

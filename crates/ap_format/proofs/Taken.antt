@@ -1,20 +1,19 @@
 -- What taking more bytes of a generated text means.
-use Rattle.std.specs.Prelude.{◌≡◌, ◌≢◌, ℕ, zero, suc, ◌+◌, ◌-◌, ◌<◌, ◌≤◌, List, [], ◌∷◌, ◌++◌, take, drop, length, Bool, true, false, Option, Some, None, refl}
+use Rattle.std.specs.Prelude.{◌≡◌, ◌≢◌, ℕ, zero, suc, ◌+◌, ◌-◌, ◌<◌, ◌≤◌, List, [], ◌++◌, take, drop, length, Bool, true, false, Option, Some, None, refl}
 use Rattle.std.proofs.Common.{arith, ap, sym, subst, ◌∙◌, append_assoc, length-append}
 use Rattle.std.proofs.lemmas.List.{append-nil, length-take-le}
 use Rattle.ap_stream.specs.declared.dialect.Dialect.TheVariants.{Generated}
 use Rattle.ap_stream.specs.declared.item.Read.{Read}
 use Rattle.ap_stream.specs.declared.fault.StreamFault.{StreamFault}
 use Rattle.ap_stream.specs.declared.fault.StreamFault.TheVariants.{Memory}
-use Rattle.ap_stream.specs.Begun.{Begun}
-use Rattle.ap_stream.specs.Given.{Feeds, Shows, Ends}
+use Rattle.ap_stream.specs.Given.{Begun, Feeds, Shows, Ends}
 use Rattle.ap_stream.specs.Reading.{reads, counted, stopped, nothing}
 use Rattle.ap_stream.specs.Told.{Ending, Clean, silent, behind, ends_in}
 use Rattle.ap_stream.specs.Rest.{rest_of}
 use Rattle.ap_stream.specs.Seat.{Seat}
 use Rattle.ap_stream.proofs.Stop.{rest_at_give}
 use Rattle.ap_format.specs.Reformatted.{Reformatting, bare_item, ret_work}
-use Rattle.ap_format.specs.Giving.{ret_from, Wrote, Unread, StopsAt, IsSound, Takes, Closes, weight, moved_fault}
+use Rattle.ap_format.specs.Giving.{ret_from, Unread, StopsAt, IsSound, Takes, Closes, weight, moved_fault}
 use Rattle.ap_format.proofs.Cuts.{behind_behind}
 use Rattle.ap_format.proofs.Moved.{seen_moved, moved_next, moved_none, moved_stops, moved_seen, moved_nothing}
 
@@ -60,56 +59,6 @@ takes_on old mid new first second out between after a b = record {
         let less = b.fewer (omega (arith, e, some, all)) in omega (arith, less, h, size)
     by (suc n) e some all h k size =
         let less = a.fewer (omega (arith, e)) in omega (arith, less, k, size)
-
--- bytes that give a text by themselves, with nothing begun
-pub takes_given : (old new : Unread) (taken out after : List ℕ) → old.bytes ≡ [] →
-    new.bytes ≡ [] → Wrote taken out after → 0 < length taken →
-    new.place ≡ counted (old.place + length taken) → Takes old taken out after new
-takes_given old new taken out after empty none wrote some place = record {
-  given = wrote.given;
-  written = wrote.written;
-  moves = λ x e. rw (empty, none, place) (wrote.gives old.place x e);
-  held = let size = ap length none in omega (arith, size);
-  fewer = λ more. let size = ap length none in omega (arith, size, some);
-}
-
--- what stops a text stops it where nothing was written before
-pub stops_on : (old new : Unread) (taken out : List ℕ) (fault : StreamFault) →
-    Takes old taken [] out new → out ≡ [] → StopsAt new fault → (x : List ℕ) (e : Ending) →
-    ret_from old.place (old.bytes ++ (taken ++ x)) e ≡ ends_in [] fault
-stops_on old new taken out fault takes none stops x e =
-    takes.moves x e
-    ∙ ap (λ (s : List ℕ). behind s (ret_from new.place (new.bytes ++ x) e))
-    (sym takes.written ∙ none)
-    ∙ stops.stops x e
-
--- the items that end a text, one behind the other, where the first ones gave nothing
-pub closes_on : (old mid new : Unread) (out after : List ℕ) → Closes old [] out mid → out ≡ [] →
-    Closes mid out after new → Closes old [] after new
-closes_on old mid new out after a none b = record {
-  given = b.given;
-  written = b.written ∙ ap (λ s. s ++ b.given) none;
-  moves = a.moves
-      ∙ ap (λ s. behind s (ret_from mid.place mid.bytes Clean)) (sym a.written ∙ none) ∙ b.moves;
-  held = let h = a.held in let k = b.held in omega (arith, h, k);
-  fewer = λ some. let h = a.held in let k = b.fewer some in omega (arith, h, k);
-}
-
-pub closes_nothing : (unread : Unread) → Closes unread [] [] unread
-closes_nothing unread = record {
-  given = [];
-  written = refl;
-  moves = refl;
-  held = omega arith;
-  fewer = λ some. absurd (omega (arith, some));
-}
-
-pub closes_stop : (old mid : Unread) (out : List ℕ) (fault : StreamFault) → Closes old [] out mid →
-    out ≡ [] → ret_from mid.place mid.bytes Clean ≡ ends_in [] fault →
-    ret_from old.place old.bytes Clean ≡ ends_in [] fault
-closes_stop old mid out fault a none stops =
-    a.moves ∙ ap (λ s. behind s (ret_from mid.place mid.bytes Clean)) (sym a.written ∙ none)
-    ∙ stops
 
 -- the reader, with so many bytes that went past it
 
@@ -168,26 +117,6 @@ module _ (passed : ℕ) (old new : Begun) (before after : Option StreamFault)
     held = let size = ends.bytes in omega (arith, size);
     fewer = λ more. absurd (omega (arith, more));
   }
-
-pub nil_of : (bytes : List ℕ) → length bytes ≡ 0 → bytes ≡ []
-nil_of [] h = refl
-nil_of (b ∷ bs) h = absurd (omega (arith, h))
-
--- bytes went past it, and it holds nothing
-past_place : (passed place n : ℕ) → counted (counted (passed + n) + place)
-    ≡ counted (counted (passed + place) + n)
-past_place passed place n = omega arith
-
-pub takes_past : (passed further : ℕ) (begun : Begun) (before after : Option StreamFault)
-    (piece : List ℕ) (n : ℕ) (out into : List ℕ) → length begun.held ≡ 0 → 0 < n →
-    n ≤ length piece → Wrote (take n piece) out into → further ≡ counted (passed + n) →
-    Takes (seen_as passed begun before) (take n piece) out into (seen_as further begun after)
-takes_past passed further begun before after piece n out into empty some fits wrote is =
-    let size = length-take-le n piece fits in
-    takes_given (seen_as passed begun before) (seen_as further begun after) (take n piece) out into
-    (nil_of begun.held empty) (nil_of begun.held empty) wrote (omega (arith, size, some))
-    (ap (λ k. counted (k + begun.place)) is ∙ past_place passed begun.place n
-    ∙ ap (λ k. counted (counted (passed + begun.place) + k)) (sym size))
 
 -- the fault that a text stops at, and no other, stops it
 pub sound_stop : (unread : Unread) (given fault : StreamFault) → given ≡ fault →

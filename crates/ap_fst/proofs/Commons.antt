@@ -16,11 +16,6 @@ use Rattle.ap_fst.specs.Graphs.{AddsCommon, IsSharedAt, AreBelow}
 use Rattle.ap_fst.specs.Removal.{AddsWhere}
 use Rattle.ap_fst.proofs.Listing.{in_front, in_back, in_either, in_from_place, placed_in, IsPlaced, in_contains, contains_in, in_permutation, from_permutation}
 
-pub adds_none : (a b : List ℕ) (at : ℕ) (old : List ℕ) →
-    ((s : ℕ) → slice_get a at ≡ Some s → IsIn s b → ⊥) → AddsCommon a b at old old
-adds_none a b at old none =
-    record { only = λ s i. inl i; stays = λ s i. i; there = λ s h i. absurd (none s h i) }
-
 pub adds_push : (a b : List ℕ) (at s : ℕ) (old new : List ℕ) → slice_get a at ≡ Some s → IsIn s b →
     new ≡ old ++ s ∷ [] → AddsCommon a b at old new
 adds_push a b at s old new here listed e = record {
@@ -41,12 +36,6 @@ adds_push a b at s old new here listed e = record {
 pub record AreCommon (a b : List ℕ) (at : ℕ) (both : List ℕ) : Type 0 where
   pub sound : (s : ℕ) → IsIn s both → IsIn s a × IsIn s b
   pub there : (k s : ℕ) → k < at → slice_get a k ≡ Some s → IsIn s b → IsIn s both
-
-pub common_begun : (a b both : List ℕ) → both ≡ [] → AreCommon a b 0 both
-common_begun a b both e = record {
-  sound = λ s i. elim (subst (λ (z : List ℕ). IsIn s z) e i) [ ];
-  there = λ k s lt h i. absurd (omega arith);
-}
 
 pub common_on : (a b : List ℕ) (at : ℕ) (old new : List ℕ) → AddsCommon a b at old new →
     AreCommon a b at old → AreCommon a b (at + 1) new

@@ -8,10 +8,10 @@ use Rattle.std.proofs.lemmas.Bool.{cases_lt}
 use Rattle.std.proofs.lemmas.Bool.Decides.{nat_tests}
 use Rattle.std.proofs.lemmas.Option.{none-some, same_Some, slice_get_within, slice_get-get_or}
 use Rattle.ap_fst.specs.Lists.{IsIn}
-use Rattle.ap_fst.specs.Graphs.{arc_from, arcs_at}
+use Rattle.ap_fst.specs.Graphs.{arc_from, arcs_at, Reaches, begins, follows}
 use Rattle.ap_fst.specs.Quiet.{Quiet, still, along, IsEdge, Steps, final, next}
 use Rattle.ap_fst.specs.Removal.{is_quiet, move_arc, turned_arc, IsLoudArc, AreLoud}
-use Rattle.ap_fst.specs.Covering.{ArcLists, AreArcsOf, AreEntering, AreFollowedBy, AreCoveringBy, Covers, IsPassedOn, IsLead, IsLedAt}
+use Rattle.ap_fst.specs.Covering.{ArcLists, AreArcsOf, AreEntering, AreFollowedBy, IsLeadingToAny, AreCoveringBy, Covers, IsPassedOn, IsLead, IsLedAt}
 use Rattle.ap_fst.specs.declared.graph.Arc.{Arc}
 use Rattle.ap_fst.specs.declared.draft.Move.{Move}
 use Rattle.ap_fst.specs.declared.label.Label.{Label}
@@ -102,6 +102,23 @@ entering_arc_at moves a t b h i =
     let k : IsArcAt a.entering t b = arc_at a.entering t b i in
     subst (λ (x : ℕ). Quiet moves b.to x) k.from_is (h.entering_only b k.listed)
 
+pub quiet_to : (moves : List Move) (a : ArcLists) (t s : ℕ) → AreArcsOf moves a →
+    Reaches a.entering (t ∷ []) s → Quiet moves s t
+quiet_to moves a t s h (begins (inl e)) = still e
+quiet_to moves a t s h (begins (inr n)) = elim n [ ]
+quiet_to moves a t s h (follows b before listed to) =
+    subst (λ (x : ℕ). Quiet moves x t) (sym to)
+    (quiet_on moves b.to b.from t (h.entering_only b listed) (quiet_to moves a t b.from h before))
+
+pub quiet_reached : (moves : List Move) (a : ArcLists) (t s : ℕ) → AreArcsOf moves a →
+    Reaches a.quiet (t ∷ []) s → Quiet moves t s
+quiet_reached moves a t s h (begins (inl e)) = still (sym e)
+quiet_reached moves a t s h (begins (inr n)) = elim n [ ]
+quiet_reached moves a t s h (follows b before listed to) =
+    subst (λ (x : ℕ). Quiet moves t x) (sym to)
+    (quiet_on moves t b.from b.to (quiet_reached moves a t b.from h before)
+    (h.quiet_only b listed))
+
 -- the arc of an empty move from the state
 pub arc_of_quiet : (moves : List Move) (a : ArcLists) (s : ℕ) (m : Move) → AreArcsOf moves a →
     IsIn m moves → s ≡ m.from → m.label ≡ None → IsIn (move_arc m) (arcs_at a.quiet s)
@@ -159,9 +176,17 @@ pub lead_here : (moves : List Move) (finish s : ℕ) → IsLead moves finish s s
 lead_here moves finish s =
     record { quiet = still refl; covers = covers_same moves finish s s refl }
 
-pub lead_by : (moves : List Move) (a : ArcLists) (s : ℕ) (b : Arc) → AreArcsOf moves a →
-    IsIn b (arcs_at a.quiet s) → Covers moves a.finish b.to s → IsLead moves a.finish s b.to
-lead_by moves a s b h i c = record { quiet = quiet_arc_at moves a s b h i; covers = c }
+pub lead_back : (moves : List Move) (finish s lead : ℕ) → Quiet moves s lead → Quiet moves lead s →
+    IsLead moves finish s lead
+lead_back moves finish s lead q r =
+    record { quiet = q; covers = covers_quiet moves finish lead s r }
+
+pub lead_on : (moves : List Move) (finish s t u : ℕ) → IsLead moves finish s t →
+    IsLead moves finish t u → IsLead moves finish s u
+lead_on moves finish s t u l m = record {
+  quiet = quiet_on moves s t u l.quiet m.quiet;
+  covers = λ w h. m.covers w (l.covers w h);
+}
 
 pub item_at : {X : Type 0} (xs : List X) (i : ℕ) (x : X) → i < length xs → x ≡ get_or xs i x →
     slice_get xs i ≡ Some x
@@ -179,6 +204,12 @@ pub followed_on : (moves : List Move) (a : ArcLists) (from to : ℕ) (arcs : Lis
     AreFollowedBy moves arcs to → Quiet moves from to
 followed_on moves a from to arcs h f k =
     quiet_on moves from k.arc.to to (quiet_arc_at moves a from k.arc h (f k.arc k.listed)) k.quiet
+
+pub followed_before : (moves : List Move) (a : ArcLists) (from to : ℕ) (arcs : List Arc) →
+    AreArcsOf moves a → ((b : Arc) → IsIn b arcs → IsIn b (arcs_at a.entering to)) →
+    IsLeadingToAny moves from arcs → Quiet moves from to
+followed_before moves a from to arcs h f k =
+    quiet_on moves from k.arc.to to k.quiet (entering_arc_at moves a to k.arc h (f k.arc k.listed))
 
 abbrev pub AreFollowed : List Move → ℕ → List Arc → ℕ → Type 0
 AreFollowed moves from all n = (k : ℕ) (b : Arc) → k < n → slice_get all k ≡ Some b →

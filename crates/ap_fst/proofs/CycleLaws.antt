@@ -5,7 +5,7 @@ use Rattle.std.specs.Option.{option_to_list, is_some}
 use Rattle.std.specs.List.{filter, IsDistinct, AllByRecursion}
 use Rattle.std.proofs.lemmas.Bool.{cases_eq}
 use Rattle.std.proofs.lemmas.Bool.Decides.{nat_tests}
-use Rattle.std.proofs.lemmas.Option.{none-some, same_Some, slice_get_within}
+use Rattle.std.proofs.lemmas.Option.{same_Some, slice_get_within}
 use Rattle.std.proofs.lemmas.Map.Steps.{length-le_from_distinct_below}
 use Rattle.ap_fst.specs.Lists.{IsIn}
 use Rattle.ap_fst.specs.Graphs.{arc_from, forward, Reaches, begins, follows}
@@ -108,18 +108,6 @@ on_cycle_by edges arcs reached starts at e answer same here none se r h =
           (subst (λ (z : List ℕ). Reaches (silent_arcs_of edges) z e.from) (sym se)
           (arcs_by_walk edges e.to c.length e.from w)))),
     )
-
-pub not_silent : (edges : List Edge) (at : ℕ) (e : Edge) → slice_get edges at ≡ Some e →
-    is_some e.label.left ≡ true → IsOnEmptyCycle edges at → ⊥
-not_silent edges at e here some c =
-    let one : c.edge ≡ e = same_Some c.edge e (sym c.at ∙ here) in
-    let n : e.label.left ≡ None = ap (λ (x : Edge). x.label.left) (sym one) ∙ c.silent in
-    let f : is_some e.label.left ≡ false = ap is_some n in
-    cc
-
-pub not_there : (edges : List Edge) (at : ℕ) → None ≡ slice_get edges at →
-    IsOnEmptyCycle edges at → ⊥
-not_there edges at none c = none-some c.edge (none ∙ c.at)
 
 -- ---- without a cycle, walks are short
 

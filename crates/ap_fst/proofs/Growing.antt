@@ -25,15 +25,6 @@ any_from_in x (y ∷ ys) (inl e) = grind (arith, nat_tests)
 any_from_in x (y ∷ ys) (inr h) = let k : list_any (λ z. eqb x z) ys ≡ true = any_from_in x ys h in
     grind (arith, nat_tests)
 
-pub grows_by_none : (old : List ℕ) → Grows old [] old
-grows_by_none old = record {
-  more = [];
-  grown = sym (append-nil old);
-  there =
-      λ x i. elim i [ ];
-  only = λ x i. i;
-}
-
 grows_by : (old : List ℕ) (s : ℕ) (new : List ℕ) → new ≡ with_state old s → Grows old (s ∷ []) new
 grows_by old s new e =
     elim (cases_Bool (list_any (λ y. eqb s y) old)) [

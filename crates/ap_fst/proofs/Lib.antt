@@ -14,6 +14,7 @@ pub mod Stars
 pub mod Laws
 pub mod QuietLaws
 pub mod Adding
+pub mod HubLaws
 pub mod Coverings
 pub mod RowLaws
 pub mod Removals

@@ -27,7 +27,7 @@ use Rattle.ap_fst.proofs.Listing.{in_front, in_back, in_either, in_from_place, p
 use Rattle.ap_fst.proofs.PlaceLaws.{place_some, place_in, cmp_less}
 use Rattle.ap_fst.proofs.Adding.{AtBelow, adds_as, adds_all, adds_one}
 use Rattle.ap_fst.proofs.QuietLaws.{steps_from_path, path_from_steps}
-use Rattle.ap_fst.proofs.Coverings.{loud_option, quiet_on, steps_quiet}
+use Rattle.ap_fst.proofs.Coverings.{quiet_to, loud_option, quiet_on, steps_quiet}
 
 -- ---- the loops
 
@@ -244,16 +244,6 @@ pub record AreNumbers (kept back : List ℕ) (at : ℕ) (finals : List ℕ) : Ty
   pub only : (n : ℕ) → IsIn n finals → IsNumberIn kept back n
   pub there : (n : ℕ) → n < at → IsNumberIn kept back n → IsIn n finals
 
-pub numbers_begun : (kept back finals : List ℕ) → finals ≡ [] → AreNumbers kept back 0 finals
-numbers_begun kept back finals e = let P : List ℕ → Type 0 = λ z. AreNumbers kept back 0 z in
-    subst P (sym e) (record {
-      ascend = tt;
-      low = λ n i. elim i [ ];
-      only =
-          λ n i. elim i [ ];
-      there = λ n lt h. absurd (omega arith);
-    })
-
 pub numbers_on : (kept back : List ℕ) (at : ℕ) (old new : List ℕ) → AddsFinal kept back at old new →
     AreNumbers kept back at old → AreNumbers kept back (at + 1) new
 numbers_on kept back at old new (added here e) r = let P : List ℕ → Type 0 =
@@ -304,14 +294,6 @@ numbers_all kept back n finals le r k = (
 )
 
 -- ---- empty moves to the end
-
-quiet_to : (moves : List Move) (a : ArcLists) (t s : ℕ) → AreArcsOf moves a →
-    Reaches a.entering (t ∷ []) s → Quiet moves s t
-quiet_to moves a t s h (begins (inl e)) = still e
-quiet_to moves a t s h (begins (inr n)) = elim n [ ]
-quiet_to moves a t s h (follows b before listed to) =
-    subst (λ (x : ℕ). Quiet moves x t) (sym to)
-    (quiet_on moves b.to b.from t (h.entering_only b listed) (quiet_to moves a t b.from h before))
 
 to_quiet : (moves : List Move) (a : ArcLists) (t s : ℕ) → AreArcsOf moves a → Quiet moves s t →
     Reaches a.entering (t ∷ []) s

@@ -4,6 +4,7 @@ use Rattle.std.specs.declared.vec.Vec.{Vec}
 use Rattle.std.specs.List.Sorted.{IsNonDecreasingBy}
 use Rattle.ap_fst.specs.Lists.{IsIn}
 use Rattle.ap_fst.specs.Graphs.{arc_from, arc_to, arcs_at, Grows}
+use Rattle.ap_fst.specs.Hubs.{AreHubs}
 use Rattle.ap_fst.specs.Quiet.{Quiet, Steps}
 use Rattle.ap_fst.specs.Removal.{is_quiet, move_arc, turned_arc, AreLoud}
 use Rattle.ap_fst.specs.declared.graph.Arc.{Arc}
@@ -18,11 +19,14 @@ pub record ArcLists : Type 0 where
   pub loud : List Arc
   pub finish : ℕ
 
--- each list is in the order of the states that its arcs leave
-pub record AreInOrder (a : ArcLists) : Type 0 where
+-- each list is in the order of the states that its arcs leave, and there are hubs over empty moves,
+-- and over the same turned round
+pub record AreInOrder (a : ArcLists) (front_at back_at : ℕ → Option ℕ) : Type 0 where
   pub quiet_sorted : IsNonDecreasingBy arc_from a.quiet
   pub entering_sorted : IsNonDecreasingBy arc_from a.entering
   pub loud_sorted : IsNonDecreasingBy arc_from a.loud
+  pub fronts_are : AreHubs a.quiet front_at
+  pub backs_are : AreHubs a.entering back_at
 
 -- the arcs are those of these moves
 pub record AreArcsOf (moves : List Move) (a : ArcLists) : Type 0 where
@@ -53,6 +57,12 @@ pub record AreFollowedBy (moves : List Move) (arcs : List Arc) (state : ℕ) : T
   pub arc : Arc
   pub listed : IsIn arc arcs
   pub quiet : Quiet moves arc.to state
+
+-- from the state, empty moves lead to one that one of these arcs enters
+pub record IsLeadingToAny (moves : List Move) (state : ℕ) (arcs : List Arc) : Type 0 where
+  pub arc : Arc
+  pub listed : IsIn arc arcs
+  pub quiet : Quiet moves state arc.to
 
 -- one of these arcs enters the state that was found, which covers a state
 pub record AreCoveringBy (moves : List Move) (finish : ℕ) (arcs : List Arc)

@@ -8,6 +8,7 @@ pub mod Machines
 pub mod Redrafting
 pub mod Walks
 pub mod Graphs
+pub mod Hubs
 pub mod Marks
 pub mod Trimming
 pub mod Silence

@@ -131,7 +131,7 @@ fn give_numbers(
 }
 
 /// The state that was given the number at a place.
-fn numbered_at(numbers: &IndexMap<usize, usize>, at: usize) -> Option<usize>
+pub(crate) fn numbered_at(numbers: &IndexMap<usize, usize>, at: usize) -> Option<usize>
     ensures { OnSome result (at < 2 ^ 63) }
 {
     if at >= numbers.len() {

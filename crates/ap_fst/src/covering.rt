@@ -3,12 +3,13 @@ ghost use Rattle.std.specs.Option.{IfSome};
 ghost use Rattle.ap_fst.specs.Lists.{IsIn};
 ghost use Rattle.ap_fst.specs.Graphs.{arcs_at, Reaches};
 ghost use Rattle.ap_fst.specs.Quiet.{Quiet};
-ghost use Rattle.ap_fst.specs.Covering.{AreArcsOf, AreEntering, AreFollowedBy, AreCoveringBy, Covers, IsPassedOn, IsLead, AreLeads};
+ghost use Rattle.ap_fst.specs.Covering.{AreArcsOf, AreEntering, AreFollowedBy, IsLeadingToAny, AreCoveringBy, Covers, IsPassedOn, IsLead, AreLeads};
 ghost use Rattle.ap_fst.specs.declared.graph.Arc.{Arc};
 ghost use Rattle.ap_fst.specs.declared.draft.Move.{Move};
 
 use crate::draft::Move;
 use crate::graph::{Arc, StateSet, arcs_by, first_places, reach};
+use crate::hubs::{Hubs, cycle_numbers, hub_of, hubs_over};
 use crate::removal::{loud_arcs, quiet_arcs, turned_quiet_arcs};
 use ap_symbol::Memory;
 use std::alloc::Global;
@@ -18,7 +19,9 @@ use std::marker::Model;
 const FEW: usize = 4;
 
 /// The arcs of the moves of a draft, found by the state that they leave: empty moves, the same
-/// turned round, and labelled moves by place.
+/// turned round, and labelled moves by place; and hubs, one for the states that lie on cycles of
+/// empty moves with one another: from which empty moves lead to a state, and to which they lead
+/// from it.
 #[derive(Debug, Drop)]
 pub(crate) struct MoveArcs {
     quiet: Vec<Arc>,
@@ -27,10 +30,14 @@ pub(crate) struct MoveArcs {
     entering_places: Vec<usize>,
     loud: Vec<Arc>,
     loud_places: Vec<usize>,
+    fronts: Hubs,
+    backs: Hubs,
     finish: usize,
 }
 
 impl Model for MoveArcs {
+    ghost use Rattle.std.specs.Prelude.{nat_eq};
+    ghost use Rattle.indexmap.specs.IndexMap.{get};
     ghost use Rattle.ap_fst.specs.Covering.{ArcLists, AreInOrder};
 
     ghost Value = { ArcLists };
@@ -48,7 +55,8 @@ impl Model for MoveArcs {
           entering = a.entering.items;
           loud = a.loud.items;
           finish = a.finish;
-        }) };
+        })
+        (get nat_eq a.fronts) (get nat_eq a.backs) };
 }
 
 impl MoveArcs {
@@ -68,6 +76,20 @@ impl MoveArcs {
         let quiet_places = first_places(alloc, quiet.as_slice(), states)?;
         let entering_places = first_places(alloc, entering.as_slice(), states)?;
         let loud_places = first_places(alloc, loud.as_slice(), states)?;
+        let numbers = cycle_numbers(
+            alloc,
+            quiet.as_slice(),
+            quiet_places.as_slice(),
+            entering.as_slice(),
+            entering_places.as_slice(),
+        )?;
+        let fronts = hubs_over(alloc, quiet.as_slice(), quiet_places.as_slice(), &numbers)?;
+        let backs = hubs_over(
+            alloc,
+            entering.as_slice(),
+            entering_places.as_slice(),
+            &numbers,
+        )?;
         Ok(MoveArcs {
             quiet,
             quiet_places,
@@ -75,6 +97,8 @@ impl MoveArcs {
             entering_places,
             loud,
             loud_places,
+            fronts,
+            backs,
             finish,
         })
     }
@@ -112,6 +136,40 @@ impl MoveArcs {
         reach(alloc, self.entering.as_slice(), &[self.finish])
     }
 
+    /// A state from which empty moves lead to this one.
+    fn front(&self, state: usize) -> usize
+        ensures { (moves : List Move) → AreArcsOf moves self.now → Quiet moves result state }
+    {
+        hub_of(&self.fronts, state)
+    }
+
+    /// A state to which empty moves lead from this one.
+    fn back(&self, state: usize) -> usize
+        ensures { (moves : List Move) → AreArcsOf moves self.now → Quiet moves state result }
+    {
+        hub_of(&self.backs, state)
+    }
+
+    /// Whether empty moves lead from the first state to a hub, and from this to the second.
+    fn have_one_hub(&self, from: usize, to: usize) -> bool
+        ensures { (moves : List Move) → AreArcsOf moves self.now → IsTrue result →
+            Quiet moves from to }
+    {
+        self.back(from) == self.front(to)
+    }
+
+    /// The hub of a state, where it lies on a cycle with it, or the state itself.
+    pub(crate) fn hub(&self, state: usize) -> usize
+        ensures { (moves : List Move) → AreArcsOf moves self.now →
+            IsLead moves self.now.finish state result }
+    {
+        let hub = self.back(state);
+        if self.have_one_hub(hub, state) {
+            return hub;
+        }
+        state
+    }
+
     /// Whether empty moves alone leave the state, and few of them, and it is not the end.
     fn is_passed_on(&self, state: usize) -> bool
         ensures { IsTrue result → IsPassedOn self.now state }
@@ -145,12 +203,16 @@ fn is_entered(all: &[Arc], state: usize) -> bool
     false
 }
 
-/// Whether the states are the same, or one empty move is found from the first to the second.
+/// Whether the states are the same, or have one hub, or one empty move is found from the first to
+/// the second.
 fn is_next(arcs: &MoveArcs, from: usize, to: usize) -> bool
     ensures { (moves : List Move) → AreArcsOf moves arcs.now → IsTrue result →
         Quiet moves from to }
 {
     if from == to {
+        return true;
+    }
+    if arcs.have_one_hub(from, to) {
         return true;
     }
     is_entered(few(arcs.entering(to)), from)
@@ -168,7 +230,21 @@ fn is_next_to_any(arcs: &MoveArcs, all: &[Arc], to: usize) -> bool
     false
 }
 
-/// The same of at most two empty moves.
+/// The same from the state to one of those that these arcs enter.
+fn is_next_before_any(arcs: &MoveArcs, from: usize, all: &[Arc]) -> bool
+    ensures { (moves : List Move) → AreArcsOf moves arcs.now → IsTrue result →
+        IsLeadingToAny moves from all.now }
+{
+    for arc in all {
+        if is_next(arcs, from, arc.to) {
+            return true;
+        }
+    }
+    false
+}
+
+/// The same of at most two empty moves: one of a few that leave the first state, or one of a few
+/// that enter the second. Few enter it even where many leave the first, as at the start of a choice.
 fn is_near(arcs: &MoveArcs, from: usize, to: usize) -> bool
     ensures { (moves : List Move) → AreArcsOf moves arcs.now → IsTrue result →
         Quiet moves from to }
@@ -176,7 +252,10 @@ fn is_near(arcs: &MoveArcs, from: usize, to: usize) -> bool
     if is_next(arcs, from, to) {
         return true;
     }
-    is_next_to_any(arcs, few(arcs.quiet_from(from)), to)
+    if is_next_to_any(arcs, few(arcs.quiet_from(from)), to) {
+        return true;
+    }
+    is_next_before_any(arcs, from, few(arcs.entering(to)))
 }
 
 fn is_near_any(arcs: &MoveArcs, all: &[Arc], to: usize) -> bool
@@ -249,9 +328,8 @@ fn first_covering(arcs: &MoveArcs, all: &[Arc], state: usize) -> Option<usize>
     None
 }
 
-/// A state that may stand for this one: the one that covers it of those to which it is passed on,
-/// or the state itself.
-fn lead(arcs: &MoveArcs, state: usize) -> usize
+/// The state that covers this one of those to which it is passed on, or the state itself.
+fn passed_lead(arcs: &MoveArcs, state: usize) -> usize
     ensures { (moves : List Move) → AreArcsOf moves arcs.now →
         IsLead moves arcs.now.finish state result }
 {
@@ -262,6 +340,14 @@ fn lead(arcs: &MoveArcs, state: usize) -> usize
         return state;
     };
     found
+}
+
+/// A state that may stand for this one: the hub of the one that covers it.
+fn lead(arcs: &MoveArcs, state: usize) -> usize
+    ensures { (moves : List Move) → AreArcsOf moves arcs.now →
+        IsLead moves arcs.now.finish state result }
+{
+    arcs.hub(passed_lead(arcs, state))
 }
 
 /// For each move a state that may stand for the one that it enters.

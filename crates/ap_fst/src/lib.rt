@@ -51,6 +51,7 @@ mod cycles;
 mod draft;
 mod fst;
 mod graph;
+mod hubs;
 mod label;
 mod numbering;
 mod order;

@@ -41,7 +41,8 @@ pub(crate) fn moves_of(alloc: Global, fst: &Fst) -> Result<Vec<Move>, Memory>
     ensures { IfOk result (λ made. made.items ≡ draft_moves fst.now) }
 {
     let states = fst.states();
-    let mut moves = Vec::new(alloc);
+    let count = fst.edges().len().saturating_add(fst.finals().len());
+    let mut moves = Vec::with_capacity(alloc, count.saturating_add(1))?;
     moves.push(Move {
         from: states,
         label: None,

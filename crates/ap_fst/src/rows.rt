@@ -31,8 +31,20 @@ pub(crate) fn number_at(numbers: &[usize], at: usize) -> Option<usize>
     numbers.get(at).copied()
 }
 
-/// The state that is kept for the move at a place: its lead if it has a label, and else the state
-/// that it enters, where several empty moves leave that.
+/// Whether what follows a state is to be found once: several empty moves leave it, and it is not
+/// entered by one alone from a state that several leave. Behind such a state one search comes to it.
+fn is_shared(arcs: &MoveArcs, state: usize) -> bool {
+    if arcs.quiet_from(state).len() <= 1 {
+        return false;
+    }
+    match arcs.entering(state) {
+        [only] => arcs.quiet_from(only.to).len() <= 1,
+        _ => true,
+    }
+}
+
+/// The state that is kept for the move at a place: its lead if it has a label, and else the hub of
+/// the state that it enters, where what follows that is to be found once.
 fn kept_at(moves: &[Move], arcs: &MoveArcs, leads: &[usize], at: usize) -> Option<usize>
     ensures { (m : Move) (s : ℕ) → slice_get moves.now at ≡ Some m → is_quiet m ≡ false →
         slice_get leads.now at ≡ Some s → result ≡ Some s }
@@ -43,8 +55,8 @@ fn kept_at(moves: &[Move], arcs: &MoveArcs, leads: &[usize], at: usize) -> Optio
     if next.label.is_some() {
         return number_at(leads, at);
     }
-    if arcs.quiet_from(next.to).len() > 1 {
-        return Some(next.to);
+    if is_shared(arcs, next.to) {
+        return Some(arcs.hub(next.to));
     }
     None
 }
@@ -65,8 +77,8 @@ fn add_kept(
     Ok(())
 }
 
-/// The start, and the leads of labelled moves. The place of a state is its new number. States that
-/// several empty moves leave are kept too, so that what follows them is found once.
+/// The start, and the leads of labelled moves. The place of a state is its new number. The hubs of
+/// some states that several empty moves leave are kept too, so that what follows them is found once.
 pub(crate) fn kept_states(
     alloc: Global,
     start: usize,

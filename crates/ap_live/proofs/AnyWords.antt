@@ -11,10 +11,10 @@ use Rattle.ap_symbol.specs.declared.symbol.Symbol.{Symbol}
 use Rattle.ap_fst.specs.Sections.{Parts, IsCompiled, section_of}
 use Rattle.ap_fst.specs.declared.compiled.Kind2.{Kind2}
 use Rattle.ap_fst.specs.declared.compiled.Kind2.TheVariants.{Standard, Inconditional, Postblank, Preblank}
-use Rattle.ap_fst.proofs.Listing.{in_front, in_back, in_either, in_mapped, IsImage}
+use Rattle.ap_fst.proofs.Listing.{in_front, in_back, in_either, in_map, in_mapped, IsImage}
 use Rattle.ap_live.specs.Found.{has_words}
 use Rattle.ap_live.specs.Lexicon.{Lexicon, IsCoherent, inputs_of, lexicon_of}
-use Rattle.ap_live.specs.Readings.{carried, any_words}
+use Rattle.ap_live.specs.Readings.{AddsSome, carried, any_words}
 use Rattle.ap_live.proofs.Coherence.{sections_proper}
 use Rattle.ap_live.proofs.Finding.{found_is_output, output_proper}
 use Rattle.ap_live.proofs.WordOrder.{some_word}
@@ -131,3 +131,16 @@ carried_proper law sensitive seen words made is proper w i =
     (subst (λ (z : List (List Symbol)). IsIn w z) is i) in
     subst (λ (z : List Symbol). AreProper z) (sym m.image)
     (stays law sensitive seen m.source (proper m.source m.listed))
+
+-- some of these words, with a case carried to each
+pub adds_carried : (f : List Symbol → List Symbol) (some words old new : List (List Symbol)) →
+    new ≡ old ++ map f some → ((w : List Symbol) → IsIn w some → IsIn w words) →
+    AddsSome (map f words) old new
+adds_carried f some words old new e all w i =
+    elim (in_either w old (map f some) (subst (λ (z : List (List Symbol)). IsIn w z) e i)) [
+      | inl k ↦ inl k
+      | inr k ↦
+          let m : IsImage f w some = in_mapped f w some k in
+          inr (subst (λ (z : List Symbol). IsIn z (map f words)) (sym m.image)
+          (in_map f m.source words (all m.source m.listed)))
+    ]

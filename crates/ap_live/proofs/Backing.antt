@@ -622,7 +622,7 @@ clean_back m b links items found writes back all x i =
     let f : BackFrom m.edges b links items x = back.sound x i in
     clean_step m b x f.item f.link writes f.back (all f.item f.listed)
 
-many_clean : (m : Machine) (links : List Arrival) (base : List Item) (x : Item) → WritesWords m →
+pub many_clean : (m : Machine) (links : List Arrival) (base : List Item) (x : Item) → WritesWords m →
     ((z : Item) → IsIn z base → IsClean z) → BackMany m.edges links base x → IsClean x
 many_clean m links base x writes all (given i) = all x i
 many_clean m links base x writes all (onward y j linked b more) =

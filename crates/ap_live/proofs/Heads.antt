@@ -1,13 +1,11 @@
 -- The paths from the start to a state, gone back from there, and what edges write.
-use Rattle.std.proofs.Common.{◌≡◌, ℕ, false, List, [], ◌∷◌, ◌++◌, refl, sym, ◌∙◌, ap, subst, append_assoc, append-nil, Option, Some, None, slice_get}
-use Rattle.std.specs.Prelude.{reverse, is_some, IfSome}
+use Rattle.std.proofs.Common.{◌≡◌, ℕ, false, List, [], ◌∷◌, ◌++◌, refl, sym, ◌∙◌, ap, subst, append_assoc, append-nil, Option, Some, None}
+use Rattle.std.specs.Prelude.{is_some}
 use Rattle.std.specs.Option.{option_to_list}
-use Rattle.std.proofs.lemmas.List.{reverse-append}
-use Rattle.std.proofs.lemmas.List.Concat.{flat_map-append}
 use Rattle.ap_symbol.specs.declared.symbol.Symbol.{Symbol}
 use Rattle.ap_fst.specs.Machines.{Machine}
 use Rattle.ap_fst.specs.declared.label.Edge.{Edge}
-use Rattle.ap_live.specs.Heads.{Head, begin, HasEnd, written, written_by}
+use Rattle.ap_live.specs.Heads.{Head, begin, HasEnd}
 use Rattle.ap_live.specs.Heads as heads
 use Rattle.ap_live.specs.Fitting.{Input}
 use Rattle.ap_live.specs.Tails.{Tail, stop}
@@ -15,10 +13,6 @@ use Rattle.ap_live.specs.Tails as tails
 
 abbrev right : Edge → List Symbol
 right e = option_to_list e.label.right
-
-reverse_side : (o : Option Symbol) → reverse (option_to_list o) ≡ option_to_list o
-reverse_side None = refl
-reverse_side (Some x) = refl
 
 -- From a state that is reached on to a final one.
 head_on : (m : Machine) (before later : List Input) (s : ℕ) (back front : List Symbol) →
@@ -51,32 +45,6 @@ whole_path m seen whole tail =
 
 -- ---- what edges write
 
-pub written_last : (edges : List Edge) (places more : List ℕ) (place : ℕ) →
-    more ≡ places ++ place ∷ [] → reverse (written edges more)
-    ≡ reverse (written_by (slice_get edges place)) ++ reverse (written edges places)
-written_last edges places more place e =
-    ap (λ x. reverse (written edges x)) e
-    ∙ ap reverse (flat_map-append (λ k. written_by (slice_get edges k)) places (place ∷ []))
-    ∙ ap (λ x. reverse (written edges places ++ x)) (append-nil (written_by (slice_get edges place)))
-    ∙ reverse-append (written edges places) (written_by (slice_get edges place))
-
-pub reverse_written : (o : Option Edge) → reverse (written_by o) ≡ written_by o
-reverse_written None = refl
-reverse_written (Some e) = reverse_side e.label.right
-
-pub word_on : (edges : List Edge) (places more : List ℕ) (place : ℕ) (word new whole : List Symbol)
-    → more ≡ places ++ place ∷ [] → new ≡ word ++ written_by (slice_get edges place) →
-    whole ≡ word ++ reverse (written edges more) → whole ≡ new ++ reverse (written edges places)
-word_on edges places more place word new whole e w h =
-    h ∙ ap (λ x. word ++ x) (written_last edges places more place e
-    ∙ ap (λ x. x ++ reverse (written edges places)) (reverse_written (slice_get edges place)))
-    ∙ sym (append_assoc word (written_by (slice_get edges place)) (reverse (written edges places)))
-    ∙ ap (λ x. x ++ reverse (written edges places)) (sym w)
-
 pub none_of : {X : Type 0} (o : Option X) → is_some o ≡ false → o ≡ None
 none_of None h = refl
 none_of (Some x) h = cc
-
-pub some_holds : {X : Type 0} (o : Option X) (x : X) (P : X → Type 0) → o ≡ Some x → IfSome o P →
-    P x
-some_holds {X} o x P e h = subst (λ (z : Option X). IfSome z P) e h

@@ -12,7 +12,10 @@ pub mod OutputLaws
 pub mod WordLaws
 pub mod Heads
 pub mod Writing
+pub mod LeastOrder
+pub mod LeastLaws
 pub mod WayLaws
+pub mod SomeWays
 pub mod TrailLaws
 pub mod LiveLaws
 pub mod WordOrder
@@ -22,6 +25,11 @@ pub mod NoFinals
 pub mod Coherence
 pub mod Lexicons
 pub mod SectionLives
+pub mod Reached
+pub mod Alike
+pub mod Walks
 pub mod AnyWords
 pub mod Ordered
+pub mod Fewer
+pub mod LeastWords
 pub mod Readables

@@ -347,12 +347,6 @@ by_trail m seen w trail none e held =
     subst (λ (z : Option Trails). IsHeldBy m seen z None) e
     (subst (λ (z : Option (List Row)). IsHeldBy m seen w.trail z) none held)
 
-pub by_none : (m : Machine) (seen : List Input) (w : Ways) → w.rows ≡ None → w.trail ≡ None →
-    IsHeld m seen w → ⊥
-by_none m seen w none e held =
-    subst (λ (z : Option Trails). IsHeldBy m seen z None) e
-    (subst (λ (z : Option (List Row)). IsHeldBy m seen w.trail z) none held)
-
 -- ---- back to fewer inputs
 
 -- Back to the inputs of the trail, or of the nodes.

@@ -16,25 +16,6 @@ use Rattle.ap_live.specs.Spreads.{Picked, IsOther, HasLeft}
 abbrev input_of : Symbol → Bool → Input
 input_of x s = record { symbol = x; sensitive = s }
 
--- no other fits where the input is no letter, or case counts
-other_none : (x : Symbol) (s : Bool) → ((c : ℕ) → s ≡ false → x ≡ Letter c → ⊥) →
-    IsOther (input_of x s) None
-other_none x s not = record {
-  fits = λ y e. absurd (none-some y e);
-  only = λ y h. elim ((fits_is s y x).0 h) [
-    | inl e ↦ inl e
-    | inr (q, (c, (i, l))) ↦
-        absurd (not c q i)
-  ];
-}
-
-pub other_sensitive : (x : Symbol) (s : Bool) → s ≡ true → IsOther (input_of x s) None
-other_sensitive x s e = other_none x s (λ c q i. cc)
-
-pub other_mark : (x : Symbol) (s : Bool) → ((c : ℕ) → x ≡ Letter c → ⊥) →
-    IsOther (input_of x s) None
-other_mark x s not = other_none x s (λ c q i. not c i)
-
 letter_same : (c d : ℕ) → Letter c ≡ Letter d → c ≡ d
 letter_same c d e = cc
 

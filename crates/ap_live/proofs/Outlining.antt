@@ -148,32 +148,6 @@ entries_more edges entries entries' e entry same are at is j d x there h =
           (subst (λ (z : Edge). IsEntry edges z entry) same_edge is)
     ]
 
--- where the edges of a state begin, and those of the next
-pub first_span : (edges : List Edge) (firsts : List First) (state : ℕ) (f g : First) →
-    AreFirsts edges firsts → slice_get firsts state ≡ Some f →
-    slice_get firsts (state + 1) ≡ Some g → IsSpan edges state f.place g.place
-first_span edges firsts state f g are at at' =
-    let first : ℕ = f.place in
-    let last : ℕ = g.place in
-    let a : IsFirstPlace edges state first = are.places state f at in
-    let b : IsFirstPlace edges (state + 1) last = are.places (state + 1) g at' in
-    record {
-      end = b.end;
-      inside = λ j e there le lt.
-          let low : state ≤ e.from = a.behind j e there le in
-          let high : e.from < state + 1 = b.before j e there lt in omega arith;
-      outside = λ j e there is. (
-        elim (cases_lt j first) [
-          | inl lt ↦ let less : e.from < state = a.before j e there lt in absurd (omega arith)
-          | inr le ↦ le
-        ],
-        elim (cases_lt j last) [
-          | inl lt ↦ lt
-          | inr le ↦ let more : state + 1 ≤ e.from = b.behind j e there le in absurd (omega arith)
-        ],
-      );
-    }
-
 -- ---- codes rise as sides do
 
 less_first : (o p : Ordering) → o ≡ Less → 1 ≤ ordering_index (ordering_then o p) → ⊥

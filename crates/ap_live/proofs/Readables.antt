@@ -19,7 +19,7 @@ use Rattle.ap_fst.specs.declared.label.Label.{Label}
 use Rattle.ap_fst.proofs.Listing.{in_either, in_mapped, IsImage, in_from_place}
 use Rattle.ap_live.specs.Fitting.{Input}
 use Rattle.ap_live.specs.Found.{in_order}
-use Rattle.ap_live.specs.Lexicon.{Lexicon, IsLexiconOf, inputs_of, lexicon_of}
+use Rattle.ap_live.specs.Lexicon.{Lexicon, inputs_of, lexicon_of}
 use Rattle.ap_live.specs.Outputs.{IsOutput}
 use Rattle.ap_live.specs.Readable.{IsReadable, GivesReadable, IsCodedSide, WritesCoded}
 use Rattle.ap_live.specs.Readings.{carried, any_words, carried_words}
@@ -98,10 +98,3 @@ pub words_readable : (lexicon : Lexicon) (sensitive : Bool) (seen symbols : List
 words_readable lexicon sensitive seen symbols gives w i =
     ordered_readable sensitive seen (any_words lexicon symbols)
     (any_readable lexicon symbols gives) w i
-
--- what is said of one lexicon of a relation holds of each
-pub same_readable : (sensitive : Bool) (letters : ℕ → Bool) (relates : Kind2 → List Symbol →
-    List Symbol → Type 0) (a b : Lexicon) → IsLexiconOf a sensitive letters relates →
-    IsLexiconOf b sensitive letters relates → GivesReadable a → GivesReadable b
-same_readable sensitive letters relates a b p q gives kind symbols w i =
-    gives kind symbols w ((p.exactly kind symbols w).1 ((q.exactly kind symbols w).0 i))

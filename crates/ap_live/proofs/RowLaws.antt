@@ -255,19 +255,6 @@ last_read edges seen rows inside slice last live v d at =
     ap (λ x. slice_get x (length x - 1)) (sym same) ∙ sym at in
     last_row edges seen rows last (length rows - 1) live (omega arith) at'
 
-end_there : {X : Type 0} (x : X) (xs : List X) → (y : X) × (slice_get (x ∷ xs) (length xs) ≡ Some y)
-end_there x [] = (x, refl)
-end_there x (y ∷ xs) = end_there y xs
-
--- There is a last row.
-pub last_there : (rows : List Row) (n : ℕ) → length rows ≡ n + 1 →
-    (last : Row) × (slice_get rows (length rows - 1) ≡ Some last)
-last_there [] n e = absurd (omega (arith, e))
-last_there (x ∷ xs) n e =
-    let (y, at) = end_there x xs in
-    let less : length (x ∷ xs) - 1 ≡ length xs = omega arith in
-    (y, ap (λ (k : ℕ). slice_get (x ∷ xs) k) less ∙ at)
-
 pub step_law : (edges : List Edge) (seen : List Input) (input : Input)
     (rows inside slice rows' : List Row) (last row : Row) (froms : List ℕ) →
     AreRows edges seen rows → inside ≡ rows → slice ≡ inside

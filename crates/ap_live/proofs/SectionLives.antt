@@ -1,10 +1,11 @@
 -- What the live sets of the four sections say, in the words of the lexicon.
-use Rattle.std.specs.Prelude.{◌≡◌, ◌↔◌, ℕ, ◌+◌, ◌-◌, ◌<◌, ◌≤◌, min, Bool, true, false, not, ◌&&◌, ◌||◌, IsTrue, List, [], ◌∷◌, ◌++◌, length, take, Option, Some, None}
-use Rattle.std.proofs.Common.{inl, inr, zero, suc, refl, ap, sym, ◌∙◌, subst, arith, append_assoc, append-nil}
+use Rattle.std.specs.Prelude.{◌≡◌, ◌↔◌, ℕ, ◌-◌, ◌<◌, ◌≤◌, min, Bool, true, false, not, ◌&&◌, ◌||◌, IsTrue, List, [], ◌∷◌, ◌++◌, length, take, Option, Some, None}
+use Rattle.std.proofs.Common.{zero, suc, refl, ap, sym, ◌∙◌, subst, arith, append_assoc, append-nil}
 use Rattle.std.proofs.Math.Seq.{take-append_seam}
-use Rattle.std.proofs.lemmas.Bool.{and_parts, cases_lt}
+use Rattle.std.proofs.lemmas.Bool.{and_parts}
 use Rattle.std.proofs.lemmas.List.{take-append-le, take-map, map-append, length-append}
 use Rattle.ap_symbol.specs.declared.symbol.Symbol.{Symbol}
+use Rattle.ap_fst.specs.Lists.{IsIn}
 use Rattle.ap_fst.specs.Machines.{Machine, IsMachine}
 use Rattle.ap_fst.specs.Sections.{Parts, IsCompiled, IsSection, section_of}
 use Rattle.ap_fst.specs.Silence.{HasNoEmptyCycle}
@@ -18,8 +19,8 @@ use Rattle.ap_live.specs.Rows.{Reach, begin, silent, taken}
 use Rattle.ap_live.specs.Lexicon.{inputs_of}
 use Rattle.ap_live.specs.SectionLives.{IsLiveBehind, IsLiveIfAny, IsSectionLive}
 use Rattle.ap_live.specs.declared.section_live.SectionLive.{SectionLive}
-use Rattle.ap_live.proofs.Coherence.{section_is, section_writes}
-use Rattle.ap_live.proofs.Finding.{other_answer, output_there, same_answer, viable_found}
+use Rattle.ap_live.proofs.Coherence.{section_is, section_writes, sections_proper}
+use Rattle.ap_live.proofs.Finding.{OneRendering, other_answer, output_there, outputs_found, same_answer, viable_found}
 use Rattle.ap_live.proofs.LiveLaws.{beginning_reaches, output_reaches}
 use Rattle.ap_live.proofs.RowLaws.{snoc_parts}
 
@@ -96,14 +97,6 @@ module _ (m : Machine) (seen : List Input) (held : Option Lives) (behind : ℕ) 
       IsLiveBehind m seen live behind
   live_held live e is = subst (λ (h : Option Lives). IsLiveIfAny m seen h behind) e is
 
--- where nothing is held, nothing is held after other inputs
-pub nothing_steps : (m : Machine) (seen seen' : List Input) (held : Option Lives)
-    (behind behind' : ℕ) → held ≡ None → IsLiveIfAny m seen held behind →
-    IsLiveIfAny m seen' held behind'
-nothing_steps m seen seen' held behind behind' e is =
-    subst (λ (h : Option Lives). IsLiveIfAny m seen' h behind') (sym e)
-    (nothing_held m seen held behind e is)
-
 -- ---- what comes behind the inputs of a live set
 
 no_items : (xs : List Input) → length xs ≡ 0 → xs ≡ []
@@ -132,12 +125,13 @@ pub live_whole : (m : Machine) (seen : List Input) (live : Lives) (behind : ℕ)
 live_whole m seen live behind z is = subst (λ (x : List Input). IsLive m x live)
     (sym (all_first m seen live behind z is)) is.live_is
 
-record IsEnded (xs : List Input) : Type 0 where
-  front : List Input
-  last : Input
-  is : xs ≡ front ++ last ∷ []
+-- the last of some inputs, and those before it
+pub record IsEnded (xs : List Input) : Type 0 where
+  pub front : List Input
+  pub last : Input
+  pub is : xs ≡ front ++ last ∷ []
 
-ended_by : (x : Input) (xs : List Input) → IsEnded (x ∷ xs)
+pub ended_by : (x : Input) (xs : List Input) → IsEnded (x ∷ xs)
 ended_by x [] = record { front = []; last = x; is = refl }
 ended_by x (y ∷ xs) = let e : IsEnded (y ∷ xs) = ended_by y xs in
     record { front = x ∷ e.front; last = e.last; is = ap (λ (z : List Input). x ∷ z) e.is }
@@ -175,26 +169,6 @@ pub dead_whole : (m : Machine) (seen : List Input) (live : Lives) (behind : ℕ)
     → IsLiveBehind m seen live behind → (s : ℕ) → Reach m.edges seen s → ⊥
 dead_whole m seen live behind none z t h is =
     (h m seen (live_whole m seen live behind z is)).0 t
-
-pub passed : (m : Machine) (seen : List Input) (last : Input) (held : Option Lives)
-    (behind behind' : ℕ) → behind' ≡ behind + 1 → ((s : ℕ) → Reach m.edges seen s → ⊥) →
-    IsLiveIfAny m seen held behind → IsLiveIfAny m (seen ++ last ∷ []) held behind'
-passed m seen last None behind behind' e dead is = is
-passed m seen last (Some live) behind behind' e dead is = record {
-  first = is.first;
-  rest = is.rest ++ last ∷ [];
-  whole = ap (λ (z : List Input). z ++ last ∷ []) is.whole
-      ∙ append_assoc is.first is.rest (last ∷ []);
-  count = let l = length-append is.rest (last ∷ []) in let n = is.count in omega (arith, l, n, e);
-  live_is = is.live_is;
-  dead = λ lt s reach. elim (cases_lt 0 behind) [
-    | inl more ↦ is.dead more s reach
-    | inr le ↦
-        let z : behind ≡ 0 = omega arith in
-        dead s (subst (λ (z : List Input). Reach m.edges z s)
-        (sym (all_first m seen live behind z is)) reach)
-  ];
-}
 
 take_past : (xs ys : List Input) (n : ℕ) → length xs ≤ n →
     take n (xs ++ ys) ≡ xs ++ take (n - length xs) ys
@@ -329,6 +303,18 @@ module _ (p : Parts) (kind : Kind2) (fst : Machine) (e : fst ≡ section_of p ki
   readings_found seen live words is found =
       found seen (subst (λ (m : Machine). IsSectionLive m seen live) (sym e) is)
       ∙ ap (λ (m : Machine). outputs m seen) e
+
+  pub some_found : OneRendering → (seen : List Input) (live : SectionLive)
+      (words : List (List Symbol)) → IsSectionLive (section_of p kind) seen live →
+      ((seen : List Input) → IsSectionLive fst seen live → (w : List Symbol) → IsIn w words →
+      IsOutput fst seen w)
+      → (w : List Symbol) → IsIn w words → IsIn w (outputs (section_of p kind) seen)
+  some_found law seen live words is found w i =
+      let section = section_is p kind compiled in
+      (outputs_found law (section_of p kind) seen w section.sound section.cycles
+      (sections_proper p compiled kind)).1
+      (subst (λ (m : Machine). IsOutput m seen w) e
+      (found seen (subst (λ (m : Machine). IsSectionLive m seen live) (sym e) is) w i))
 
 -- dead in each section
 pub dead_all : (a b c d s i o e : Bool) → s ≡ not a → i ≡ not b → o ≡ not c → e ≡ not d →

@@ -14,7 +14,7 @@ use Rattle.std.specs.Prelude.{◌↔◌}
 use Rattle.std.specs.Ordering.{nat_cmp}
 use Rattle.std.specs.declared.cmp.Ordering.TheVariants.{Less}
 use Rattle.std.specs.List.{dedup, AllByRecursion}
-use Rattle.std.specs.List.Sorted.{IsPermutation, IsSorted, IsStrictlySortedBy, IsNonDecreasingBy}
+use Rattle.std.specs.List.Sorted.{IsPermutation, IsSorted, IsStrictlySortedBy}
 use Rattle.std.proofs.Common.{eqb}
 use Rattle.std.proofs.lemmas.List.Kept.{Contains-from_dedup, Contains-dedup_nat}
 use Rattle.std.proofs.lemmas.Map.Keys.{IsStrictlyIncreasing-dedup, sorted_from_strictly_increasing}
@@ -24,7 +24,7 @@ use Rattle.ap_fst.specs.Machines.{Machine, IsMachine}
 use Rattle.ap_fst.specs.declared.label.Edge.{Edge}
 use Rattle.ap_live.specs.Fitting.{Input, picks}
 use Rattle.ap_live.specs.declared.arrivals.Arrival.{Arrival}
-use Rattle.ap_live.specs.Spreads.{arrival, arrival_to, with_state, Adds, SpreadOne, Picked, Spread, PickedFrom, From, given, onward, Closed, AnyPlace, IsPlace}
+use Rattle.ap_live.specs.Spreads.{arrival, with_state, Adds, SpreadOne, Picked, Spread, PickedFrom, From, given, onward, Closed, AnyPlace, IsPlace}
 
 pub in_front : {X : Type 0} (x : X) (xs ys : List X) → IsIn x xs → IsIn x (xs ++ ys)
 in_front x [] ys h = elim h [ ]
@@ -437,9 +437,6 @@ none_twice = tt
 pub start_distinct : (xs : List ℕ) → xs ≡ [] → IsDistinct nat_eq (xs ++ 0 ∷ [])
 start_distinct xs e = subst (λ (x : List ℕ). IsDistinct nat_eq (x ++ 0 ∷ [])) (sym e)
     (IsDistinct-push nat_eq_equiv [] 0 none_twice refl)
-
-pub none_ordered : IsNonDecreasingBy arrival_to []
-none_ordered i j d le lt = absurd (omega arith)
 
 pub few_distinct : (xs : List ℕ) → length xs < 2 → IsDistinct nat_eq xs
 unfolding IsDistinct

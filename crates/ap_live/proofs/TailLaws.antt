@@ -18,10 +18,10 @@ use Rattle.ap_live.specs.declared.items.Item.{Item}
 use Rattle.ap_live.specs.declared.rows.Row.{Row}
 use Rattle.ap_live.proofs.RowLaws.{snoc_parts}
 
-abbrev item : ℕ → List Symbol → Item
+abbrev pub item : ℕ → List Symbol → Item
 item s back = record { state = s; back = back }
 
-item_same : (s t : ℕ) (a b : List Symbol) → s ≡ t → a ≡ b → item s a ≡ item t b
+pub item_same : (s t : ℕ) (a b : List Symbol) → s ≡ t → a ≡ b → item s a ≡ item t b
 item_same s t a b e f = ap (λ x. item x a) e ∙ ap (λ y. item t y) f
 
 -- an empty edge back is an empty edge on
@@ -36,13 +36,13 @@ back_picked m x y j b = record {
   passes = b.sort;
 }
 
-many_tail : (m : Machine) (seen later : List Input) (links : List Arrival) (base : List Item)
-    (x : Item) → AreBase m seen later base → BackMany m.edges links base x →
-    Tail m later x.state x.back
-many_tail m seen later links base x is (given i) = is.sound x i
-many_tail m seen later links base x is (onward y j linked b more) =
+pub many_tail : (m : Machine) (later : List Input) (links : List Arrival) (base : List Item)
+    (x : Item) → ((y : Item) → IsIn y base → Tail m later y.state y.back) →
+    BackMany m.edges links base x → Tail m later x.state x.back
+many_tail m later links base x all (given i) = all x i
+many_tail m later links base x all (onward y j linked b more) =
     tails.silent y.state j.edge y.back (back_picked m x y j b) (ap (λ (z : Item). z.back) b.is)
-    (many_tail m seen later links base y is more)
+    (many_tail m later links base y all more)
 
 many_complete : (m : Machine) (seen later : List Input) (row : Row) (base items : List Item) (s : ℕ)
     (back : List Symbol) → IsRow m.edges seen row → AreBase m seen later base →
@@ -83,21 +83,21 @@ pub items_closed : (m : Machine) (seen later : List Input) (row : Row) (base ite
     IsRow m.edges seen row → AreBase m seen later base →
     IsBackMany m.edges row.silent.items base items → AreItems m seen later items
 items_closed m seen later row base items row_is is many = record {
-  sound = λ x i. many_tail m seen later row.silent.items base x is (many.sound x i);
+  sound = λ x i. many_tail m later row.silent.items base x is.sound (many.sound x i);
   complete = λ x reach tail. many_complete m seen later row base items x.state x.back row_is is
       many reach tail;
 }
 
-not_empty : (input : Input) (o : Option Symbol) → fits_side input o ≡ true → is_empty_side o ≡ false
+pub not_empty : (input : Input) (o : Option Symbol) → fits_side input o ≡ true → is_empty_side o ≡ false
 not_empty input None e = cc
 not_empty input (Some x) e = refl
 
 -- the step back over one input
-base_sound : (m : Machine) (seen later : List Input) (input : Input) (row : Row) (items : List Item)
-    (x : Item) → IsRow m.edges (seen ++ input ∷ []) row →
-    AreItems m (seen ++ input ∷ []) later items
+pub base_sound : (m : Machine) (seen later : List Input) (input : Input) (row : Row)
+    (items : List Item) (x : Item) → IsRow m.edges (seen ++ input ∷ []) row →
+    ((y : Item) → IsIn y items → Tail m later y.state y.back)
     → BackFrom m.edges false row.taken.items items x → Tail m (input ∷ later) x.state x.back
-base_sound m seen later input row items x row_is is f =
+base_sound m seen later input row items x row_is all f =
     let e : EntersTaking m.edges (seen ++ input ∷ []) f.link.to f.link.edge =
     row_is.taken_sound f.link f.linked in
     let there : Some e.picked.edge ≡ Some f.back.edge = sym e.picked.at ∙ f.back.at in
@@ -115,7 +115,7 @@ base_sound m seen later input row items x row_is is f =
       passes = passes;
     } in
     tails.taken input later f.item.state f.link.edge f.item.back refl q
-    (ap (λ (z : Item). z.back) f.back.is) (is.sound f.item f.listed)
+    (ap (λ (z : Item). z.back) f.back.is) (all f.item f.listed)
 
 base_complete : (m : Machine) (seen later all : List Input) (input : Input) (row : Row)
     (items : List Item) (x : Item) → IsRow m.edges (seen ++ input ∷ []) row →
@@ -173,7 +173,7 @@ pub base_before : (m : Machine) (seen later : List Input) (input : Input) (row :
     AreItems m (seen ++ input ∷ []) later items
     → IsBack m.edges false row.taken.items items base → AreBase m seen (input ∷ later) base
 base_before m seen later input row items base row_is is back = record {
-  sound = λ x i. base_sound m seen later input row items x row_is is (back.sound x i);
+  sound = λ x i. base_sound m seen later input row items x row_is is.sound (back.sound x i);
   complete = λ x reach tail. back.complete x
       (base_complete m seen later (input ∷ later) input row items x row_is is reach refl tail);
 }
@@ -318,7 +318,7 @@ finals_skip m states i s items lt is none h =
     (finals_grow m (take i states) s items items h (λ x k. inl k) (λ x k. k)
     (λ f. absurd (none f)))
 
-drop-all : (xs : List Input) → drop (length xs) xs ≡ []
+pub drop-all : (xs : List Input) → drop (length xs) xs ≡ []
 drop-all [] = refl
 drop-all (x ∷ xs) = drop-all xs
 

@@ -1,5 +1,5 @@
 -- The nodes of a row after those of the row before it.
-use Rattle.std.proofs.Common.{Vec, Global, get_or, ◌≡◌, inl, inr, ℕ, ◌+◌, ◌-◌, ◌<◌, ◌≤◌, List, [], ◌∷◌, ◌++◌, length, length-take-le, map, take, refl, sym, ◌∙◌, ap, subst, append_assoc, append-nil, arith, Option, Some, None, slice_get, zero, suc}
+use Rattle.std.proofs.Common.{Vec, Global, get_or, ◌≡◌, inl, inr, ℕ, ◌+◌, ◌-◌, ◌<◌, ◌≤◌, List, [], ◌∷◌, ◌++◌, length, length-take-le, map, take, refl, sym, ◌∙◌, ap, subst, append_assoc, arith, Option, Some, None, slice_get, zero, suc}
 use Rattle.std.proofs.lemmas.Bool.{cases_lt}
 use Rattle.std.specs.Prelude.{vec_len, ◌↔◌, IsTrue, min, nat_eq, reverse}
 use Rattle.std.proofs.lemmas.Bool.Decides.{nat_tests}
@@ -117,14 +117,6 @@ ways_grown edges nodes more seen low high w =
     }
 
 -- ---- nodes that are added behind others
-
-pub spreads_start : (edges : List Edge) (pick : Option Input) (low : ℕ) (nodes : List Node) →
-    Spreads edges pick low low nodes nodes
-spreads_start edges pick low nodes = record {
-  grown = ([], sym (append-nil nodes));
-  sound = λ at from below. absurd (omega arith);
-  complete = λ back x from below there s j p. absurd (omega arith);
-}
 
 -- behind the last node there is none
 pub spreads_all : (edges : List Edge) (pick : Option Input) (low at : ℕ) (old new : List Node) →
@@ -711,17 +703,6 @@ rest_more nodes at x found found' places r some there e = go r.back r.is
           is = is ∙ ap (λ z. found ++ z) (p ∙ ap (λ (z : Node). z.edge ∷ rest) same)
               ∙ sym (append_assoc found (x.edge ∷ []) rest) ∙ ap (λ z. z ++ rest) (sym e);
         }
-
-pub rest_none : (nodes : List Node) (at : ℕ) (places : List ℕ) → LeadsBack nodes at places →
-    at ≡ 0 → places ≡ []
-rest_none nodes at places (first z e) n = e
-rest_none nodes at places (next x rest there earlier e back) n = absurd (omega arith)
-
-pub rest_earlier : (nodes : List Node) (at : ℕ) (x : Node) (places : List ℕ) →
-    LeadsBack nodes at places → 0 < at → slice_get nodes at ≡ Some x → x.back < at
-rest_earlier nodes at x places (first z e) some there = absurd (omega arith)
-rest_earlier nodes at x places (next y rest y_there earlier e back) some there =
-    subst (λ (z : Node). z.back < at) (same_Some y x (sym y_there ∙ there)) earlier
 
 -- a node at a final state, whose way writes the word
 pub record IsWritten (m : Machine) (nodes : List Node) (low high : ℕ)

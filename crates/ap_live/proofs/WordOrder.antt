@@ -151,11 +151,11 @@ self_equal Less h = cc
 self_equal Equal h = refl
 self_equal Greater h = cc
 
-not_below_itself : (w : List Symbol) → word_cmp w w ≡ Less → ⊥
+pub not_below_itself : (w : List Symbol) → word_cmp w w ≡ Less → ⊥
 not_below_itself w h = let e : word_cmp w w ≡ Equal =
     self_equal (word_cmp w w) (word_total.antisymm w w) in cc
 
-all_in : (P : List Symbol → Type 0) (ws : List (List Symbol)) (v : List Symbol) →
+pub all_in : (P : List Symbol → Type 0) (ws : List (List Symbol)) (v : List Symbol) →
     AllByRecursion P ws → IsIn v ws → P v
 all_in P [] v a i = absurd i
 all_in P (w ∷ ws) v a (inl e) = subst P (sym e) a.0

@@ -3,9 +3,11 @@ pub mod Spreads
 pub mod Outlines
 pub mod Rows
 pub mod Tails
+pub mod Least
 pub mod Heads
 pub mod Outputs
 pub mod Trails
+pub mod SomeWays
 pub mod Lives
 pub mod Found
 pub mod Greatest
@@ -13,4 +15,6 @@ pub mod Lexicon
 pub mod Relations
 pub mod Readings
 pub mod SectionLives
+pub mod Reached
+pub mod Walks
 pub mod Readable

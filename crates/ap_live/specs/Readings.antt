@@ -1,6 +1,9 @@
 -- Right words as they are read: of any kind of section, with a case carried to them, in order.
-use Rattle.std.specs.Prelude.{Bool, List, ◌++◌, map, if◌then◌else◌}
+use Rattle.std.specs.Prelude.{◌⊎◌, ℕ, suc, Bool, List, ◌++◌, length, map, if◌then◌else◌}
+use Rattle.std.specs.List.{sum_by}
+use Rattle.ap_symbol.specs.Lists.{IsIn}
 use Rattle.ap_symbol.specs.Recasing.{case_of_lem, carry_lem}
+use Rattle.ap_symbol.specs.Rendering.{rendering}
 use Rattle.ap_symbol.specs.declared.symbol.Symbol.{Symbol}
 use Rattle.ap_fst.specs.declared.compiled.Kind2.TheVariants.{Standard, Inconditional, Postblank, Preblank}
 use Rattle.ap_live.specs.Found.{in_order}
@@ -20,3 +23,11 @@ any_words lexicon symbols = lexicon.readings Standard symbols
 abbrev pub carried_words : Lexicon → Bool → List Symbol → List Symbol → List (List Symbol)
 carried_words lexicon sensitive seen symbols =
     in_order (map (carried sensitive seen) (any_words lexicon symbols))
+
+-- Each of the new words was there before, or is one of these: some of these are added, perhaps none.
+abbrev pub AddsSome : List (List Symbol) → List (List Symbol) → List (List Symbol) → Type 0
+AddsSome words old new = (w : List Symbol) → IsIn w new → IsIn w old ⊎ IsIn w words
+
+-- how many bytes the words have together, with one more byte for each, which parts it from the others
+abbrev pub parted_size : List (List Symbol) → ℕ
+parted_size words = sum_by (λ word. suc (length (rendering word))) words

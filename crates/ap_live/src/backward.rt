@@ -26,7 +26,7 @@ const SPARE: usize = 8;
 
 /// A copy with room for so many symbols, and for one more than there are at least. One of no symbol
 /// takes no memory.
-fn copy_symbols(alloc: Global, symbols: &Symbols, room: usize) -> Result<Symbols, Memory>
+pub(crate) fn copy_symbols(alloc: Global, symbols: &Symbols, room: usize) -> Result<Symbols, Memory>
     ensures { IfOk result (λ made. made ≡ symbols.now) }
 {
     let symbols = symbols.as_slice();
@@ -42,7 +42,12 @@ fn copy_symbols(alloc: Global, symbols: &Symbols, room: usize) -> Result<Symbols
 }
 
 /// The item before an edge, where this is the output behind it.
-fn item_before(alloc: Global, edge: &Edge, back: Symbols, room: usize) -> Result<Item, Memory>
+pub(crate) fn item_before(
+    alloc: Global,
+    edge: &Edge,
+    back: Symbols,
+    room: usize,
+) -> Result<Item, Memory>
     ensures { IfOk result (λ made. made
         ≡ record { state = edge.now.from; back = back ++ option_to_list edge.now.label.right }) }
 {
@@ -54,7 +59,7 @@ fn item_before(alloc: Global, edge: &Edge, back: Symbols, room: usize) -> Result
     })
 }
 
-fn is_silent(edge: &Edge) -> bool
+pub(crate) fn is_silent(edge: &Edge) -> bool
     ensures { result ≡ is_empty_side edge.now.label.left }
 {
     match &edge.label.left {
@@ -70,7 +75,7 @@ pub(crate) fn edge_at(edges: &[Edge], at: usize) -> Option<&Edge>
 }
 
 /// Whether an edge of this sort leads to the item's state, and is the one by which it was reached.
-fn leads(edge: &Edge, link: Arrival, item: &Item, silent: bool) -> bool
+pub(crate) fn leads(edge: &Edge, link: Arrival, item: &Item, silent: bool) -> bool
     ensures { IsTrue result ↔ ((item.now.state ≡ edge.now.to) × (link.to ≡ edge.now.to)
         × (is_empty_side edge.now.label.left ≡ silent)) }
 {
@@ -315,7 +320,7 @@ fn close_back(
 }
 
 /// The final ones of these states, with an empty output.
-fn final_items(alloc: Global, fst: &Fst, states: &[usize]) -> Result<Items, Memory>
+pub(crate) fn final_items(alloc: Global, fst: &Fst, states: &[usize]) -> Result<Items, Memory>
     ensures { IfOk result (λ items. AreFinals fst.now states.now items) }
 {
     let mut items = Vec::new(alloc);
@@ -343,7 +348,7 @@ fn add_start(backs: &mut Vec<Symbols>, item: Item) -> Result<(), Memory>
 }
 
 /// The outputs of the items at the start.
-fn at_start(alloc: Global, items: Vec<Item>) -> Result<Vec<Symbols>, Memory>
+pub(crate) fn at_start(alloc: Global, items: Vec<Item>) -> Result<Vec<Symbols>, Memory>
     ensures { IfOk result (λ backs. (back : List Symbol) →
         IsIn back backs.items ↔ IsIn (record { state = 0; back = back }) items.items) }
 {

@@ -39,8 +39,13 @@
 //!   `render_only`.
 //! - `SectionLive`, `LiveSections`: the same of one section and of all four, where a section that
 //!   accepts nothing costs nothing: `reads`, `reads_any`, `readings`.
-//! - Right words: `any_readings` and `push_kind`, with the case of `case_carried`; `sort_words`,
-//!   words in order, each once; `writes_words`, whether right sides hold no white space.
+//! - `Walked`: what earlier walks met, so that a later one need not go on where it is in the same
+//!   states: `new`, `note`, `meets`, `pass`, `forget`.
+//! - Right words: `any_readings` and `push_kind`, with the case of `case_carried`; `push_some`, some
+//!   of them alone where there may be very many; `any_readings_within` and `are_told_longer`, by
+//!   which words that are too long are told from some of them; `least_readings`, the least of them
+//!   without all others; `sort_words`, words in order, each once; `writes_words`, whether right
+//!   sides hold no white space.
 //! - Laws that look at a dictionary: `words_are_readable`, `compiled_has_a_lexicon`,
 //!   `sides_are_proper`.
 //!
@@ -50,6 +55,7 @@
 //!   live set has after any inputs exactly the outputs of the paths that fit them, in order, each
 //!   once (`outputs_law`); in such a one that is trimmed it is dead exactly where the inputs fit no
 //!   beginning of a left word (`viable_law`).
+//! - Walks that are in the same states of each section go on alike (`Walked::meets`).
 //! - The lexicon of a compiled dictionary is that of what its sections accept
 //!   (`compiled_have_lexicons`, `compiled_has_a_lexicon`); a relation has one lexicon at most, and
 //!   equal relations have the same (`one_lexicon`, `same_relation_same_lexicon`).
@@ -61,6 +67,7 @@
 //! - `specs/Fitting.antt`: `Input`, `fits_inputs`: inputs with their flag for case.
 //! - `specs/Outputs.antt`: `IsOutput`, `FitBeginning`: what a live set answers.
 //! - `specs/Lexicon.antt`: `Lexicon`, `IsLexiconOf`: what a dictionary says of symbols.
+//! - `specs/Walks.antt`: `GoAlike`, `IsWalked`: what earlier walks met.
 //! - `specs/Trails.antt`: `Way`, `IsTrail`; `specs/Rows.antt`: `AreLiveRows`;
 //!   `specs/Outlines.antt`: `IsOutline`; `specs/Lives.antt`: `IsLive`: the picture above.
 #![tactic(auto)]
@@ -71,12 +78,15 @@ mod backward;
 mod held;
 mod items;
 mod laws;
+mod least_ways;
 mod lexicon_laws;
 mod live;
 mod live_rows;
 mod live_sections;
+mod met;
 mod node_rows;
 mod nodes;
+mod notes;
 mod only;
 mod outline;
 mod picking;
@@ -84,8 +94,11 @@ mod readable;
 mod readings;
 mod rows;
 mod section_live;
+mod some_ways;
+mod states;
 mod taken;
 mod trail;
+mod walked;
 mod ways;
 mod wording;
 
@@ -97,6 +110,10 @@ pub use lexicon_laws::{
 pub use live::Live;
 pub use live_sections::LiveSections;
 pub use readable::words_are_readable;
-pub use readings::{any_readings, case_carried, push_kind};
+pub use readings::{
+    any_readings, any_readings_within, are_told_longer, case_carried, least_readings, push_kind,
+    push_some,
+};
 pub use section_live::SectionLive;
+pub use walked::Walked;
 pub use wording::{sort_words, writes_words};

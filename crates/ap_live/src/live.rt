@@ -1,4 +1,4 @@
-ghost use Rattle.std.specs.Prelude.{◌≡◌, ℕ, ◌++◌, ◌∷◌, ◌↔◌, [], List, IfOk, Ok, OnOk, OnErr, IsTrue, true, length, take, not};
+ghost use Rattle.std.specs.Prelude.{◌≡◌, ℕ, ◌++◌, ◌∷◌, ◌↔◌, [], List, IfOk, IfSome, Ok, OnOk, OnErr, IsTrue, true, length, take, not};
 ghost use Rattle.std.specs.List.Sorted.{IsStrictlySortedBy};
 ghost use Rattle.ap_symbol.specs.Rendering.{rendering, word_cmp};
 ghost use Rattle.ap_symbol.specs.declared.symbol.Symbol.{Symbol};
@@ -6,11 +6,12 @@ ghost use Rattle.ap_fst.specs.Lists.{IsIn};
 ghost use Rattle.ap_fst.specs.Machines.{Machine, IsMachine};
 ghost use Rattle.ap_fst.specs.Silence.{HasNoEmptyCycle};
 ghost use Rattle.ap_fst.specs.Trimming.{IsTrimmed};
+ghost use Rattle.ap_live.specs.Least.{HoldLeast};
 
 use crate::outline::{Outline, outline_of};
 use crate::ways::Ways;
 use ap_fst::Fst;
-use ap_symbol::{Bytes, Memory, Symbol, Words};
+use ap_symbol::{Bytes, Case, Memory, Symbol, Word, Words};
 use std::alloc::Global;
 use std::marker::Model;
 
@@ -50,6 +51,7 @@ fn has_no_final(fst: &Fst) -> bool
 impl Live {
     ghost use Rattle.ap_live.specs.Fitting.{Input};
     ghost use Rattle.ap_live.specs.Lives.{IsLive};
+    ghost use Rattle.ap_live.specs.Reached.{AreStates};
     ghost use Rattle.ap_live.specs.Rows.{Reach};
     ghost use Rattle.ap_live.specs.Outputs.{IsOutput, FitBeginning, WritesWords};
     ghost use Rattle.ap_live.specs.Found.{outputs, has_output, is_viable};
@@ -97,6 +99,37 @@ impl Live {
         let _ = fst.states();
         let words = self.ways.words(alloc, fst, &self.outline)?;
         Ok(Words::from_vec(words))
+    }
+
+    /// Words that `finals` would give, of which one is no later than any other once the case is
+    /// carried: all of them, or few where it may give more than a few thousand.
+    pub(crate) fn least_words(
+        &self,
+        alloc: Global,
+        fst: &Fst,
+        case: Case,
+    ) -> Result<Vec<Word>, Memory>
+        requires no_cycle { HasNoEmptyCycle fst.now }
+        requires writes { WritesWords fst.now }
+        ensures { IfOk result (λ words. (seen : List Input) → IsLive fst.now seen self.now →
+            HoldLeast fst.now case seen words.items) }
+    {
+        self.ways.least_words(alloc, fst, &self.outline, case)
+    }
+
+    /// Some of the words that `finals` would give, as many as there is room for their bytes or one
+    /// more, where it may give more than a few thousand; and else none. One may stand twice.
+    pub(crate) fn some_words(
+        &self,
+        alloc: Global,
+        fst: &Fst,
+        room: usize,
+    ) -> Result<Vec<Word>, Memory>
+        requires { WritesWords fst.now }
+        ensures { IfOk result (λ words. (seen : List Input) → IsLive fst.now seen self.now →
+            (w : List Symbol) → IsIn w words.items → IsOutput fst.now seen w) }
+    {
+        self.ways.some_words(alloc, fst, &self.outline, room)
     }
 
     /// Appends the bytes of the word that `finals` would give, where it is one, and answers whether
@@ -147,6 +180,15 @@ impl Live {
             (IsTrue result ↔ ((s : ℕ) → Reach m.edges seen s → ⊥)) }
     {
         self.ways.reaches_none()
+    }
+
+    /// The states that the inputs reach, in order, each once; none where they are many, or there is
+    /// no memory for them.
+    pub(crate) fn states(&self) -> Option<Vec<usize>>
+        ensures { IfSome result (λ states. (m : Machine) (seen : List Input) →
+            IsLive m seen self.now → AreStates m.edges seen states.items) }
+    {
+        self.ways.states()
     }
 
     /// Whether the inputs fit no beginning of the left word of an accepted label list. This is

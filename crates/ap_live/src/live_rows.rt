@@ -1,4 +1,4 @@
-ghost use Rattle.std.specs.Prelude.{◌≡◌, ◌↔◌, ◌++◌, ◌∷◌, ℕ, [], List, IfOk, OnOk, OnErr, IsTrue, length, map, take};
+ghost use Rattle.std.specs.Prelude.{◌≡◌, ◌↔◌, ◌++◌, ◌∷◌, ℕ, [], List, IfOk, IfSome, OnOk, OnErr, IsTrue, length, map, take};
 ghost use Rattle.std.specs.List.Sorted.{IsStrictlySortedBy};
 ghost use Rattle.ap_symbol.specs.Rendering.{word_cmp};
 ghost use Rattle.ap_symbol.specs.declared.symbol.Symbol.{Symbol};
@@ -6,20 +6,25 @@ ghost use Rattle.ap_fst.specs.Lists.{IsIn};
 ghost use Rattle.ap_fst.specs.Machines.{Machine};
 ghost use Rattle.ap_fst.specs.Silence.{HasNoEmptyCycle};
 ghost use Rattle.ap_live.specs.Fitting.{Input};
+ghost use Rattle.ap_live.specs.Least.{HoldLeast};
 ghost use Rattle.ap_live.specs.Outlines.{IsOutline};
 ghost use Rattle.ap_live.specs.Outputs.{IsOutput, WritesWords};
+ghost use Rattle.ap_live.specs.Reached.{AreStates};
 ghost use Rattle.ap_live.specs.Rows.{AreLiveRows, Reach};
 ghost use Rattle.ap_live.specs.Trails.{input_of};
 
 use crate::backward::backs_of;
 use crate::held::{HeldRow, ends_finally, reaches_none};
+use crate::least_ways::least_words;
 use crate::outline::Outline;
 use crate::picking::Pick;
 use crate::rows::{fill_row, first_row, no_row};
+use crate::some_ways::{may_be_many, some_back};
+use crate::states::states_of;
 use crate::taken::Taken;
 use crate::wording::ordered_words;
 use ap_fst::Fst;
-use ap_symbol::{Memory, Symbol, Word};
+use ap_symbol::{Case, Memory, Symbol, Word};
 use std::alloc::Global;
 use std::marker::Model;
 
@@ -112,6 +117,45 @@ impl LiveRows {
         ordered_words(alloc, backs)
     }
 
+    /// Outputs of the inputs so far, of which one is no later than any other once the case is
+    /// carried: all of them, or few where there may be more than a few thousand.
+    pub(crate) fn least_words(
+        &self,
+        alloc: Global,
+        fst: &Fst,
+        case: Case,
+    ) -> Result<Vec<Word>, Memory>
+        requires no_cycle { HasNoEmptyCycle fst.now }
+        requires writes { WritesWords fst.now }
+        ensures { IfOk result (λ words. (seen : List Input) →
+            AreLiveRows fst.now seen self.now → HoldLeast fst.now case seen words.items) }
+    {
+        if !may_be_many(self.rows.as_slice()) {
+            return self.words(alloc, fst);
+        }
+        match least_words(alloc, fst, case, self.rows.as_slice())? {
+            Some(words) => Ok(words),
+            None => self.words(alloc, fst),
+        }
+    }
+
+    /// Some of the outputs of the inputs so far, as many as there is room for their bytes or one
+    /// more, where there may be more than a few thousand; and else none. One may stand twice.
+    pub(crate) fn some_words(
+        &self,
+        alloc: Global,
+        fst: &Fst,
+        outline: &Outline,
+        room: usize,
+    ) -> Result<Vec<Word>, Memory>
+        requires { WritesWords fst.now }
+        ensures { IfOk result (λ words. IsOutline fst.now.edges outline.now →
+            (seen : List Input) → AreLiveRows fst.now seen self.now → (w : List Symbol) →
+            IsIn w words.items → IsOutput fst.now seen w) }
+    {
+        some_back(alloc, fst, outline, self.rows.as_slice(), room)
+    }
+
     /// Whether the inputs reach a final state.
     pub(crate) fn accepts(&self) -> bool
         ensures { (m : Machine) (seen : List Input) → AreLiveRows m seen self.now →
@@ -126,6 +170,18 @@ impl LiveRows {
             (IsTrue result ↔ ((s : ℕ) → Reach m.edges seen s → ⊥)) }
     {
         reaches_none(self.rows.as_slice())
+    }
+
+    /// The states that the inputs reach, in order, each once; none where they are many, or there is
+    /// no memory for them.
+    pub(crate) fn states(&self) -> Option<Vec<usize>>
+        ensures { IfSome result (λ states. (m : Machine) (seen : List Input) →
+            AreLiveRows m seen self.now → AreStates m.edges seen states.items) }
+    {
+        let Some(last) = self.rows.last() else {
+            return None;
+        };
+        states_of(*self.rows.allocator(), last.states())
     }
 
     /// The number of inputs so far.

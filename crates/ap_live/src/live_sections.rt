@@ -1,11 +1,14 @@
-ghost use Rattle.std.specs.Prelude.{◌≡◌, Bool, not, ◌&&◌, ◌++◌, ◌∷◌, [], List, Ok, take, true, OnOk, OnErr, IfOk};
+ghost use Rattle.std.specs.Prelude.{◌≡◌, Bool, not, ◌&&◌, ◌++◌, ◌∷◌, [], List, Ok, take, true, OnOk, OnErr, IfOk, IfSome};
 ghost use Rattle.ap_symbol.specs.Rendering.{rendering};
 ghost use Rattle.ap_symbol.specs.declared.symbol.Symbol.{Symbol};
+ghost use Rattle.ap_fst.specs.Lists.{IsIn};
 ghost use Rattle.ap_fst.specs.Sections.{Parts};
+ghost use Rattle.ap_live.specs.Least.{HoldsLeast};
 
+use crate::met::Met;
 use crate::section_live::SectionLive;
 use ap_fst::{Compiled, Kind2};
-use ap_symbol::{Bytes, Memory, Symbol, Words};
+use ap_symbol::{Bytes, Case, Memory, Symbol, Word, Words, one_rendering};
 use std::alloc::Global;
 
 /// What the symbols so far reach in each of the four sections of a compiled dictionary, which is
@@ -30,6 +33,7 @@ impl LiveSections {
     ghost use Rattle.ap_live.specs.Lexicon.{lexicon_of, viable_in, inputs_of};
     ghost use Rattle.ap_live.specs.Readings.{any_words};
     ghost use Rattle.ap_live.specs.SectionLives.{AreLive, IsSectionLive};
+    ghost use Rattle.ap_live.specs.Walks.{AreMet};
 
     /// What no symbol reaches. The error means want of memory.
     pub fn start(alloc: Global, compiled: &Compiled) -> Result<LiveSections, Memory>
@@ -143,6 +147,45 @@ impl LiveSections {
         self.section(kind).readings(alloc, compiled.section(kind))
     }
 
+    /// Some of what the entries of that kind read in the symbols so far, as many as there is room
+    /// for their bytes or one more, where there may be more than a few thousand; and else none. One
+    /// may stand twice. The error means want of memory.
+    pub fn some_readings(
+        &self,
+        alloc: Global,
+        compiled: &Compiled,
+        kind: Kind2,
+        room: usize,
+    ) -> Result<Vec<Word>, Memory>
+        ensures { IfOk result (λ words. (sensitive : Bool) (symbols : List Symbol) →
+            AreLive compiled.now sensitive symbols self.now → (w : List Symbol) →
+            IsIn w words.items →
+            IsIn w ((lexicon_of compiled.now sensitive).readings kind symbols)) }
+    {
+        one_rendering();
+        self.section(kind)
+            .some_readings(alloc, compiled.section(kind), room)
+    }
+
+    /// Words that entries of that kind read in the symbols so far, of which one is no later than any
+    /// other once the case is carried: all of them, or few where there may be more than a few
+    /// thousand. The error means want of memory.
+    pub fn least_readings(
+        &self,
+        alloc: Global,
+        compiled: &Compiled,
+        kind: Kind2,
+        case: Case,
+    ) -> Result<Vec<Word>, Memory>
+        ensures { IfOk result (λ words. (sensitive : Bool) (symbols : List Symbol) →
+            AreLive compiled.now sensitive symbols self.now → HoldsLeast case
+            ((lexicon_of compiled.now sensitive).readings kind symbols) words.items) }
+    {
+        one_rendering();
+        self.section(kind)
+            .least_readings(alloc, compiled.section(kind), case)
+    }
+
     /// Appends the bytes of what the entries of that kind read in the symbols so far, where that is
     /// one word, and answers whether it did. Where it didn't, anything may have been appended: there
     /// may be several words or none, or one that isn't made so. The error means want of memory;
@@ -159,6 +202,24 @@ impl LiveSections {
             × (into.new ≡ into.old ++ rendering word) }
     {
         self.section(kind).render_only(compiled.section(kind), into)
+    }
+
+    /// What the walk meets where it stands; none where there are many states in a section, or there
+    /// is no memory for them.
+    pub(crate) fn met(&self, alloc: Global) -> Option<Met>
+        ensures { IfSome result (λ met. (p : Parts) (sensitive : Bool) (symbols : List Symbol) →
+            AreLive p sensitive symbols self.now → AreMet p sensitive symbols met) }
+    {
+        let standard = self.standard.states(alloc)?;
+        let inconditional = self.inconditional.states(alloc)?;
+        let postblank = self.postblank.states(alloc)?;
+        let preblank = self.preblank.states(alloc)?;
+        Some(Met {
+            standard,
+            inconditional,
+            postblank,
+            preblank,
+        })
     }
 
     /// Goes back to the first so many symbols; where there are no more, nothing changes. It takes

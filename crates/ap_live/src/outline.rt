@@ -80,13 +80,6 @@ pub(crate) fn code_of_input(input: &Symbol) -> u32
     }
 }
 
-/// Whether the code is that of tags and marks.
-pub(crate) fn is_other_code(code: u32) -> bool
-    ensures { result ≡ false → code < 4_294_967_295 }
-{
-    code == OTHER
-}
-
 /// The code of a side.
 fn code_of(side: &Option<Symbol>) -> u32
     ensures { result ≡ side_code side.now }

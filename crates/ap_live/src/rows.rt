@@ -52,7 +52,7 @@ fn enter(states: &mut Vec<usize>, state: usize, pick: Pick<'_>) -> Result<(), Me
 }
 
 /// Puts states into order, each once.
-fn sort_states(states: &mut Vec<usize>)
+pub(crate) fn sort_states(states: &mut Vec<usize>)
     ensures members { (s : ℕ) → IsIn s states.new.items ↔ IsIn s states.old.items }
     ensures distinct { IsDistinct nat_eq states.new.items }
 {

@@ -1,18 +1,21 @@
-ghost use Rattle.std.specs.Prelude.{◌≡◌, ℕ, true, false, None, Ok, Some, not, ◌++◌, ◌∷◌, [], List, take, IfOk};
+ghost use Rattle.std.specs.Prelude.{◌≡◌, ℕ, true, false, None, Ok, Some, not, ◌++◌, ◌∷◌, [], List, take, IfOk, IfSome};
 ghost use Rattle.ap_symbol.specs.Rendering.{rendering};
 ghost use Rattle.ap_symbol.specs.declared.symbol.Symbol.{Symbol};
+ghost use Rattle.ap_fst.specs.Lists.{IsIn};
 ghost use Rattle.ap_fst.specs.Machines.{Machine};
 ghost use Rattle.ap_fst.specs.Sections.{IsSection};
 ghost use Rattle.ap_fst.specs.Silence.{HasNoEmptyCycle};
 ghost use Rattle.ap_live.specs.Fitting.{Input};
 ghost use Rattle.ap_live.specs.Found.{outputs, has_output, is_viable};
-ghost use Rattle.ap_live.specs.Outputs.{WritesWords};
+ghost use Rattle.ap_live.specs.Least.{HoldLeast};
+ghost use Rattle.ap_live.specs.Outputs.{IsOutput, WritesWords};
 ghost use Rattle.ap_live.specs.Lives.{Lives};
+ghost use Rattle.ap_live.specs.Reached.{AreReached};
 ghost use Rattle.ap_live.specs.Rows.{Reach};
 
 use crate::live::Live;
 use ap_fst::Fst;
-use ap_symbol::{Bytes, Memory, Symbol, Words};
+use ap_symbol::{Bytes, Case, Memory, Symbol, Word, Words};
 use std::alloc::Global;
 
 /// What the symbols so far reach in one section of a compiled dictionary. A section without a final
@@ -197,6 +200,23 @@ impl SectionLive {
         }
     }
 
+    /// The states that the symbols so far lead to, in order, each once: none of them where no live
+    /// set is held. No list where they are many, or there is no memory for them.
+    pub(crate) fn states(&self, alloc: Global) -> Option<Vec<usize>>
+        ensures { IfSome result (λ states. (m : Machine) (seen : List Input) →
+            IsSectionLive m seen self.now → AreReached m seen states.items) }
+    {
+        match &self.live {
+            None => Some(Vec::new(alloc)),
+            Some(live) => {
+                if self.behind > 0 {
+                    return Some(Vec::new(alloc));
+                }
+                live.states()
+            }
+        }
+    }
+
     /// Whether some entry of the section reads the symbols so far. It makes no word.
     pub fn reads(&self, fst: &Fst) -> bool
         ensures { (seen : List Input) → HasNoEmptyCycle fst.now →
@@ -228,6 +248,55 @@ impl SectionLive {
                     return Ok(Words::new(alloc));
                 }
                 live.finals(alloc, fst)
+            }
+        }
+    }
+
+    /// Some of what the entries of the section read in the symbols so far, as many as there is room
+    /// for their bytes or one more, where there may be more than a few thousand; and else none. One
+    /// may stand twice.
+    pub(crate) fn some_readings(
+        &self,
+        alloc: Global,
+        fst: &Fst,
+        room: usize,
+    ) -> Result<Vec<Word>, Memory>
+        requires { WritesWords fst.now }
+        ensures { IfOk result (λ words. (seen : List Input) → IsSectionLive fst.now seen self.now →
+            (w : List Symbol) → IsIn w words.items → IsOutput fst.now seen w) }
+    {
+        match &self.live {
+            None => Ok(Vec::new(alloc)),
+            Some(live) => {
+                if self.behind > 0 {
+                    return Ok(Vec::new(alloc));
+                }
+                live.some_words(alloc, fst, room)
+            }
+        }
+    }
+
+    /// Words that entries of the section read in the symbols so far, of which one is no later than
+    /// any other once the case is carried: all of them, or few where there may be more than a few
+    /// thousand.
+    pub(crate) fn least_readings(
+        &self,
+        alloc: Global,
+        fst: &Fst,
+        case: Case,
+    ) -> Result<Vec<Word>, Memory>
+        requires no_cycle { HasNoEmptyCycle fst.now }
+        requires writes { WritesWords fst.now }
+        ensures { IfOk result (λ words. (seen : List Input) → IsSectionLive fst.now seen self.now →
+            HoldLeast fst.now case seen words.items) }
+    {
+        match &self.live {
+            None => Ok(Vec::new(alloc)),
+            Some(live) => {
+                if self.behind > 0 {
+                    return Ok(Vec::new(alloc));
+                }
+                live.least_words(alloc, fst, case)
             }
         }
     }

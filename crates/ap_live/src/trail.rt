@@ -7,6 +7,7 @@ ghost use Rattle.ap_fst.specs.declared.label.Edge.{Edge};
 ghost use Rattle.ap_live.specs.Fitting.{Input};
 ghost use Rattle.ap_live.specs.Outlines.{IsOutline};
 ghost use Rattle.ap_live.specs.Outputs.{IsOutput, WritesWords};
+ghost use Rattle.ap_live.specs.Reached.{AreStates};
 ghost use Rattle.ap_live.specs.Rows.{Reach};
 ghost use Rattle.ap_live.specs.Trails.{AreWays, IsFirstFinal, IsOnlyBytes, IsOnlyEnd, IsTrail, LeadsBack, NoneFinal};
 
@@ -15,6 +16,7 @@ use crate::node_rows::{add_nodes, first_nodes};
 use crate::nodes::Node;
 use crate::only::bytes_along;
 use crate::outline::Outline;
+use crate::states::states_from;
 use crate::taken::Taken;
 use crate::wording::sort_words;
 use ap_fst::Fst;
@@ -237,6 +239,15 @@ impl Trail {
             (IsTrue result ↔ ((s : ℕ) → Reach edges seen s → ⊥)) }
     {
         self.low() == self.nodes.len()
+    }
+
+    /// The states that the inputs reach, in order, each once; none where there are many ways, or
+    /// there is no memory for them.
+    pub(crate) fn states(&self) -> Option<Vec<usize>>
+        ensures { IfSome result (λ states. (edges : List Edge) (seen : List Input) →
+            IsTrail edges seen self.now → AreStates edges seen states.items) }
+    {
+        states_from(self.allocator(), self.nodes.as_slice(), self.low())
     }
 
     /// Whether the inputs reach a final state.

@@ -1,4 +1,4 @@
-ghost use Rattle.std.specs.Prelude.{◌≡◌, ◌↔◌, ◌++◌, ◌∷◌, ◌≤◌, ◌<◌, ℕ, [], List, IfOk, None, Ok, OnOk, OnErr, IsTrue, Some, false, length, map, take, true};
+ghost use Rattle.std.specs.Prelude.{◌≡◌, ◌↔◌, ◌++◌, ◌∷◌, ◌≤◌, ◌<◌, ℕ, [], List, IfOk, IfSome, None, Ok, OnOk, OnErr, IsTrue, Some, false, length, map, take, true};
 ghost use Rattle.std.specs.List.Sorted.{IsStrictlySortedBy};
 ghost use Rattle.ap_symbol.specs.Rendering.{word_cmp};
 ghost use Rattle.ap_symbol.specs.declared.symbol.Symbol.{Symbol};
@@ -6,8 +6,10 @@ ghost use Rattle.ap_fst.specs.Lists.{IsIn};
 ghost use Rattle.ap_fst.specs.Machines.{Machine};
 ghost use Rattle.ap_fst.specs.Silence.{HasNoEmptyCycle};
 ghost use Rattle.ap_live.specs.Fitting.{Input};
+ghost use Rattle.ap_live.specs.Least.{HoldLeast};
 ghost use Rattle.ap_live.specs.Outlines.{IsOutline};
 ghost use Rattle.ap_live.specs.Outputs.{IsOutput, WritesWords};
+ghost use Rattle.ap_live.specs.Reached.{AreStates};
 ghost use Rattle.ap_live.specs.Rows.{AreLiveRows, Reach};
 ghost use Rattle.ap_live.specs.Trails.{IsOnlyBytes, IsTrail, Trails, input_of};
 
@@ -16,7 +18,7 @@ use crate::outline::Outline;
 use crate::taken::Taken;
 use crate::trail::Trail;
 use ap_fst::Fst;
-use ap_symbol::{Bytes, Memory, Symbol, Word};
+use ap_symbol::{Bytes, Case, Memory, Symbol, Word};
 use std::alloc::Global;
 
 /// What the inputs so far reach: a node for each way, as long as the ways are few, and from then on
@@ -129,6 +131,47 @@ impl Ways {
         }
     }
 
+    /// Outputs of the inputs so far, of which one is no later than any other once the case is
+    /// carried: all of them, or few where there may be more than a few thousand.
+    pub(crate) fn least_words(
+        &self,
+        alloc: Global,
+        fst: &Fst,
+        outline: &Outline,
+        case: Case,
+    ) -> Result<Vec<Word>, Memory>
+        requires no_cycle { HasNoEmptyCycle fst.now }
+        requires writes { WritesWords fst.now }
+        ensures { IfOk result (λ words. IsOutline fst.now.edges outline.now →
+            (seen : List Input) → IsHeld fst.now seen self.now →
+            HoldLeast fst.now case seen words.items) }
+    {
+        match &self.rows {
+            None => self.words(alloc, fst, outline),
+            Some(rows) => rows.least_words(alloc, fst, case),
+        }
+    }
+
+    /// Some of the outputs of the inputs so far, as many as there is room for their bytes or one
+    /// more, where there may be more than a few thousand; and else none. One may stand twice.
+    pub(crate) fn some_words(
+        &self,
+        alloc: Global,
+        fst: &Fst,
+        outline: &Outline,
+        room: usize,
+    ) -> Result<Vec<Word>, Memory>
+        requires { WritesWords fst.now }
+        ensures { IfOk result (λ words. IsOutline fst.now.edges outline.now →
+            (seen : List Input) → IsHeld fst.now seen self.now → (w : List Symbol) →
+            IsIn w words.items → IsOutput fst.now seen w) }
+    {
+        match &self.rows {
+            None => Ok(Vec::new(alloc)),
+            Some(rows) => rows.some_words(alloc, fst, outline, room),
+        }
+    }
+
     /// Appends the bytes of the only output, where the ways are held and one alone leads to a final
     /// state, and answers whether it did.
     pub(crate) fn render_only(
@@ -175,6 +218,21 @@ impl Ways {
         match &self.trail {
             None => true,
             Some(trail) => trail.reaches_none(),
+        }
+    }
+
+    /// The states that the inputs reach, in order, each once; none where they are many, or there is
+    /// no memory for them.
+    pub(crate) fn states(&self) -> Option<Vec<usize>>
+        ensures { IfSome result (λ states. (m : Machine) (seen : List Input) →
+            IsHeld m seen self.now → AreStates m.edges seen states.items) }
+    {
+        if let Some(rows) = &self.rows {
+            return rows.states();
+        }
+        match &self.trail {
+            None => None,
+            Some(trail) => trail.states(),
         }
     }
 

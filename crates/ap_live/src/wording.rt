@@ -18,7 +18,7 @@ use std::alloc::Global;
 pub(crate) const SYMBOL_BYTES: usize = 4;
 
 /// The word whose symbols are these, the last first.
-fn word_of(alloc: Global, back: Symbols) -> Result<Word, Memory>
+pub(crate) fn word_of(alloc: Global, back: Symbols) -> Result<Word, Memory>
     requires { IsTrue (list_all is_word_symbol back) }
     ensures is { IfOk result (λ word. word ≡ reverse back) }
     ensures proper { IfOk result (λ word. AreProper word) }
@@ -33,7 +33,7 @@ fn word_of(alloc: Global, back: Symbols) -> Result<Word, Memory>
     Ok(word)
 }
 
-fn words_of(alloc: Global, backs: Vec<Symbols>) -> Result<Vec<Word>, Memory>
+pub(crate) fn words_of(alloc: Global, backs: Vec<Symbols>) -> Result<Vec<Word>, Memory>
     requires { (back : List Symbol) → IsIn back backs.items →
         IsTrue (list_all is_word_symbol back) }
     ensures is { IfOk result (λ words. words.items ≡ map reverse backs.items) }

@@ -1,4 +1,5 @@
 pub mod Translations
+pub mod LongTexts
 pub mod Prefixes
 pub mod SuperblanksKept
 pub mod Matches

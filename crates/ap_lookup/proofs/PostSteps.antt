@@ -73,9 +73,6 @@ module _ (lexicon : Lexicon) (sensitive : Bool) (reads : List Read) where
       let t : nat_lt 0 n ≡ true = grind (arith, nat_tests) in
       ap (λ b. if b then matched_step lexicon sensitive reads n else Gives 1 []) t
 
-  pub match_none : match_step lexicon sensitive reads 0 ≡ Gives 1 []
-  match_none = refl
-
 -- Where more items come.
 module _ (lexicon : Lexicon) (reads xs : List Read) where
   begins_more : 0 < length reads → begins_alarm (reads ++ xs) ≡ begins_alarm reads

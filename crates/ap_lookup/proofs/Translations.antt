@@ -10,13 +10,13 @@ use Rattle.ap_fst.specs.Sections.{Parts}
 use Rattle.ap_live.specs.Found.{has_words}
 use Rattle.ap_live.specs.Greatest.{greatest}
 use Rattle.ap_live.specs.Lexicon.{Lexicon, IsCoherent, viable_in}
-use Rattle.ap_live.specs.Readings.{any_words}
+use Rattle.ap_live.specs.Readings.{any_words, parted_size}
 use Rattle.ap_live.specs.SectionLives.{AreLive}
 use Rattle.ap_live.specs.declared.live_sections.LiveSections.{LiveSections}
 use Rattle.ap_live.proofs.AnyWords.{any_viable, viable_front}
 use Rattle.ap_live.proofs.Greatest.{greatest_is, greatest_cut}
 use Rattle.ap_lookup.specs.Matching.{is_match}
-use Rattle.ap_lookup.specs.Translation.{lemma_length, is_prefix, prefix, taken, untaken, translation}
+use Rattle.ap_lookup.specs.Translation.{Translated, forms_of, lemma_length, is_prefix, prefix, taken, untaken, translated_at, translation}
 
 pub match_short : (lexicon : Lexicon) (least : ℕ) (word : List Symbol) (m : ℕ) → m < least →
     is_match lexicon least word m ≡ false
@@ -108,8 +108,27 @@ module _ (lexicon : Lexicon) (sensitive : Bool) (word : List Symbol) where
   unfolding translation
   translation_none m e = rw (m, e) refl
 
+  pub translation_at : (n : ℕ) → is_marked word ≡ false → prefix lexicon word ≡ n →
+      translated_at lexicon sensitive word n ≡ translation lexicon sensitive word
+  unfolding translation
+  translation_at n m e = rw (m, e) refl
+
+  pub at_none : (n : ℕ) → n ≡ 0 → untaken word ≡ translated_at lexicon sensitive word n
+  at_none n e = rw e refl
+
+  pub at_some : (n : ℕ) → 0 < n →
+      taken lexicon sensitive word n ≡ translated_at lexicon sensitive word n
+  at_some n some = let t : nat_lt 0 n ≡ true = grind (arith, nat_tests) in rw t refl
+
   pub translation_found : (n : ℕ) → is_marked word ≡ false → prefix lexicon word ≡ n → 0 < n →
       taken lexicon sensitive word n ≡ translation lexicon sensitive word
-  unfolding translation
-  translation_found n m e some = let t : nat_lt 0 n ≡ true = grind (arith, nat_tests) in
-      rw (m, e, t) refl
+  translation_found n m e some = at_some n some ∙ translation_at n m e
+
+  -- heads that are too long, at the prefix that is taken
+  pub heads_long : (n size : ℕ) → 0 < n →
+      translated_at lexicon sensitive word n ≡ translation lexicon sensitive word →
+      size < parted_size (forms_of lexicon sensitive word (take n word)) →
+      size < parted_size (translation lexicon sensitive word).heads
+  heads_long n size some e h =
+      subst (λ (z : List (List Symbol)). size < parted_size z)
+      (ap (λ (t : Translated). t.heads) (at_some n some ∙ e)) h

@@ -4,7 +4,7 @@ use Rattle.std.proofs.Common.{arith, ap}
 use Rattle.std.proofs.lemmas.List.{append-nil}
 use Rattle.ap_stream.specs.Blanks.{is_white}
 use Rattle.ap_stream.specs.Copying.{is_copied}
-use Rattle.ap_stream.specs.Crossing.{stops_word}
+use Rattle.ap_stream.specs.Stands.{stops_word}
 use Rattle.ap_stream.specs.Spelling.{spelled}
 use Rattle.ap_stream.specs.Steps.{steps}
 use Rattle.ap_stream.specs.Told.{behind}

@@ -1,7 +1,8 @@
-ghost use Rattle.std.specs.Prelude.{◌≡◌, ◌++◌, List, OnOk, map};
+ghost use Rattle.std.specs.Prelude.{◌≡◌, ◌<◌, ◌++◌, List, true, false, Ok, OnOk, length, map};
 ghost use Rattle.std.specs.List.{flat_map};
 ghost use Rattle.ap_symbol.specs.declared.symbol.Symbol.TheVariants.{At};
 ghost use Rattle.ap_stream.specs.Spelling.{slashed};
+ghost use Rattle.ap_stream.specs.declared.TheConstants.{UNIT_MAX};
 ghost use Rattle.ap_live.specs.Lexicon.{lexicon_of};
 ghost use Rattle.ap_lookup.specs.Lookup.{bilingual, translations, translations_by};
 
@@ -9,6 +10,7 @@ use crate::translation::Translation;
 use crate::translator::Translator;
 use crate::word_writer::WordWriter;
 use ap_fst::Compiled;
+use ap_stream::UNIT_MAX;
 use ap_symbol::{Bytes, Memory, Word, is_marked};
 use std::alloc::Global;
 use std::marker::Model;
@@ -55,20 +57,32 @@ fn push_translations(word: &Word, made: &Translation, text: &mut Bytes) -> Resul
     push_heads(made.heads.as_slice(), &made.rest, text)
 }
 
-/// Looks a word up, and appends its translations, each behind a `/`.
-fn push_translated(translator: &mut Translator, word: &Word, text: &mut Bytes) -> Result<(), Memory>
-    ensures text { OnOk result
-        (text.new ≡ text.old ++ flat_map slashed
+/// Looks a word up, and appends its translations, each behind a `/`. Answers whether it did: it may
+/// leave them where they have more bytes than a unit may have.
+fn push_translated(
+    translator: &mut Translator,
+    word: &Word,
+    text: &mut Bytes,
+) -> Result<bool, Memory>
+    ensures text { result ≡ Ok true →
+        text.new ≡ text.old ++ flat_map slashed
+        (translations (lexicon_of translator.old.compiled translator.old.sensitive)
+        translator.old.sensitive word.now) }
+    ensures long { result ≡ Ok false → UNIT_MAX < length (flat_map slashed
         (translations (lexicon_of translator.old.compiled translator.old.sensitive)
         translator.old.sensitive word.now)) }
     ensures same { translator.new ≡ translator.old }
 {
     if is_marked(word.symbols()) {
         text.extend(b"/")?;
-        return text.extend(word.rendered());
+        text.extend(word.rendered())?;
+        return Ok(true);
     }
-    let made = translator.translate(word)?;
-    push_translations(word, &made, text)
+    let Some(made) = translator.translate_within(word, UNIT_MAX)? else {
+        return Ok(false);
+    };
+    push_translations(word, &made, text)?;
+    Ok(true)
 }
 
 impl BilingualWriter {
@@ -86,10 +100,13 @@ impl BilingualWriter {
 impl WordWriter for BilingualWriter {
     ghost given = { λ w word. bilingual (lexicon_of w.compiled w.sensitive) w.sensitive word };
 
-    fn write(&mut self, word: &Word, into: &mut Bytes) -> Result<(), Memory> {
+    fn write(&mut self, word: &Word, into: &mut Bytes) -> Result<bool, Memory> {
         into.extend(b"^")?;
         into.extend(word.rendered())?;
-        push_translated(&mut self.translator, word, into)?;
-        into.extend(b"$")
+        if !push_translated(&mut self.translator, word, into)? {
+            return Ok(false);
+        }
+        into.extend(b"$")?;
+        Ok(true)
     }
 }

@@ -43,11 +43,11 @@ impl<W: WordWriter + Drop> ByWord<W> {
 impl<W: WordWriter + Drop> UnitWriter for ByWord<W> {
     ghost given = { λ b words. W.given b (first_word words) };
 
-    fn write(&mut self, unit: &Unit, into: &mut Bytes) -> Result<(), Memory> {
+    fn write(&mut self, unit: &Unit, into: &mut Bytes) -> Result<bool, Memory> {
         let mut word = mem::replace(&mut self.word, Word::new(self.alloc));
         unit.first(&mut self.names, &mut word)?;
-        self.writer.write(&word, into)?;
+        let is_written = self.writer.write(&word, into)?;
         self.word = word;
-        Ok(())
+        Ok(is_written)
     }
 }

@@ -1,8 +1,11 @@
-ghost use Rattle.std.specs.Prelude.{◌≡◌, ◌≤◌, ◌<◌, ◌++◌, List, [], drop, length, OnOk, IfOk, IfSome};
+ghost use Rattle.std.specs.Prelude.{◌≡◌, ◌≤◌, ◌<◌, ◌+◌, ◌++◌, List, [], drop, length, None, Ok, true, false, OnOk, IfOk, IfSome, IsTrue, if◌then◌else◌};
 ghost use Rattle.std.specs.List.{flat_map};
+ghost use Rattle.ap_symbol.specs.Kinds.{is_marked as marked_test};
 ghost use Rattle.ap_symbol.specs.Rendering.{rendering};
 ghost use Rattle.ap_stream.specs.Spelling.{slashed};
+ghost use Rattle.ap_stream.specs.declared.TheConstants.{UNIT_MAX};
 ghost use Rattle.ap_live.specs.Lexicon.{lexicon_of};
+ghost use Rattle.ap_live.specs.Readings.{parted_size};
 ghost use Rattle.ap_live.specs.SectionLives.{AreLive};
 ghost use Rattle.ap_lookup.specs.Translation.{lemma, forms_of};
 ghost use Rattle.ap_lookup.specs.Lookup.{generated, formed, formless, starred, unmatched, is_star as star_test};
@@ -11,10 +14,15 @@ use crate::translation::lemma_len;
 use crate::translator::take_lives;
 use crate::word_writer::WordWriter;
 use ap_fst::Compiled;
-use ap_live::{LiveSections, any_readings};
+use ap_live::{LiveSections, any_readings_within};
+use ap_stream::UNIT_MAX;
 use ap_symbol::{Bytes, Memory, Symbol, Word, Words, is_marked};
 use std::alloc::Global;
 use std::marker::Model;
+
+/// Bytes of forms, with one more for each, that are more than a unit may have where the forms are
+/// joined: one less stands between them than there are.
+const TOO_MANY: usize = UNIT_MAX + 1;
 
 /// How a word without a form is written: with its mark and its lemma (`lt-proc -g`), without a mark
 /// (`-n`), or whole with its mark (`-d`).
@@ -139,7 +147,8 @@ fn step_whole(
     Ok(())
 }
 
-/// The right words of any kind that fit the whole word, with the lemma's case, in order, each once.
+/// The right words of any kind that fit the whole word, with the lemma's case, in order, each once,
+/// or none where some of them show that all of them, joined, have more bytes than a unit may have.
 /// The live sets are left as they were, unless it finds no memory.
 fn forms_kept(
     alloc: Global,
@@ -147,18 +156,20 @@ fn forms_kept(
     word: &Word,
     sensitive: bool,
     kept: &mut Option<LiveSections>,
-) -> Result<Words, Memory>
+) -> Result<Option<Words>, Memory>
     requires { IfSome kept.old (AreLive compiled.now sensitive []) }
-    ensures value { IfOk result
-        (λ words. words ≡ forms_of (lexicon_of compiled.now sensitive) sensitive
-        word.now word.now) }
+    ensures value { IfOk result (λ found. IfSome found (λ words.
+        words ≡ forms_of (lexicon_of compiled.now sensitive) sensitive word.now word.now)) }
+    ensures long { result ≡ Ok None → UNIT_MAX + 1 < parted_size
+        (forms_of (lexicon_of compiled.now sensitive) sensitive word.now word.now) }
     ensures kept { IfSome kept.new (AreLive compiled.now sensitive []) }
 {
     let mut lives = take_lives(alloc, compiled, kept)?;
     let symbols = word.symbols();
     let lemma = lemma_len(symbols);
     step_whole(compiled, sensitive, symbols, &mut lives)?;
-    let words = any_readings(alloc, compiled, sensitive, &lives, &symbols[..lemma])?;
+    let seen = &symbols[..lemma];
+    let words = any_readings_within(alloc, compiled, sensitive, &lives, seen, TOO_MANY)?;
     lives.cut(0);
     *kept = Some(lives);
     Ok(words)
@@ -193,7 +204,20 @@ fn push_unmatched(alloc: Global, marks: Marks, word: &Word, text: &mut Bytes) ->
     }
 }
 
-/// Appends what a word gives.
+/// Appends a word that begins with `*` or `@`.
+fn push_marked(alloc: Global, marks: Marks, word: &Word, text: &mut Bytes) -> Result<(), Memory>
+    requires { IsTrue (marked_test word.now) }
+    ensures { OnOk result (text.new ≡ text.old
+        ++ (if star_test word.now then starred marks word.now else unmatched marks word.now)) }
+{
+    if is_star(word.symbols()) {
+        return push_starred(alloc, marks, word, text);
+    }
+    push_unmatched(alloc, marks, word, text)
+}
+
+/// Appends what a word gives, and answers whether it did: it may leave forms that have more bytes
+/// than a unit may have.
 fn push_generated(
     alloc: Global,
     compiled: &Compiled,
@@ -202,21 +226,23 @@ fn push_generated(
     sensitive: bool,
     kept: &mut Option<LiveSections>,
     text: &mut Bytes,
-) -> Result<(), Memory>
+) -> Result<bool, Memory>
     requires { IfSome kept.old (AreLive compiled.now sensitive []) }
-    ensures text { OnOk result
-        (text.new ≡ text.old ++ generated (lexicon_of compiled.now sensitive) marks
-        sensitive word.now) }
+    ensures text { result ≡ Ok true → text.new ≡ text.old
+        ++ generated (lexicon_of compiled.now sensitive) marks sensitive word.now }
+    ensures long { result ≡ Ok false → UNIT_MAX
+        < length (generated (lexicon_of compiled.now sensitive) marks sensitive word.now) }
     ensures kept { IfSome kept.new (AreLive compiled.now sensitive []) }
 {
     if is_marked(word.symbols()) {
-        if is_star(word.symbols()) {
-            return push_starred(alloc, marks, word, text);
-        }
-        return push_unmatched(alloc, marks, word, text);
+        push_marked(alloc, marks, word, text)?;
+        return Ok(true);
     }
-    let words = forms_kept(alloc, compiled, word, sensitive, kept)?;
-    push_formed(alloc, marks, word, words.as_slice(), text)
+    let Some(words) = forms_kept(alloc, compiled, word, sensitive, kept)? else {
+        return Ok(false);
+    };
+    push_formed(alloc, marks, word, words.as_slice(), text)?;
+    Ok(true)
 }
 
 impl GenerationWriter {
@@ -240,7 +266,7 @@ impl WordWriter for GenerationWriter {
     ghost given = { λ w word. generated (lexicon_of w.compiled w.sensitive) w.marks
         w.sensitive word };
 
-    fn write(&mut self, word: &Word, into: &mut Bytes) -> Result<(), Memory> {
+    fn write(&mut self, word: &Word, into: &mut Bytes) -> Result<bool, Memory> {
         push_generated(
             self.alloc,
             &self.compiled,

@@ -8,7 +8,7 @@ ghost use Rattle.ap_lookup.specs.PostWorks.{meant};
 
 use crate::post_search::Found;
 use ap_fst::Compiled;
-use ap_live::{LiveSections, any_readings};
+use ap_live::{LiveSections, least_readings};
 use ap_stream::{Item, LimitKind, Queue, Read, UNIT_MAX, push_superblanks};
 use ap_symbol::{Bytes, Memory, Symbol, Word};
 use std::alloc::Global;
@@ -180,7 +180,7 @@ fn write_match(
         ≡ word_step (length reads.now)
         (chosen (lexicon_of compiled.now sensitive) sensitive seen.now) (blanks reads.now)) }
 {
-    let words = any_readings(alloc, compiled, sensitive, lives, seen)?;
+    let words = least_readings(alloc, compiled, sensitive, lives, seen)?;
     write_least(alloc, words.as_slice(), reads, text)
 }
 

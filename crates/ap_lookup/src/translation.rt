@@ -1,16 +1,17 @@
-ghost use Rattle.std.specs.Prelude.{◌≡◌, ℕ, ◌<◌, ◌≤◌, Bool, true, false, Ok, List, [], ◌∷◌, ◌++◌, length, take, IfOk, OnOk, OnErr};
+ghost use Rattle.std.specs.Prelude.{◌≡◌, ℕ, ◌<◌, ◌≤◌, Bool, true, false, None, Ok, List, [], ◌∷◌, ◌++◌, length, take, IfOk, IfSome, OnOk, OnErr};
 ghost use Rattle.ap_symbol.specs.Alphabet.{has_letter};
 ghost use Rattle.ap_symbol.specs.declared.symbol.Symbol.{Symbol};
 ghost use Rattle.ap_live.specs.Greatest.{greatest};
 ghost use Rattle.ap_live.specs.Lexicon.{lexicon_of, IsLexiconOf};
+ghost use Rattle.ap_live.specs.Readings.{parted_size};
 ghost use Rattle.ap_live.specs.Relations.{relation_of};
 ghost use Rattle.ap_live.specs.SectionLives.{AreLive};
 ghost use Rattle.ap_lookup.specs.Matching.{is_match};
-ghost use Rattle.ap_lookup.specs.Translation.{lemma_length, untaken, translation};
+ghost use Rattle.ap_lookup.specs.Translation.{lemma_length, untaken, translation, translated_at};
 ghost use Rattle.ap_lookup.specs.Translating.{translated};
 
 use ap_fst::Compiled;
-use ap_live::{LiveSections, any_readings, compiled_has_a_lexicon};
+use ap_live::{LiveSections, any_readings, any_readings_within, compiled_has_a_lexicon};
 use ap_symbol::{Memory, Symbol, Word, Words, is_marked, is_tag};
 use std::alloc::Global;
 
@@ -134,6 +135,35 @@ fn untranslated(alloc: Global, word: &Word) -> Result<Translation, Memory>
     })
 }
 
+/// Goes on to the end of the prefix of a word that is taken, from before its first symbol, and
+/// answers how many symbols that has: 0 where none is taken.
+fn step_to_prefix(
+    compiled: &Compiled,
+    word: &Word,
+    sensitive: bool,
+    lemma: usize,
+    lives: &mut LiveSections,
+) -> Result<usize, Memory>
+    requires lives { AreLive compiled.now sensitive [] lives.old }
+    requires lemma { lemma ≡ lemma_length word.now }
+    ensures value { IfOk result (λ n. translated_at (lexicon_of compiled.now sensitive) sensitive
+        word.now n ≡ translation (lexicon_of compiled.now sensitive) sensitive word.now) }
+    ensures within { IfOk result (λ n. n ≤ length word.now) }
+    ensures lives { IfOk result (λ n. 0 < n →
+        AreLive compiled.now sensitive (take n word.now) lives.new) }
+    ensures kept { OnOk result
+        ((seen : List Symbol) × AreLive compiled.now sensitive seen lives.new) }
+{
+    let _ = compiled.alphabet();
+    let symbols = word.symbols();
+    if is_marked(symbols) {
+        return Ok(0);
+    }
+    let viable = step_all(compiled, sensitive, symbols, lives)?;
+    let taken = step_down(compiled, sensitive, symbols, lemma, viable, lives);
+    Ok(taken)
+}
+
 /// The translation of a word, with live sets that stand before its first symbol.
 pub(crate) fn translate_from(
     alloc: Global,
@@ -148,15 +178,9 @@ pub(crate) fn translate_from(
     ensures kept { OnOk result
         ((seen : List Symbol) × AreLive compiled.now sensitive seen lives.new) }
 {
-    let _ = compiled.alphabet();
     let symbols = word.symbols();
-    if is_marked(symbols) {
-        let marked = untranslated(alloc, word)?;
-        return Ok(marked);
-    }
     let lemma = lemma_len(symbols);
-    let viable = step_all(compiled, sensitive, symbols, lives)?;
-    let taken = step_down(compiled, sensitive, symbols, lemma, viable, lives);
+    let taken = step_to_prefix(compiled, word, sensitive, lemma, lives)?;
     if taken == 0 {
         let whole = untranslated(alloc, word)?;
         return Ok(whole);
@@ -164,6 +188,39 @@ pub(crate) fn translate_from(
     let heads = any_readings(alloc, compiled, sensitive, lives, &symbols[..lemma])?;
     let rest = word.part(alloc, taken, word.len())?;
     Ok(Translation { heads, rest })
+}
+
+/// The translation of a word, or none where some of its heads show that all of them have more bytes
+/// than so many, with one more byte for each. The live sets stand before the first symbol.
+pub(crate) fn translate_within(
+    alloc: Global,
+    compiled: &Compiled,
+    word: &Word,
+    sensitive: bool,
+    size: usize,
+    lives: &mut LiveSections,
+) -> Result<Option<Translation>, Memory>
+    requires { AreLive compiled.now sensitive [] lives.old }
+    ensures value { IfOk result (λ found. IfSome found (λ made. translated made
+        ≡ translation (lexicon_of compiled.now sensitive) sensitive word.now)) }
+    ensures long { result ≡ Ok None → size < parted_size
+        (translation (lexicon_of compiled.now sensitive) sensitive word.now).heads }
+    ensures kept { OnOk result
+        ((seen : List Symbol) × AreLive compiled.now sensitive seen lives.new) }
+{
+    let symbols = word.symbols();
+    let lemma = lemma_len(symbols);
+    let taken = step_to_prefix(compiled, word, sensitive, lemma, lives)?;
+    if taken == 0 {
+        let whole = untranslated(alloc, word)?;
+        return Ok(Some(whole));
+    }
+    let seen = &symbols[..lemma];
+    let Some(heads) = any_readings_within(alloc, compiled, sensitive, lives, seen, size)? else {
+        return Ok(None);
+    };
+    let rest = word.part(alloc, taken, word.len())?;
+    Ok(Some(Translation { heads, rest }))
 }
 
 /// The translation of a word by a compiled bilingual dictionary. Of the prefixes of the word that

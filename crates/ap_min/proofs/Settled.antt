@@ -1,14 +1,14 @@
 -- States from which no cycle is reached, grouped from the ends inwards.
-use Rattle.std.proofs.Common.{◌≡◌, ℕ, ◌+◌, ◌<◌, ◌≤◌, zero, suc, List, [], ◌∷◌, Some, length, get_or, set, take, refl, sym, ap, subst, ◌∙◌, arith, inl, inr, slice_get, All, option_map, cond, replicate}
+use Rattle.std.proofs.Common.{◌≡◌, ℕ, ◌+◌, ◌<◌, ◌≤◌, zero, suc, List, [], ◌∷◌, Some, length, get_or, set, take, refl, sym, ap, subst, ◌∙◌, arith, inl, inr, slice_get, All, option_map, cond}
 use Rattle.std.proofs.lemmas.Bool.{cases_eq}
 use Rattle.std.proofs.lemmas.Option.{none-some, same_Some, slice_get_within, slice_get-get_or}
-use Rattle.std.proofs.lemmas.List.{take_all, length_push, length-set, get_or-set_same, get_or-set_other, length-replicate}
+use Rattle.std.proofs.lemmas.List.{take_all, length_push, length-set, get_or-set_same, get_or-set_other}
 use Rattle.std.proofs.lemmas.List.Elements.{All-head, All-tail, All-weaker, All-nil, All-cons, All-more}
 use Rattle.ap_fst.proofs.Listing.{in_from_place}
 use Rattle.ap_min.specs.declared.rows.Arc.{Arc}
 use Rattle.ap_min.specs.declared.rows.Row.{Row}
 use Rattle.ap_min.specs.Numbering.{AreApart, Numbers}
-use Rattle.ap_min.specs.Automaton.{Automaton, seen, IsClosed, HaveOneRow, IsCoarse}
+use Rattle.ap_min.specs.Automaton.{seen, IsClosed, HaveOneRow, IsCoarse}
 use Rattle.ap_min.specs.Rows.{step_in, arcs_at, final_at, key_at, flat, automaton_of, AreRows}
 use Rattle.ap_min.specs.Settled.{IsOpen, LeadHome, LeadBelow, AreSettled, IsFull}
 use Rattle.ap_min.proofs.Alike.{option_cases, seen-some, seen-none}
@@ -108,42 +108,6 @@ zero_at groups s r h le =
     sym (subst (λ v. v ≡ get_or groups s v) z h)
 
 -- ---- none at first
-
-pub zeros : (n s : ℕ) → ◌≡◌ {A = ℕ} (get_or (replicate n 0) s 0) 0
-zeros zero s = refl
-zeros (suc n) zero = refl
-zeros (suc n) (suc s) = zeros n s
-
-first_key : (keys : List (List ℕ)) (i : ℕ) → Numbers [] keys [] i → keys ≡ [] ∷ []
-first_key keys i n = elim n.grew [
-  | inl e ↦ absurd (none-some [] (subst (λ ks. slice_get ks i ≡ Some []) e n.at))
-  | inr e ↦ e.1
-]
-
-pub settled_none : (rows : List Row) (keys : List (List ℕ)) (i : ℕ) (groups : List ℕ) →
-    Numbers [] keys [] i → AreApart keys → groups ≡ replicate (length rows) 0 →
-    AreSettled rows keys groups
-settled_none rows keys i groups n apart is =
-    let none : (s : ℕ) → get_or groups s 0 ≡ 0 =
-    λ s. ap (λ gs. get_or gs s 0) is ∙ zeros (length rows) s in
-    let one : keys ≡ [] ∷ [] = first_key keys i n in
-    record {
-      long = ap length is ∙ length-replicate (length rows) 0;
-      apart = apart;
-      rest = ap (λ ks. slice_get ks 0) one;
-      held = λ s in-s pos. let z : get_or groups s 0 ≡ 0 = none s in absurd (omega arith);
-      falls = λ s in-s pos. let z : get_or groups s 0 ≡ 0 = none s in absurd (omega arith);
-      owned = λ g pos low. let few : length keys ≡ 1 = ap length one in absurd (omega arith);
-    }
-
-pub coarse_zeros : (a : Automaton ℕ) (groups : List ℕ) (n : ℕ) → groups ≡ replicate n 0 →
-    IsCoarse a groups
-coarse_zeros a groups n is =
-    let none : (s : ℕ) → get_or groups s 0 ≡ 0 = λ s. ap (λ gs. get_or gs s 0) is ∙ zeros n s in
-    record {
-      settled = λ s t in-s in-t row. none s ∙ sym (none t);
-      kept = λ s t in-s in-t h. none s ∙ sym (none t);
-    }
 
 -- ---- one state more
 

@@ -1,14 +1,14 @@
 -- A word that is split, part by part.
-use Rattle.std.proofs.Common.{◌≡◌, ℕ, ◌+◌, ◌-◌, ◌<◌, ◌≤◌, Bool, true, false, cond, List, [], ◌∷◌, ◌++◌, length, get_or, take, drop, sym, ap, ◌∙◌, refl, arith, length-drop}
+use Rattle.std.proofs.Common.{◌≡◌, ℕ, ◌+◌, ◌-◌, ◌<◌, ◌≤◌, Bool, true, false, cond, List, [], ◌∷◌, ◌++◌, length, get_or, take, drop, sym, ap, ◌∙◌, refl, arith}
 use Rattle.std.specs.List.{filter}
 use Rattle.std.proofs.lemmas.Bool.{cond-true, cond-false}
-use Rattle.std.proofs.lemmas.List.{append-nil, append_assoc, at_drop_more, drop_all, length-take, take_rest}
+use Rattle.std.proofs.lemmas.List.{append-nil, append_assoc, at_drop_more, drop_all}
 use Rattle.std.proofs.lemmas.List.Elements.{filter-append}
 use Rattle.ap_symbol.specs.Kinds.{is_join}
 use Rattle.ap_symbol.specs.declared.symbol.Symbol.{Symbol}
 use Rattle.ap_symbol.proofs.Parts.{part_more}
-use Rattle.ap_passes.specs.Passes.{spaced, spaced_one, one}
-use Rattle.ap_passes.specs.Splitting.{between, in_front, between_joins, parts, parts_from, is_filled, tag_place}
+use Rattle.ap_passes.specs.Passes.{spaced}
+use Rattle.ap_passes.specs.Splitting.{between, in_front, between_joins, parts, parts_from, is_filled}
 use Rattle.ap_passes.specs.Writing.{following}
 
 pub between_more : (word : List Symbol) (from at : ℕ) (x : Symbol) → from ≤ at → at < length word →
@@ -18,12 +18,6 @@ between_more word from at x above more is =
 
 pub between_none : (n : ℕ) (word : List Symbol) → between n n word ≡ []
 between_none n word = ap (λ k. take k (drop n word)) (let e : n - n ≡ 0 = omega arith in e)
-
-pub between_start : (n : ℕ) (word : List Symbol) → between 0 n word ≡ take n word
-between_start n word = ap (λ k. take k word) (let e : n - 0 ≡ n = omega arith in e)
-
-pub between_end : (n : ℕ) (word : List Symbol) → between n (length word) word ≡ drop n word
-between_end n word = take_rest word n
 
 in_front_twice : (a b : List Symbol) (words : List (List Symbol)) → in_front a (in_front b words)
     ≡ in_front (a ++ b) words
@@ -82,10 +76,6 @@ parts_last word from =
     (drop_all (length word) word (omega arith))
     ∙ ap (λ z. z ∷ []) (append-nil (between from (length word) word))
 
-pub parts_start : (word : List Symbol) → parts_from 0 (tag_place word) word ≡ parts word
-parts_start word = ap (λ z. in_front z (between_joins (drop (tag_place word) word)))
-    (between_start (tag_place word) word)
-
 -- which of them are filled
 pub filled_at : (word : List Symbol) (from at : ℕ) (x : Symbol) → at < length word →
     x ≡ get_or word at x → is_join x ≡ true →
@@ -94,29 +84,9 @@ pub filled_at : (word : List Symbol) (from at : ℕ) (x : Symbol) → at < lengt
 filled_at word from at x h is t = ap (filter is_filled) (parts_at word from at x h is t)
     ∙ filter-append is_filled (between from at word ∷ []) (parts_from (at + 1) (at + 1) word)
 
-pub empty_part : (word : List Symbol) (from to : ℕ) → from ≡ to →
-    filter is_filled (between from to word ∷ []) ≡ []
-empty_part word from to e =
-    ap (λ z. filter is_filled (z ∷ [])) (ap (λ n. between n to word) e ∙ between_none to word)
-
 pub filled_by : (part : List Symbol) → 0 < length part → is_filled part ≡ true
 filled_by [] h = absurd (omega (arith, h))
 filled_by (x ∷ part) h = refl
-
-pub full_part : (word : List Symbol) (from to : ℕ) → from < to → to ≤ length word →
-    filter is_filled (between from to word ∷ []) ≡ between from to word ∷ []
-full_part word from to h k =
-    let size = length-take (to - from) (drop from word) in
-    let left = length-drop from word in
-    cond-true (is_filled (between from to word)) (between from to word ∷ []) []
-    (filled_by (between from to word) (omega (arith, size, left, h, k)))
-
--- words behind those that stand already
-pub one_behind : (behind : Bool) (word : List Symbol) (words : List (List Symbol)) →
-    following behind (word ∷ words) ≡ following behind (word ∷ []) ++ following true words
-one_behind true word words =
-    ap (λ z. z ++ following true words) (sym (append-nil (spaced_one word)))
-one_behind false word words = ap (λ z. z ++ following true words) (sym (append-nil (one word)))
 
 following_none : (behind : Bool) → following behind [] ≡ []
 following_none true = refl

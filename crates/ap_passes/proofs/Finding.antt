@@ -1,28 +1,9 @@
 -- The first symbol that passes a test.
-use Rattle.std.proofs.Common.{◌≡◌, ℕ, zero, suc, ◌+◌, ◌<◌, ◌≤◌, Bool, true, false, cond, ◌||◌, List, [], ◌∷◌, length, get_or, take, drop, sym, ap, ◌∙◌, refl, arith}
+use Rattle.std.proofs.Common.{◌≡◌, ℕ, zero, suc, ◌<◌, ◌≤◌, Bool, true, false, cond, ◌||◌, List, [], ◌∷◌, length, get_or, take, drop, sym, ap, refl, arith}
 use Rattle.std.specs.List.{list_any}
 use Rattle.std.proofs.lemmas.Bool.{or_parts, or_from, false≢true}
-use Rattle.std.proofs.lemmas.List.{at_drop_more, at_drop_all}
 use Rattle.ap_symbol.specs.declared.symbol.Symbol.{Symbol}
 use Rattle.ap_passes.specs.Marks.{until, stops_at}
-
--- the symbol at a place doesn't pass, or it does, or there is none
-pub until_on : (test : Symbol → Bool) (word : List Symbol) (at : ℕ) (x : Symbol) →
-    at < length word → x ≡ get_or word at x → test x ≡ false → until test (drop at word)
-    ≡ suc (until test (drop (at + 1) word))
-until_on test word at x h is f = at_drop_more (until test) word at x h
-    ∙ ap (λ y. cond (test y) 0 (suc (until test (drop (at + 1) word)))) (sym is)
-    ∙ ap (λ b. cond b 0 (suc (until test (drop (at + 1) word)))) f
-
-pub until_here : (test : Symbol → Bool) (word : List Symbol) (at : ℕ) (x : Symbol) →
-    at < length word → x ≡ get_or word at x → test x ≡ true → until test (drop at word) ≡ 0
-until_here test word at x h is f = at_drop_more (until test) word at x h
-    ∙ ap (λ y. cond (test y) 0 (suc (until test (drop (at + 1) word)))) (sym is)
-    ∙ ap (λ b. cond b 0 (suc (until test (drop (at + 1) word)))) f
-
-pub until_end : (test : Symbol → Bool) (word : List Symbol) (at : ℕ) → length word ≤ at →
-    until test (drop at word) ≡ 0
-until_end test word at h = at_drop_all (until test) word at h
 
 until_le_at : (b : Bool) (n m : ℕ) → n ≤ m → cond b 0 (suc n) ≤ suc m
 until_le_at true n m h = omega arith

@@ -26,16 +26,16 @@ struct FirstWriter {
 impl UnitWriter for FirstWriter {
     ghost given = { λ _ words. first_reading words };
 
-    fn write(&mut self, unit: &Unit, into: &mut Bytes) -> Result<(), Memory> {
+    fn write(&mut self, unit: &Unit, into: &mut Bytes) -> Result<bool, Memory> {
         match unit.bytes_at(1) {
-            Some(bytes) => write_filled(bytes, into),
+            Some(bytes) => write_filled(bytes, into)?,
             None => {
                 if unit.word_at(&mut self.names, 1, &mut self.reading)? {
-                    return write_filled(self.reading.rendered(), into);
+                    write_filled(self.reading.rendered(), into)?;
                 }
-                Ok(())
             }
         }
+        Ok(true)
     }
 }
 

@@ -32,13 +32,13 @@ struct PretransferWriter {
 impl UnitWriter for PretransferWriter {
     ghost given = { λ _ words. split_unit words };
 
-    fn write(&mut self, unit: &Unit, into: &mut Bytes) -> Result<(), Memory> {
+    fn write(&mut self, unit: &Unit, into: &mut Bytes) -> Result<bool, Memory> {
         let copied = match unit.bytes_at(0) {
             Some(bytes) => write_whole(bytes, into)?,
             None => false,
         };
         if copied {
-            return Ok(());
+            return Ok(true);
         }
         unit.first(&mut self.names, &mut self.word)?;
         write_split(
@@ -47,7 +47,8 @@ impl UnitWriter for PretransferWriter {
             &mut self.whole,
             &mut self.part,
             into,
-        )
+        )?;
+        Ok(true)
     }
 }
 

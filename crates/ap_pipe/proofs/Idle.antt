@@ -8,7 +8,7 @@ use Rattle.ap_pipe.specs.declared.station.State.{State}
 use Rattle.ap_pipe.specs.declared.station.State.TheVariants.{Open, Over, Faulty}
 use Rattle.ap_pipe.specs.declared.station.Station.{Station}
 use Rattle.ap_pipe.specs.Row.{is_stopped, joined, row_rest, meaning}
-use Rattle.ap_pipe.specs.Ranking.{LowerIf, numbers}
+use Rattle.ap_pipe.specs.Ranking.{numbers}
 use Rattle.ap_pipe.specs.Bytes.{bytes_in}
 use Rattle.ap_pipe.specs.Idle.{idle, all_idle, held_in, CanGoOn, Waits, AllWait, Answered}
 
@@ -110,11 +110,10 @@ module _ {S : Type 0} (stage : Ghosts S) where
       by false e = absurd (omega (arith, still e, more))
 
   -- a give that gave nothing left the stage and its pipes as they were
-  pub idle_same : (s s' : Station S) (went : Bool) → went ≡ false →
-      LowerIf went (numbers stage s') (numbers stage s) → s'.state ≡ s.state → s'.input ≡ s.input →
+  pub idle_same : (s s' : Station S) →
+      numbers stage s' ≡ numbers stage s → s'.state ≡ s.state → s'.input ≡ s.input →
       idle stage s' ≡ idle stage s
-  idle_same s s' true none o st i = cc
-  idle_same s s' false none o st i =
+  idle_same s s' o st i =
       let p : length (stage.pending s'.stage) ≡ length (stage.pending s.stage) =
       ap (λ ns. get_or ns 3 0) o in
       let q : length s'.output.bytes ≡ length s.output.bytes = ap (λ ns. get_or ns 4 0) o in

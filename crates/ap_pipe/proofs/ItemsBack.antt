@@ -10,7 +10,7 @@ use Rattle.ap_stream.proofs.AtEndLaws.{begun_blank}
 use Rattle.ap_stream.specs.Blanks.{is_white}
 use Rattle.ap_stream.proofs.GivenLaws.{gives_whole}
 use Rattle.ap_stream.specs.Laws.{AreWords, IsBlank}
-use Rattle.ap_stream.specs.Limited.{Surely}
+use Rattle.ap_stream.specs.Stands.{Surely}
 use Rattle.ap_stream.proofs.LimitedLaws.{limited_within, limited_decided, limited_past}
 use Rattle.ap_stream.specs.Limits.{unit_max, item_max}
 use Rattle.ap_stream.proofs.LimitLaws.{item_max_is}

@@ -163,15 +163,6 @@ record Kept (before after : Defined) : Type 0 where
   vars : after.vars ≡ before.vars
   lists : after.lists ≡ before.lists
 
-kept_on : (a b c : Defined) → Kept a b → Kept b c → Kept a c
-kept_on a b c h k = record {
-  cats = k.cats ∙ h.cats;
-  attrs = k.attrs ∙ h.attrs;
-  vars =
-      k.vars ∙ h.vars;
-  lists = k.lists ∙ h.lists;
-}
-
 -- the names with a further macro
 abbrev further : Defined → Tag → Defined
 further names tag = record names {

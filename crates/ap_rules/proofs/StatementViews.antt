@@ -37,5 +37,3 @@ plain-Choose (Choose' wshape wrow sshape srow) =
     (row_statements-items _ srow
     ∙ ap (λ ss. statements_of (plain_statements ss))
     (sym (items_shown-the_row-Statement-0 sshape srow)))
-
-pub ruleset views = (plain-Choose)

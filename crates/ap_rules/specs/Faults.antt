@@ -34,10 +34,6 @@ abbrev pub is_interchunk : Form → Bool
 is_interchunk Interchunk = true
 is_interchunk _ = false
 
-abbrev pub is_postchunk : Form → Bool
-is_postchunk Postchunk = true
-is_postchunk _ = false
-
 abbrev pub has_attribute : List ℕ → List Pair → Bool
 has_attribute name given = is_some (value_of name given)
 

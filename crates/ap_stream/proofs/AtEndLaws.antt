@@ -10,15 +10,20 @@ use Rattle.ap_stream.specs.declared.dialect.Dialect.{Dialect}
 use Rattle.ap_stream.specs.Chars.{Part, char_at}
 use Rattle.ap_stream.specs.Blanks.{Run, Open, Inside, blank, further}
 use Rattle.ap_stream.proofs.BlankLaws.{inside_part}
-use Rattle.ap_stream.specs.Reading.{Bad, Broken, first, last, of_run, last_run}
-use Rattle.ap_stream.specs.Stands.{Stands, InBlank, Within, blank_first, escape_first, unit_first, tag_first}
+use Rattle.ap_stream.specs.Reading.{Needs, Bad, Complete, Broken, first, last, of_run, last_run}
+use Rattle.ap_stream.specs.Stands.{Stands, InBlank, Within, blank_first, escape_first, unit_first, tag_first, InUnit, InEscape, InTag, at_blank}
 use Rattle.ap_stream.specs.declared.examine.Spot.{Spot}
 use Rattle.ap_stream.specs.Dialects.{has_units}
-use Rattle.ap_stream.specs.InUnits.{InUnit, InEscape, InTag}
 use Rattle.ap_stream.proofs.InUnitLaws.{unit_needs, surface_is}
 use Rattle.ap_stream.specs.Units.{form_of, rest, Lacks, sign, Awaits, name, behind_name, Runs, in_surface}
 use Rattle.ap_stream.proofs.UnitLaws.{name_part, rest_awaits}
-use Rattle.ap_stream.specs.AtEnd.{at_blank, Begins}
+use Rattle.ap_stream.specs.Items.{Item}
+
+-- what is begun
+pub record Begins (dialect : Dialect) (held : List ℕ) (whole : Bool) : Type 0 where
+  pub needs : first dialect held ≡ Needs
+  pub whole_is : whole ≡ true → last held ≡ Complete (Item.Blank held)
+  pub broken_is : whole ≡ false → last held ≡ Broken (Bad Unfinished)
 
 not_escape : (p : List ℕ) → char_at p ≡ Part → escape_first p ≡ false
 unfolding char_at
@@ -169,14 +174,6 @@ begun dialect (mode.Word at) done part h some =
     (sign_part (in_surface (form_of dialect) h.0.words) part h.1))
 begun dialect (mode.WordEscape at) done part h some = begun_escape_in dialect at done part h.0 h.1
 begun dialect (mode.Tag at named) done part h some = begun_tag dialect at named done part h.0 h.1
-
-pub begun_at : (dialect : Dialect) (held : List ℕ) (done : ℕ) (at : Mode) →
-    Stands dialect at (take done held) (drop done held) → 0 < length held →
-    Begins dialect held (at_blank at)
-begun_at dialect held done at h some =
-    let more : 0 < length (take done held ++ drop done held) =
-    rw (take-append-drop done held) some in
-    rw (take-append-drop done held) at (begun dialect at (take done held) (drop done held) h more)
 
 pub in_blank : (dialect : Dialect) (held : List ℕ) (done : ℕ) (at : Mode) →
     Stands dialect at (take done held) (drop done held) → at_blank at ≡ true → InBlank held

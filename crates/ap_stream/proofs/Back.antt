@@ -17,8 +17,8 @@ use Rattle.ap_symbol.specs.TextWord.{escaped_symbol}
 use Rattle.ap_stream.specs.declared.dialect.Dialect.{Dialect}
 use Rattle.ap_stream.specs.declared.item.Item.TheVariants as item
 use Rattle.ap_stream.specs.Chars.{Char, char_at, is_tail, is_second}
-use Rattle.ap_stream.specs.Units.{Form, form_of, Stops, behind_name, name, Reads, sign, of_bare, first_is, in_surface, is_none, may_part, Rest, Ends, rest, longer}
-use Rattle.ap_stream.proofs.UnitLaws.{name_char, sign_bare, sign_escape, sign_tag, longer_longer, longer_zero, rest_symbol, rest_slash, rest_dollar}
+use Rattle.ap_stream.specs.Units.{Form, form_of, Stops, behind_name, name, Reads, sign, of_bare, in_surface, is_none, may_part, Rest, Ends, rest, longer}
+use Rattle.ap_stream.proofs.UnitLaws.{first_is, name_char, sign_bare, sign_escape, sign_tag, longer_longer, longer_zero, rest_symbol, rest_slash, rest_dollar}
 use Rattle.ap_stream.proofs.InUnitLaws.{first_words, words_brace}
 use Rattle.ap_stream.specs.Reading.{Whole, first, of_unit}
 use Rattle.ap_stream.specs.Spelling.{unit_bytes, joined, slashed}

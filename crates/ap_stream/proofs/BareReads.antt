@@ -1,5 +1,5 @@
 -- Bare runs are read as their items, and so is each end of one.
-use Rattle.std.specs.Prelude.{◌≡◌, ℕ, suc, ◌+◌, ◌≤◌, ◌<◌, List, [], ◌∷◌, ◌++◌, drop, length, Bool, true, false, ◌&&◌, ◌||◌, eqb, nat_lt, refl, encode_utf8, if◌then◌else◌}
+use Rattle.std.specs.Prelude.{◌≡◌, ℕ, suc, ◌+◌, ◌≤◌, ◌<◌, List, [], ◌∷◌, ◌++◌, drop, length, Bool, true, false, ◌&&◌, ◌||◌, eqb, nat_lt, refl, encode_utf8}
 use Rattle.std.proofs.Common.{zero, inl, arith, ap, sym, subst, ◌∙◌, ◌-◌, length-drop}
 use Rattle.std.proofs.lemmas.Bool.{ltb-true}
 use Rattle.std.proofs.lemmas.Str.{encode_ascii}
@@ -11,8 +11,7 @@ use Rattle.ap_stream.specs.declared.item.Read.{Read}
 use Rattle.ap_stream.specs.Bare.{plain_byte, plain_first, bare_run, bare_item, bare_items}
 use Rattle.ap_stream.specs.Blanks.{is_white}
 use Rattle.ap_stream.specs.Copying.{is_common, preceded}
-use Rattle.ap_stream.specs.Spelling.{spelled}
-use Rattle.ap_stream.specs.Reading.{plain, Reads, reads, read_at, counted}
+use Rattle.ap_stream.specs.Reading.{plain, reads, read_at, counted}
 use Rattle.ap_stream.proofs.Copied.{none, common_free, common_reads, white_reads, counted_twice, counted_is}
 
 both : (a b : Bool) → (a && b) ≡ true → (a ≡ true) × (b ≡ true)
@@ -133,21 +132,3 @@ rest_reads dialect bytes n h fits place counts x =
 pub items_size : (place : ℕ) (bytes : List ℕ) → length (bare_items place bytes) ≡ length bytes
 items_size place [] = refl
 items_size place (b ∷ bytes) = ap suc (items_size (counted (place + 1)) bytes)
-
--- a byte of a run is spelled as it stands
-pub bare_spelled : (b : ℕ) (bytes : List ℕ) → bare_run (b ∷ bytes) ≡ true →
-    spelled (bare_item b) ≡ b ∷ []
-bare_spelled b bytes h =
-    let k = both (plain_byte b || (is_white b && plain_first bytes)) (bare_run bytes) h in
-    by_kind (plain_byte b) refl k.0
-  where
-    by_kind : (t : Bool) → plain_byte b ≡ t → (t || (is_white b && plain_first bytes)) ≡ true →
-        spelled (bare_item b) ≡ b ∷ []
-    by_kind true e k =
-        let p = both (nat_lt b 128) (is_common b) e in
-        let low : b < 128 = ltb-true b 128 p.0 in
-        let dark = (none (is_white b) (eqb b 91) (common_free b p.1 Raw).blank).0 in
-        ap spelled (bare_plain b false dark refl) ∙ encode_ascii b low
-    by_kind false e k =
-        let white = (both (is_white b) (plain_first bytes) (other false _ refl k)).0 in
-        ap spelled (bare_white b true white refl)

@@ -1,7 +1,6 @@
 -- What the code makes of one more byte.
-use Rattle.std.specs.Prelude.{◌≡◌, ℕ, ◌+◌, ◌<◌, List, [], ◌∷◌, ◌++◌, length, true, false, eqb, ◌||◌, refl}
+use Rattle.std.specs.Prelude.{◌≡◌, ℕ, ◌<◌, List, [], ◌∷◌, ◌++◌, length, true, false, eqb, ◌||◌, refl}
 use Rattle.std.proofs.Common.{arith, ap, sym, subst, ◌∙◌, length-append}
-use Rattle.ap_stream.specs.declared.examine.Mode.{Mode}
 use Rattle.ap_stream.specs.declared.dialect.Dialect.{Dialect}
 use Rattle.ap_stream.specs.declared.item.Item.TheVariants as item
 use Rattle.ap_stream.specs.Chars.{Part, Char, char_at}
@@ -12,7 +11,6 @@ use Rattle.ap_stream.proofs.StandLaws.{begin_white, begin_bracket, blank_on, bra
 use Rattle.ap_stream.specs.Blanks.{is_white}
 use Rattle.std.proofs.Common.{get_or}
 use Rattle.std.proofs.lemmas.Bool.{eqb-true}
-use Rattle.ap_stream.specs.Step.{Stood}
 
 -- a character that wasn't whole before its last byte
 pub whole_char : (old part : List ℕ) (b c n : ℕ) → part ≡ old ++ b ∷ [] → char_at old ≡ Part →
@@ -24,19 +22,6 @@ whole_char old part b c n p h e =
 
 pub some_part : (old part : List ℕ) (b : ℕ) → part ≡ old ++ b ∷ [] → 0 < length part
 some_part old part b p = rw (p, length-append) (omega arith)
-
--- one byte alone
-pub one_part : (old part : List ℕ) (b : ℕ) → part ≡ old ++ b ∷ [] → length part ≡ 1 →
-    (old ≡ []) × (part ≡ b ∷ [])
-one_part [] part b p l = (refl, p)
-one_part (a ∷ old) part b p l =
-    absurd (let e : length part ≡ length (a ∷ old) + 1 =
-    ap length p ∙ length-append (a ∷ old) (b ∷ []) in omega (arith, e, l))
-
-pub more_part : (old part : List ℕ) (b : ℕ) → part ≡ old ++ b ∷ [] → 1 < length part →
-    blank_first old ≡ false → blank_first part ≡ false
-more_part [] part b p l h = absurd (let e : length part ≡ 1 = ap length p in omega (arith, e, l))
-more_part (a ∷ old) part b p l h = ap blank_first p ∙ h
 
 eqb_is : (b : ℕ) → eqb b 91 ≡ true → b ≡ 91
 eqb_is b h = eqb-true b 91 h
@@ -99,7 +84,3 @@ nothing_part = refl
 pub some_blank : (held : List ℕ) → InBlank held → 0 < length held
 some_blank [] h = absurd (let e = h.begins in cc)
 some_blank (a ∷ held) h = omega arith
-
-pub some_stood : (dialect : Dialect) (at : Mode) (done part : List ℕ) → Stood dialect at done part →
-    0 < length part
-some_stood dialect at done part h = some_part h.old part h.byte h.part_is

@@ -1,7 +1,27 @@
 -- The character at the front of bytes that may go on.
-use Rattle.std.specs.Prelude.{◌≡◌, ℕ, ◌+◌, ◌-◌, ◌<◌, List, [], ◌∷◌, ◌++◌, length, Bool, true, false, cond, ltb, refl}
+use Rattle.std.specs.Prelude.{◌≡◌, ℕ, ◌+◌, ◌<◌, ◌≤◌, List, [], ◌∷◌, ◌++◌, length, Bool, true, false, cond, ltb, refl}
 use Rattle.std.proofs.Common.{arith, ◌∙◌, length-append}
-use Rattle.ap_stream.specs.Chars.{Front, is_tail, is_second, tail2, tail3, tail4, char_at, Stays, Fits, Ends, Part, NotChar, Char}
+use Rattle.ap_stream.specs.Chars.{Front, is_tail, is_second, tail2, tail3, tail4, char_at, Part, NotChar, Char}
+
+-- what is decided stays so, whatever follows
+abbrev pub Stays : Front → Front → Type 0
+Stays Part g = Unit {0}
+Stays NotChar g = g ≡ NotChar
+Stays (Char c n) g = g ≡ Char c n
+
+-- a character has no more bytes than are there, and at least one
+abbrev pub Fits : Front → ℕ → Type 0
+Fits Part n = Unit {0}
+Fits NotChar n = Unit {0}
+Fits (Char c size) n = (0 < size) × (size ≤ n)
+
+-- a character that wasn't whole before its last byte has all the bytes
+abbrev pub Ends : Front → Front → ℕ → Type 0
+Ends Part Part n = Unit {0}
+Ends Part NotChar n = Unit {0}
+Ends Part (Char c size) n = size ≡ n
+Ends NotChar g n = Unit {0}
+Ends (Char c size) g n = Unit {0}
 
 stays_cond : (b : Bool) (f g f' g' : Front) → Stays f f' → Stays g g' →
     Stays (cond b f g) (cond b f' g')
@@ -12,9 +32,6 @@ stays_refl : (f : Front) → Stays f f
 stays_refl Part = tt
 stays_refl NotChar = refl
 stays_refl (Char c n) = refl
-
-stays_part : (g : Front) → Stays Part g
-stays_part g = tt
 
 stays2 : (a : ℕ) (p x : List ℕ) → Stays (tail2 a p) (tail2 a (p ++ x))
 stays2 a [] x = tt

@@ -23,8 +23,7 @@ use Rattle.ap_stream.specs.UnitBytes.{UnitOf}
 use Rattle.ap_stream.specs.Chunks.{Held, portion, Body, Opens, Fails, Closes, behind_part, closed, body, wrong_byte}
 use Rattle.ap_stream.proofs.ChunkLaws.{body_skip, body_brace}
 use Rattle.ap_stream.proofs.InUnitLaws.{unit_always, first_caret}
-use Rattle.ap_stream.specs.InChunks.{part_first, portion_of}
-use Rattle.ap_stream.proofs.InChunkLaws.{part_agrees, part_on, part_some, body_held}
+use Rattle.ap_stream.proofs.InChunkLaws.{part_first, portion_of, part_agrees, part_on, part_some, body_held}
 use Rattle.ap_stream.specs.Laws.{AreSpelt, IsBlank, NoBlankFirst, AreParts}
 use Rattle.ap_stream.specs.Notation.{IsContentText, IsChunkText}
 use Rattle.ap_symbol.specs.Kinds.{first_word}

@@ -9,7 +9,7 @@ use Rattle.ap_stream.specs.declared.item.Chunk.{Chunk}
 use Rattle.ap_stream.specs.declared.item.Inner.{Inner}
 use Rattle.ap_stream.specs.declared.item.Inner.TheVariants as inner
 use Rattle.ap_stream.specs.declared.item.Item.TheVariants as item
-use Rattle.ap_stream.specs.ChunkBytes.{ChunkOf}
+use Rattle.ap_stream.specs.Stands.{ChunkOf, blank_first}
 use Rattle.ap_stream.specs.Chunks.{Closes, behind_part, body}
 use Rattle.ap_stream.proofs.ChunkLaws.{body_skip, body_brace}
 use Rattle.ap_stream.proofs.InUnitLaws.{first_caret}
@@ -17,7 +17,6 @@ use Rattle.ap_stream.specs.Laws.{AreSpelt, AreParts}
 use Rattle.ap_stream.specs.Notation.{IsContentText, IsChunkText, NoBlankFirst}
 use Rattle.ap_stream.specs.Reading.{Whole, first, of_chunk, of_body}
 use Rattle.ap_stream.specs.Spelling.{chunk_bytes}
-use Rattle.ap_stream.specs.Stands.{blank_first}
 use Rattle.ap_stream.specs.Units.{form_of, Ends, rest, longer}
 use Rattle.ap_stream.proofs.UnitLaws.{rest_brace}
 use Rattle.ap_stream.proofs.BlankTexts.{blanks_on, text_begins}

@@ -13,19 +13,18 @@ use Rattle.ap_stream.specs.declared.item.Inner.TheVariants as inner
 use Rattle.ap_stream.specs.declared.item.Item.TheVariants as item
 use Rattle.ap_stream.specs.Blanks.{Run, Open, Inside, BadChar, Done, blank, further, inside, begins_blank, is_white, Close, Within, Bad, Closed, closing, behind_close}
 use Rattle.ap_stream.proofs.BlankLaws.{further_further, blank_white, blank_bracket, blank_done, blank_skip, blank_some}
-use Rattle.ap_stream.specs.Chars.{Front, Part, NotChar, Char, char_at}
+use Rattle.ap_stream.specs.Chars.{Front, Part, NotChar, Char, char_at, CharSize}
 use Rattle.ap_stream.specs.Dialects.{is_refused}
 use Rattle.ap_stream.specs.Units.{form_of, Name, Runs, Breaks, Stops, name, Sign, Awaits, Bars, Reads, Slash, Dollar, Brace, sign, of_name, of_escape, of_bare, bare_of, is_barred, may_end, early, Rest, Lacks, Wrong, Ends, rest, longer}
 use Rattle.ap_stream.proofs.UnitLaws.{longer_longer, rest_dollar}
-use Rattle.ap_stream.specs.UnitBytes.{UnitOf}
+use Rattle.ap_stream.specs.UnitBytes.{UnitOf, Barren}
 use Rattle.ap_stream.specs.Chunks.{Barred, Braced, portion, blank_portion, unit_portion, Body, Opens, Fails, Closes, behind_part, behind_portion, closed, body, wrong_byte}
 use Rattle.ap_stream.proofs.ChunkLaws.{body_skip, body_nil, body_brace}
-use Rattle.ap_stream.specs.ChunkBytes.{ChunkOf, CharSize}
+use Rattle.ap_stream.specs.Stands.{ChunkOf}
 use Rattle.ap_symbol.specs.Kinds.{first_word}
 use Rattle.ap_stream.specs.Reading.{Whole, Faulty, Bad as OfKind, first, of_run, of_escaped, of_char, of_chunk, of_body, plain}
 use Rattle.ap_stream.proofs.SignLaws as laws
 use Rattle.ap_stream.proofs.SignLaws.{IsWhole}
-use Rattle.ap_stream.specs.Signs.{Barren}
 use Rattle.ap_stream.proofs.UnitWords.{words_are}
 use Rattle.ap_stream.proofs.Cut.{rest_cut, sign_cut_at, sign_ends, EndsIn}
 
@@ -350,11 +349,6 @@ behind_parts parts n Opens = Opens
 behind_parts parts n (Fails kind) = Fails kind
 behind_parts parts n (Closes more m) = Closes (parts ++ more) (n + m)
 
-pub behind_none : (b : Body) → b ≡ behind_parts [] 0 b
-behind_none Opens = refl
-behind_none (Fails kind) = refl
-behind_none (Closes more m) = ap (Closes more) (omega arith)
-
 parts_more : (parts : List Inner) (n k : ℕ) (part : Inner) (b : Body) →
     behind_parts parts n (behind_part part k b) ≡ behind_parts (parts ++ part ∷ []) (n + k) b
 parts_more parts n k part Opens = refl
@@ -515,12 +509,6 @@ module _ (bytes : List ℕ) (whole : (all : List Inner) × (n : ℕ) × (body 0 
   unit_there words n is r =
       subst (λ (q : List ℕ). UnitOf Lexical (take (1 + n) q) words)
       (sym (front_is ∙ ap (λ b. b ∷ drop 1 bytes) is)) (unit_of (drop 1 bytes) words n r).0
-
-  pub unit_fits : (words : List (List Symbol)) (n : ℕ) →
-      rest (form_of Lexical) [] [] 0 (drop 1 bytes) ≡ Ends words n → 1 + n ≤ length bytes
-  unit_fits words n r =
-      let l = length-drop 1 bytes in let f = (unit_of (drop 1 bytes) words n r).1 in
-      omega (arith, l, f, some)
 
   pub behind_unit : (words made : List (List Symbol)) (n : ℕ) → get_or bytes 0 0 ≡ 94 →
       rest (form_of Lexical) [] [] 0 (drop 1 bytes) ≡ Ends words n →

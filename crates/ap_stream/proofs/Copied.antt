@@ -18,9 +18,8 @@ use Rattle.ap_stream.specs.declared.item.Read.{Read}
 use Rattle.ap_stream.specs.Blanks.{is_white, begins_blank}
 use Rattle.ap_stream.specs.Chars.{Char, char_at}
 use Rattle.ap_stream.specs.Copying.{is_common, IsCommon, is_copied, AreCopied, spelling, preceded, IsRun, IsWhite, GivesUnit, Gives}
-use Rattle.ap_stream.specs.Crossing.{stops_word}
+use Rattle.ap_stream.specs.Stands.{stops_word, Looks, Always, blank_first}
 use Rattle.ap_stream.specs.Dialects.{is_refused, has_units}
-use Rattle.ap_stream.specs.Limited.{Looks}
 use Rattle.ap_stream.proofs.LimitedLaws.{limited_decided}
 use Rattle.ap_stream.proofs.InUnitLaws.{unit_always}
 use Rattle.ap_stream.specs.Limits.{item_max, unit_max}
@@ -30,7 +29,6 @@ use Rattle.ap_stream.proofs.ReadingLaws.{reads_whole}
 use Rattle.ap_stream.specs.Rest.{rest_of, worked, rest_pending_first}
 use Rattle.ap_stream.specs.Seat.{Seat}
 use Rattle.ap_stream.specs.Spelling.{spelled}
-use Rattle.ap_stream.specs.Stands.{Always, blank_first}
 use Rattle.ap_stream.proofs.StandLaws.{begin_white, blank_ends}
 use Rattle.ap_stream.specs.Told.{Told, Ending, Begins, behind, ends_in}
 use Rattle.ap_stream.specs.declared.fault.StreamFault.{StreamFault}
@@ -356,15 +354,6 @@ module _ {H : Type 0} (count : H → ℕ) (work : H → List Read → Told)
     front_gives [] is = record { gives = λ place counts x e. unit_gives place x e }
     front_gives (w ∷ []) one = record { gives = λ place counts x e. white_unit w one place x e }
     front_gives (w ∷ v ∷ front) one = absurd one
-
-  -- a handler that is worked on as another
-  pub gives_as : (dialect : Dialect) (h other after : H) (bytes given : List ℕ) →
-      ((xs : List Read) → work other xs ≡ work h xs) →
-      Gives work dialect other after bytes given → Gives work dialect h after bytes given
-  gives_as dialect h other after bytes given same g = record {
-    gives = λ place counts x e.
-        rw (← same (reads dialect place (bytes ++ x)).items) (g.gives place counts x e);
-  }
 
   pub rest_given : (now new : Seat H) (bytes given : List ℕ) →
       Gives work now.dialect now.handler new.handler bytes given → now.fault ≡ None →

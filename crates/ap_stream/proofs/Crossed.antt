@@ -12,22 +12,18 @@ use Rattle.ap_stream.specs.declared.dialect.Dialect.{Dialect}
 use Rattle.ap_stream.specs.Chars.{Char, char_at}
 use Rattle.ap_stream.specs.Units.{form_of, Reads, sign, bare_of, is_barred, in_surface, may_part}
 use Rattle.ap_stream.proofs.UnitLaws.{sign_bare}
-use Rattle.ap_stream.specs.InUnits.{InUnit, InTag, spot, grown_spot, surface_at, several_in}
+use Rattle.ap_stream.specs.Stands.{InUnit, InTag, spot, grown_spot, surface_at, Stands, Within, InPart, StandsIn, StandsPart, between, GoesOn, AllGoOn, stops_word, is_lone, is_named, parts_at, word_crossed, tag_crossed, crossed_by, crossing, and_on, AllCross, AllCrossIn}
 use Rattle.ap_stream.proofs.InUnitLaws.{unit_symbol, unit_slash}
 use Rattle.ap_stream.proofs.WordSteps as words
-use Rattle.ap_stream.specs.Stands.{Stands, Within}
 use Rattle.ap_stream.proofs.StandLaws.{within_on}
 use Rattle.ap_symbol.specs.TagNames.{is_reserved_lem}
 use Rattle.ap_stream.proofs.ByteLaws.{nothing_part}
 use Rattle.ap_stream.specs.Given.{Standing}
-use Rattle.ap_stream.specs.InChunks.{InPart}
 use Rattle.ap_stream.proofs.InChunkLaws.{part_grows, inner_on, part_on}
-use Rattle.ap_stream.specs.Levels.{StandsIn, StandsPart, between}
 use Rattle.ap_stream.proofs.LevelLaws.{part_begins, part_stands, stands_part}
 use Rattle.ap_stream.specs.declared.dialect.Dialect.TheVariants.{Lexical}
 use Rattle.ap_stream.specs.declared.level.Level.{Level}
 use Rattle.ap_stream.specs.declared.level.Level.TheVariants as level
-use Rattle.ap_stream.specs.Crossing.{GoesOn, AllGoOn, stops_word, is_lone, is_named, parts_at, word_crossed, tag_crossed, crossed_by, crossing, and_on, AllCross, AllCrossIn}
 
 pub goes_on : (b : ℕ) → b < 128 → ((b == 93 || b == 92) ≡ true → ⊥) → GoesOn b
 goes_on b small bare = record {
@@ -139,7 +135,7 @@ slash_parts : (dialect : Dialect) (at : Spot) (done : List ℕ) (b : ℕ) → In
     (eqb b 47 && parts_at dialect at) ≡ true → InUnit dialect (spot false true) (done ++ b ∷ [])
 slash_parts dialect at done b h t =
     let both = and_parts (eqb b 47) (parts_at dialect at) t in
-    let parts = and_parts (several_in dialect) (not (at.first && at.empty)) both.1 in
+    let parts = and_parts (form_of dialect).several (not (at.first && at.empty)) both.1 in
     let may : may_part h.words h.word ≡ not (at.first && at.empty) =
     rw (h.first_is, h.empty_is) refl in
     subst (λ (z : ℕ). InUnit dialect (spot false true) (done ++ z ∷ []))

@@ -5,14 +5,12 @@ use Rattle.std.proofs.lemmas.Bool.Decides.{nat_tests}
 use Rattle.ap_stream.specs.Limits.{stage_max, unit_max}
 use Rattle.ap_symbol.specs.declared.symbol.Symbol.{Symbol}
 use Rattle.ap_stream.specs.declared.dialect.Dialect.{Dialect}
-use Rattle.ap_stream.specs.declared.fault.StreamFault.TheVariants.{Limit}
-use Rattle.ap_stream.specs.declared.fault.LimitKind.TheVariants.{UnitTooLong}
 use Rattle.ap_stream.specs.declared.item.Item.{Item}
 use Rattle.ap_stream.specs.declared.item.Item.TheVariants as item
 use Rattle.ap_stream.specs.declared.item.Read.{Read}
 use Rattle.ap_stream.specs.Reading.{IsRead, read_at}
 use Rattle.ap_stream.specs.Spelling.{spelled}
-use Rattle.ap_stream.specs.Told.{behind, ends_in}
+use Rattle.ap_stream.specs.Told.{behind}
 use Rattle.ap_stream.specs.Each.{each, item_text, is_over, is_worded, Single, held_items, held_size, none_held}
 use Rattle.ap_stream.specs.Copying.{GivesUnit}
 use Rattle.ap_stream.specs.UnitBytes.{UnitOf}
@@ -23,10 +21,6 @@ module _ (given : List (List Symbol) → List ℕ) (read : Read) (xs : List Read
   pub each_writes : is_over given read.item ≡ false →
       behind (item_text given read.item) (each given xs) ≡ each given (read ∷ xs)
   each_writes e = rw e refl
-
-  pub each_stops : is_over given read.item ≡ true →
-      each given (read ∷ xs) ≡ ends_in [] (Limit UnitTooLong read.place)
-  each_stops e = rw e refl
 
 under : (n : ℕ) → nat_lt unit_max n ≡ false → n ≤ unit_max
 under n h = grind (arith, nat_tests)

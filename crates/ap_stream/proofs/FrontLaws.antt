@@ -1,5 +1,5 @@
 -- Steps that are known by bytes, one after another.
-use Rattle.std.specs.Prelude.{None, min, ◌≡◌, ◌∷◌, Bool, nat_eq, ℕ, ◌+◌, ◌-◌, ◌≤◌, ◌<◌, List, [], ◌++◌, take, drop, length, refl}
+use Rattle.std.specs.Prelude.{None, min, ◌≡◌, ◌∷◌, Bool, nat_eq, ℕ, ◌+◌, ◌-◌, ◌≤◌, List, [], ◌++◌, take, drop, length, refl}
 use Rattle.std.proofs.Common.{arith, ap, sym, subst, ◌∙◌, append_assoc, length-append, length-drop}
 use Rattle.std.proofs.lemmas.List.{length-take, take-take, length-take-le, drop-append-le, drop-drop, drop-take}
 use Rattle.std.proofs.Math.Seq.{take-add, take-append-add}

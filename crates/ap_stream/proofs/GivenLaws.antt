@@ -1,8 +1,8 @@
 -- What a reader gives.
-use Rattle.std.specs.Prelude.{◌≡◌, ℕ, ◌+◌, ◌-◌, ◌<◌, ◌≤◌, List, [], ◌∷◌, ◌++◌, drop, take, length, Option, Some, None, Bool, true, false, refl}
+use Rattle.std.specs.Prelude.{◌≡◌, ℕ, suc, ◌+◌, ◌-◌, ◌<◌, ◌≤◌, List, [], ◌∷◌, ◌++◌, drop, take, length, Option, Some, Bool, true, false, refl}
 use Rattle.std.proofs.Common.{arith, ap, sym, ◌∙◌, append_assoc, length-append}
-use Rattle.std.proofs.lemmas.List.{append-nil, take-append-drop, drop-append-le, take-append-le, take_all, take_rest}
-use Rattle.std.proofs.Math.Seq.{take-append_seam, drop-length, take-add}
+use Rattle.std.proofs.lemmas.List.{append-nil, take-append-drop, drop-append-le, take_all, take_rest}
+use Rattle.std.proofs.Math.Seq.{take-append_seam, drop-cons, drop-length, take-add}
 use Rattle.ap_stream.specs.declared.fault.StreamFault.{StreamFault}
 use Rattle.ap_stream.specs.declared.fault.StreamFault.TheVariants.{Malformed}
 use Rattle.ap_stream.specs.declared.fault.MalformedKind.TheVariants.{Unfinished}
@@ -17,18 +17,15 @@ use Rattle.ap_stream.specs.declared.item.Character.{Character}
 use Rattle.ap_stream.specs.declared.dialect.Dialect.{Dialect}
 use Rattle.ap_stream.specs.Reading.{first, Whole, Faulty, Needs, Kind, limited, reads, read_at, followed, stopped, counted, fault_at, IsRead}
 use Rattle.ap_stream.proofs.ReadingLaws.{first_nil, reads_whole, reads_faulty, reads_needs, reads_nil}
-use Rattle.ap_stream.specs.Limited.{Surely, Looks}
+use Rattle.ap_stream.specs.Stands.{Surely, Looks, StandsIn, StoodIn, at_blank_in, InBlank}
 use Rattle.ap_stream.proofs.LimitedLaws.{limited_within, limited_ends}
-use Rattle.ap_stream.specs.Levels.{StandsIn, StoodIn, at_blank_in}
 use Rattle.ap_stream.proofs.LevelLaws.{begun_in, begun_at, in_blank_at, some_stood}
-use Rattle.ap_stream.specs.Stands.{InBlank}
 use Rattle.ap_stream.proofs.ByteLaws.{nothing_part}
-use Rattle.std.proofs.Common.{get_or, get_or-drop, add-zero}
-use Rattle.std.proofs.lemmas.List.{length-drop, length-take}
+use Rattle.std.proofs.Common.{get_or}
+use Rattle.std.proofs.lemmas.List.{length-drop}
 use Rattle.ap_stream.specs.Limits.{begun_max, item_max, unit_max}
 use Rattle.ap_stream.proofs.LimitLaws.{item_max_is}
-use Rattle.ap_stream.specs.Begun.{Begun}
-use Rattle.ap_stream.specs.Given.{Gives, StandsAt, Standing, Feeds, Ends}
+use Rattle.ap_stream.specs.Given.{Begun, Gives, Stopped, NeededMore, StandsAt, Standing, Feeds, Ends}
 
 module _ (dialect : Dialect) (held rest : List ℕ) (place n : ℕ) (thing : Item)
     (h : Surely dialect held (Whole thing n)) (some : 0 < n) (fits : n ≤ length held)
@@ -80,23 +77,6 @@ stands_goes dialect at to done size held e h =
     let none : drop size held ≡ [] = rw e (drop-length held) in
     record { fits = omega arith; short = λ _. h.1; stands = rw (all, none) h.0 }
 
-pub stands_pushed : (dialect : Dialect) (at : Level) (done b : ℕ) (held after : List ℕ)
-    (looked : Bool) → after ≡ held ++ b ∷ [] → looked ≡ true → Standing dialect looked at done held
-    → Standing dialect false at done after
-stands_pushed dialect at done b held after false a e h = absurd (cc)
-stands_pushed dialect at done b held after true a e h =
-    let f = h.fits in
-    let front : take done after ≡ take done held = rw a (take-append-le done held (b ∷ []) f) in
-    let back : drop done after ≡ drop done held ++ b ∷ [] =
-    rw a (drop-append-le done held (b ∷ []) f) in
-    let len : length after ≡ length held + 1 = rw (a, length-append) refl in
-    record {
-      fits = omega (arith, f, len);
-      short = λ t. absurd (cc);
-      stands =
-          record { old = drop done held; byte = b; part_is = back; stands = rw front h.stands };
-    }
-
 pub not_looked : (dialect : Dialect) (looked : Bool) (at : Level) (done : ℕ) (held : List ℕ) →
     looked ≡ false → StandsAt dialect looked at done held →
     StoodIn dialect at (take done held) (drop done held)
@@ -108,42 +88,13 @@ pub some_held : (dialect : Dialect) (at : Level) (held : List ℕ) (done : ℕ) 
 some_held dialect at held done h = let k = some_stood dialect at (take done held) (drop done held) h
     in let l = length-drop done held in omega (arith, k, l)
 
-module _ (now : Begun) (dialect : Dialect) (held : List ℕ) (place done : ℕ) (looked : Bool)
+module _ (now : Begun) (dialect : Dialect) (held : List ℕ) (place : ℕ) (looked : Bool)
     (fault : Option StreamFault)
     (view : record { dialect = dialect; held = held; place = place; looked = looked; fault = fault }
-    ≡ now) (fits : done ≤ length held) (at : Level)
-    (stood : StoodIn dialect at (take done held) (drop done held)) where
-  pub plain_given : (c : Character) → Looks dialect at done held (shown.Plain c) →
-      (size newplace : ℕ) (after : List ℕ) (looks : Bool) → size ≡ length held → after ≡ [] →
-      newplace ≡ counted (place + size) →
-      Gives now (Some (record { item = item.Plain c; place = place; size = size }))
-      (record {
-        dialect = dialect;
-        held = after;
-        place = newplace;
-        looked =
-            looks;
-        fault = fault;
-      })
-  plain_given c h size newplace after looks l a p =
-      record {
-        reads_on = λ x. rw (← view, a, p, l)
-            (gives_whole dialect held [] place (length held) (item.Plain c) h.0
-            (some_held dialect at held done stood) (omega arith) (drop-length held) x);
-        bytes = rw (← view, a, l) (omega arith);
-      }
-
-  pub plain_read : (c : Character) → Looks dialect at done held (shown.Plain c) → (size : ℕ) →
-      size ≡ length held → IsRead now.dialect
-      (record { item = item.Plain c; place = place; size = size })
-  plain_read c h size l = record {
-    text = held;
-    whole = rw (← view, l) (rw append-nil at (h.0 []));
-    some = let k = some_held dialect at held done stood in omega (arith, k, l);
-    short = omega (arith, h.1, l);
-  }
-
-  pub whole_given : (thing : Item) → Surely dialect held (Whole thing (length held)) →
+    ≡ now) where
+  -- all that is held is the item
+  pub whole_given : (thing : Item) → 0 < length now.held →
+      Surely now.dialect now.held (Whole thing (length now.held)) →
       (size newplace : ℕ) (after : List ℕ) (looks : Bool) → size ≡ length held → after ≡ [] →
       newplace ≡ counted (place + size) →
       Gives now (Some (record { item = thing; place = place; size = size }))
@@ -155,31 +106,33 @@ module _ (now : Begun) (dialect : Dialect) (held : List ℕ) (place done : ℕ) 
             looks;
         fault = fault;
       })
-  whole_given thing h size newplace after looks l a p =
+  whole_given thing some h size newplace after looks l a p =
       record {
         reads_on = λ x. rw (← view, a, p, l)
-            (gives_whole dialect held [] place (length held) thing h
-            (some_held dialect at held done stood) (omega arith) (drop-length held) x);
+            (gives_whole dialect held [] place (length held) thing (rw (← view) at h)
+            (rw (← view) at some) (omega arith) (drop-length held) x);
         bytes = rw (← view, a, l) (omega arith);
       }
 
-  pub whole_read : (thing : Item) → Surely dialect held (Whole thing (length held)) →
-      length held ≤ unit_max → (size : ℕ) → size ≡ length held →
+  pub whole_read : (thing : Item) → 0 < length now.held →
+      Surely now.dialect now.held (Whole thing (length now.held)) → length now.held ≤ unit_max →
+      (size : ℕ) → size ≡ length held →
       IsRead now.dialect (record { item = thing; place = place; size = size })
-  whole_read thing h few size l = record {
-    text = held;
-    whole = rw (← view, l) (rw append-nil at (h []));
-    some = let k = some_held dialect at held done stood in omega (arith, k, l);
-    short = omega (arith, few, l);
-  }
+  whole_read thing some h short size l =
+      let e : size ≡ length now.held = rw (← view) l in
+      record {
+        text = now.held;
+        whole = rw e (rw append-nil at (h []));
+        some = omega (arith, some, e);
+        short = omega (arith, short, e);
+      }
 
-  front_is : length (take done held) ≡ done
-  front_is = rw length-take (omega arith)
-
-  pub blank_given : Looks dialect at done held shown.BlankEnds →
-      (newplace end : ℕ) (bytes after : List ℕ) (looks : Bool) → bytes ≡ take done held →
-      end ≡ get_or held done 0 → after ≡ end ∷ [] → newplace ≡ counted (place + done) →
-      Gives now (Some (record { item = item.Blank bytes; place = place; size = done }))
+  -- all that is held but the last byte is a blank
+  pub blank_given : (n : ℕ) → 0 < n → length now.held ≡ n + 1 →
+      Surely now.dialect now.held (Whole (item.Blank (take n now.held)) n) →
+      (newplace end : ℕ) (bytes after : List ℕ) (looks : Bool) → bytes ≡ take n held →
+      end ≡ get_or held n 0 → after ≡ end ∷ [] → newplace ≡ counted (place + n) →
+      Gives now (Some (record { item = item.Blank bytes; place = place; size = n }))
       (record {
         dialect = dialect;
         held = after;
@@ -188,36 +141,44 @@ module _ (now : Begun) (dialect : Dialect) (held : List ℕ) (place done : ℕ) 
             looks;
         fault = fault;
       })
-  blank_given h newplace end bytes after looks t is a p =
-      let all : Surely dialect held (Whole (item.Blank (take done held)) done) =
-      rw front_is at h.2 in
-      let some : 0 < done = rw front_is at h.0 in
-      let rest : drop done held ≡ after = h.1 ∙ rw (a, is, get_or-drop, add-zero) refl in
-      let len : length held ≡ done + 1 = let k = length-drop done held in
-      let m : length (drop done held) ≡ 1 = ap length h.1 in omega (arith, k, m, fits) in
+  blank_given n some one h newplace end bytes after looks t is a p =
+      let all : Surely dialect held (Whole (item.Blank (take n held)) n) = rw (← view) at h in
+      let size : length held ≡ n + 1 = rw (← view) at one in
+      let len : length held ≡ suc n = omega (arith, size) in
+      let none : drop (suc n) held ≡ [] = rw len at (drop-length held) in
+      let rest : drop n held ≡ after = drop-cons held n 0 (omega (arith, len))
+      ∙ rw (none, a, is) refl in
       record {
         reads_on = λ x. rw (← view, p, t)
-            (gives_whole dialect held after place done (item.Blank (take done held)) all some
-            fits rest x);
+            (gives_whole dialect held after place n (item.Blank (take n held)) all some
+            (omega (arith, len)) rest x);
         bytes = rw (← view, a, len) (omega arith);
       }
 
-  pub blank_read : Looks dialect at done held shown.BlankEnds → (bytes : List ℕ) →
-      bytes ≡ take done held →
-      IsRead now.dialect (record { item = item.Blank bytes; place = place; size = done })
-  blank_read h bytes t =
-      let all : Surely dialect held (Whole (item.Blank (take done held)) done) =
-      rw front_is at h.2 in record {
-        text = held;
-        whole = rw (← view, t) (rw append-nil at (all []));
-        some = rw front_is at h.0;
-        short = rw front_is at h.3;
+  pub blank_read : (n : ℕ) → 0 < n → n ≤ unit_max →
+      Surely now.dialect now.held (Whole (item.Blank (take n now.held)) n) → (bytes : List ℕ) →
+      bytes ≡ take n held →
+      IsRead now.dialect (record { item = item.Blank bytes; place = place; size = n })
+  blank_read n some short h bytes t =
+      let e : bytes ≡ take n now.held = rw (← view) t in
+      record {
+        text = now.held;
+        whole = rw e (rw append-nil at (h []));
+        some = some;
+        short = short;
       }
 
-  pub bad_shown : (kind : Kind) → Surely dialect held (Faulty kind) → (x : List ℕ) →
-      reads dialect place (held ++ x) ≡ stopped (fault_at kind place)
-  bad_shown kind h x = stops_always dialect held place kind h
-      (some_held dialect at held done stood) x
+  -- a fault is noted, and nothing else is changed
+  module _ (new : Begun) (d : new.dialect ≡ now.dialect) (p : new.place ≡ now.place)
+      (h : new.held ≡ now.held) where
+    pub stopped_noted : (kind : Kind) (f : StreamFault) → f ≡ fault_at kind place →
+        Surely dialect held (Faulty kind) → 0 < length held → Stopped f new
+    stopped_noted kind f e s some x =
+        rw (d, p, h, ← view, e) (stops_always dialect held place kind s some x)
+
+    pub needed_noted : limited item_max dialect (take (length held - 1) held) ≡ Needs →
+        NeededMore new
+    needed_noted n = rw (d, h, ← view) n
 
 pub feeds_from : (old mid new : Begun) (used : List ℕ) (item : Option Read) →
     mid.dialect ≡ old.dialect → mid.place ≡ old.place → mid.held ≡ old.held ++ used →
@@ -226,15 +187,6 @@ feeds_from old mid new used item d p h g = record {
   reads_on = λ x. rw (← append_assoc, ← h, ← p, ← d) (g.reads_on x);
   bytes = g.bytes ∙ ap length h ∙ length-append old.held used;
 }
-
-pub feeds_none : (old new : Begun) (used : List ℕ) → new.dialect ≡ old.dialect →
-    new.place ≡ old.place → new.held ≡ old.held ++ used → Feeds old used None new
-feeds_none old new used d p h =
-    record {
-      reads_on = λ x. rw (← append_assoc, ← h, ← p, ← d) refl;
-      bytes =
-          add-zero (length new.held) ∙ ap length h ∙ length-append old.held used;
-    }
 
 -- nothing is held, and the next byte is a plain character
 module _ (now : Begun) (dialect : Dialect) (held : List ℕ) (place : ℕ) (looked : Bool)
@@ -268,11 +220,6 @@ module _ (now : Begun) (dialect : Dialect) (held : List ℕ) (place : ℕ) (look
     some = omega arith;
     short = omega arith;
   }
-
-pub ends_from : (old mid new : Begun) (item : Option Read) → mid.dialect ≡ old.dialect →
-    mid.place ≡ old.place → mid.held ≡ old.held → Ends mid item new → Ends old item new
-ends_from old mid new item d p h e =
-    record { reads_end = rw (← p, ← h, ← d) e.reads_end; bytes = rw (← h) e.bytes }
 
 pub ends_gives : (old new : Begun) (item : Option Read) → Gives old item new → Ends old item new
 ends_gives old new item g =

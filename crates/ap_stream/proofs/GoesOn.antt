@@ -505,11 +505,6 @@ module _ (form : Form) where
         ∙ ap (Ends g.all) (omega arith);
   }
 
-  none_after : (words : List (List Symbol)) (word : List Symbol) →
-      is_none (words ++ word ∷ []) ≡ false
-  none_after [] word = refl
-  none_after (w ∷ words) word = refl
-
   alone : form.braced ≡ false → form.several ≡ false → (words : List (List Symbol))
       (word : List Symbol) → is_none word ≡ false → RestGoesOn form words word []
   alone b s words word n = by_dollar words word (rw (b, s, n) refl)

@@ -13,17 +13,42 @@ use Rattle.ap_stream.specs.declared.item.Chunk.{Chunk}
 use Rattle.ap_stream.specs.declared.item.Inner.{Inner}
 use Rattle.ap_stream.specs.declared.item.Item.TheVariants as item
 use Rattle.ap_stream.specs.Dialects.{has_chunks}
+use Rattle.ap_stream.specs.Items.{Item}
 use Rattle.ap_stream.specs.Blanks.{Run, Open, Inside, BadChar, Done, blank, begins_blank}
 use Rattle.ap_stream.specs.Units.{Rest, Lacks, Wrong, Ends, rest, form_of}
 use Rattle.ap_stream.proofs.UnitLaws.{rest_brace}
-use Rattle.ap_stream.specs.Chunks.{Begun, Barred, Held, portion, blank_portion, unit_portion, Body, Opens, Fails, Closes, behind_part, behind_portion, body, wrong_byte}
+use Rattle.ap_stream.specs.Chunks.{Portion, Begun, Barred, Held, Braced, portion, blank_portion, unit_portion, Body, Opens, Fails, Closes, behind_part, behind_portion, body, wrong_byte}
 use Rattle.ap_stream.proofs.ChunkLaws.{body_skip, body_nil, body_brace}
-use Rattle.ap_stream.specs.InUnits.{InUnit, braced_in}
+use Rattle.ap_stream.specs.Stands.{InUnit, ChunkOf, caret_first, InPart, InClosed}
 use Rattle.ap_stream.proofs.InUnitLaws.{braced_chunks, unit_front}
-use Rattle.ap_stream.specs.ChunkBytes.{ChunkOf}
 use Rattle.ap_symbol.specs.Kinds.{first_word}
-use Rattle.ap_stream.specs.Reading.{Needs, Whole, Faulty, Bad, first, of_run, of_unit, of_body}
-use Rattle.ap_stream.specs.InChunks.{part_first, Agree, caret_first, InPart, InClosed}
+use Rattle.ap_stream.specs.Reading.{First, Needs, Whole, Faulty, Bad, Past, first, of_run, of_unit, of_body}
+
+abbrev pub part_first : List ℕ → Bool
+part_first [] = false
+part_first (b ∷ bs) = begins_blank b || eqb b 94
+
+abbrev pub portion_of : First → Portion
+portion_of Needs = Begun
+portion_of (Whole (Item.Plain c) n) = Braced
+portion_of (Whole (Item.Blank bytes) n) = Held (Inner.Blank bytes) n
+portion_of (Whole (Item.Unit words) n) = Held (Inner.Unit words) n
+portion_of (Whole (Item.Chunk c) n) = Braced
+portion_of (Faulty (Bad kind)) = Barred kind
+portion_of (Faulty (Past kind)) = Braced
+
+-- which a blank or a unit may be
+abbrev pub IsPart : First → Type 0
+IsPart Needs = Unit {0}
+IsPart (Whole (Item.Plain c) n) = ⊥
+IsPart (Whole (Item.Blank bytes) n) = Unit {0}
+IsPart (Whole (Item.Unit words) n) = Unit {0}
+IsPart (Whole (Item.Chunk c) n) = ⊥
+IsPart (Faulty (Bad kind)) = Unit {0}
+IsPart (Faulty (Past kind)) = ⊥
+
+abbrev pub Agree : Portion → First → Type 0
+Agree p f = (p ≡ portion_of f) × IsPart f
 
 run_agrees : (bytes : List ℕ) (r : Run) → Agree (blank_portion bytes r) (of_run bytes r)
 run_agrees bytes Open = (refl, tt)
@@ -102,13 +127,9 @@ pub caret_on : (p x : List ℕ) → caret_first p ≡ true → caret_first (p ++
 caret_on [] x h = absurd (cc)
 caret_on (b ∷ p) x h = h
 
-pub caret_some : (p : List ℕ) → caret_first p ≡ true → 0 < length p
-caret_some [] h = absurd (cc)
-caret_some (b ∷ p) h = omega arith
-
 -- the content begins behind the name's brace
 pub name_ends : (dialect : Dialect) (at : Spot) (done : List ℕ) → InUnit dialect at done →
-    braced_in dialect ≡ true → InPart dialect (length (done ++ 123 ∷ [])) (done ++ 123 ∷ [])
+    (form_of dialect).braced ≡ true → InPart dialect (length (done ++ 123 ∷ [])) (done ++ 123 ∷ [])
 name_ends dialect at done h braced =
     let chunks : has_chunks dialect ≡ true = sym (braced_chunks dialect) ∙ braced in
     let words : List (List Symbol) = h.words ++ h.word ∷ [] in
@@ -246,15 +267,6 @@ only_chunked Lexical h = absurd (cc)
 only_chunked Bilingual h = absurd (cc)
 only_chunked Chunked h = refl
 only_chunked Generated h = absurd (cc)
-
-pub chunk_bytes_of : (dialect : Dialect) (held : List ℕ) (chunk : Chunk) →
-    has_chunks dialect ≡ true →
-    ((x : List ℕ) → first dialect (held ++ x) ≡ Whole (item.Chunk chunk) (length held)) →
-    ChunkOf held chunk
-chunk_bytes_of dialect held chunk has h =
-    subst (λ (d : Dialect). (x : List ℕ) → first d (held ++ x)
-    ≡ Whole (item.Chunk chunk) (length held))
-    (only_chunked dialect has) h
 
 pub chunk_always : (dialect : Dialect) (held : List ℕ) (chunk : Chunk) → has_chunks dialect ≡ true →
     ChunkOf held chunk → (x : List ℕ) → first dialect (held ++ x)

@@ -14,7 +14,7 @@ use Rattle.ap_stream.specs.Units.{form_of, Reads, sign, in_surface, is_none, may
 use Rattle.ap_stream.proofs.UnitLaws.{longer_longer, rest_symbol, rest_slash, rest_dollar}
 use Rattle.ap_stream.specs.UnitBytes.{UnitOf}
 use Rattle.ap_stream.specs.Reading.{Needs, Whole, Faulty, Bad, first, of_unit, of_chunk, of_caret}
-use Rattle.ap_stream.specs.InUnits.{surface_at, several_in, braced_in, spot, grown_spot, InUnit}
+use Rattle.ap_stream.specs.Stands.{surface_at, spot, grown_spot, InUnit}
 
 pub first_caret : (dialect : Dialect) (t : List ℕ) → has_units dialect ≡ true →
     first dialect (94 ∷ t) ≡ of_caret dialect t (rest (form_of dialect) [] [] 0 t)
@@ -38,7 +38,7 @@ words_chunks Bilingual h = refl
 words_chunks Chunked h = absurd (cc)
 words_chunks Generated h = absurd (cc)
 
-pub words_brace : (dialect : Dialect) → has_words dialect ≡ true → braced_in dialect ≡ false
+pub words_brace : (dialect : Dialect) → has_words dialect ≡ true → (form_of dialect).braced ≡ false
 words_brace Raw h = absurd (cc)
 words_brace Analysed h = refl
 words_brace Lexical h = refl
@@ -46,7 +46,7 @@ words_brace Bilingual h = refl
 words_brace Chunked h = absurd (cc)
 words_brace Generated h = absurd (cc)
 
-pub units_words : (dialect : Dialect) → has_units dialect ≡ true → braced_in dialect ≡ false →
+pub units_words : (dialect : Dialect) → has_units dialect ≡ true → (form_of dialect).braced ≡ false →
     has_words dialect ≡ true
 units_words Raw h k = absurd (cc)
 units_words Analysed h k = refl
@@ -55,7 +55,7 @@ units_words Bilingual h k = refl
 units_words Chunked h k = absurd (cc)
 units_words Generated h k = absurd (cc)
 
-pub braced_chunks : (dialect : Dialect) → braced_in dialect ≡ has_chunks dialect
+pub braced_chunks : (dialect : Dialect) → (form_of dialect).braced ≡ has_chunks dialect
 braced_chunks Raw = refl
 braced_chunks Analysed = refl
 braced_chunks Lexical = refl
@@ -142,7 +142,7 @@ module _ (dialect : Dialect) (at : Spot) (done : List ℕ) (h : InUnit dialect a
   unit_ends m = record {
     tail = h.tail ++ 36 ∷ [];
     has = units_words dialect h.has
-        (not-true (braced_in dialect) (and_parts (not (braced_in dialect)) _ m).0);
+        (not-true (form_of dialect).braced (and_parts (not (form_of dialect).braced) _ m).0);
     begins = ap (λ q. q ++ 36 ∷ []) h.begins;
     on = λ x.
         let e : rest (form_of dialect) h.words h.word 0 (36 ∷ x) ≡ Ends (h.words ++ h.word ∷ []) 1 =
@@ -187,7 +187,7 @@ module _ (dialect : Dialect) (at : Spot) (done : List ℕ) (h : InUnit dialect a
         (λ x. rest_symbol (form_of dialect) h.words h.word p x s some (e x));
   }
 
-  pub unit_slash : several_in dialect ≡ true → may_part h.words h.word ≡ true →
+  pub unit_slash : (form_of dialect).several ≡ true → may_part h.words h.word ≡ true →
       InUnit dialect (spot false true) (done ++ 47 ∷ [])
   unit_slash s m = record {
     tail = h.tail ++ 47 ∷ [];

@@ -8,7 +8,7 @@ use Rattle.std.proofs.lemmas.Bool.Decides.{nat_tests}
 use Rattle.ap_symbol.specs.declared.symbol.Symbol.TheVariants as symbol
 use Rattle.ap_symbol.specs.Coded.{AreNamed}
 use Rattle.ap_stream.specs.Units.{name, of_name, Reads}
-use Rattle.ap_stream.specs.Signs.{Heads}
+use Rattle.ap_stream.specs.UnitBytes.{Heads}
 use Rattle.ap_stream.proofs.Back.{named_on, some_named}
 
 pub begins_with : (bytes text : List ℕ) → length text < length bytes → get_or bytes (length text) 0

@@ -5,9 +5,7 @@ use Rattle.std.proofs.Common.{arith, sym, subst, slice_index_or, length-append, 
 use Rattle.std.proofs.Math.Seq.{take-append_seam, drop-append_seam, drop-append-add, take-length}
 use Rattle.std.proofs.lemmas.List.{take-append-le, drop-append-le}
 use Rattle.ap_symbol.specs.declared.symbol.Symbol.{Symbol}
-use Rattle.ap_stream.specs.KeptUnits.{IsGiven, IsKept, AreKept}
-use Rattle.ap_stream.specs.Limits.{unit_max}
-use Rattle.ap_stream.specs.UnitBytes.{UnitOf}
+use Rattle.ap_stream.specs.Each.{IsGiven, IsKept, AreKept}
 use Rattle.ap_stream.specs.declared.dialect.Dialect.{Dialect}
 use Rattle.ap_stream.specs.declared.kept_units.Entry.{Entry}
 
@@ -98,8 +96,3 @@ module _ (dialect : Dialect) (given : List (List Symbol) → List ℕ) where
         within = omega (arith, t, l, k);
         is = rw (first, second) is;
       }
-
-  pub given_unit : (key text : List ℕ) (words : List (List Symbol)) → UnitOf dialect key words →
-      text ≡ given words → length text ≤ unit_max → IsGiven dialect given key text
-  given_unit key text words unit is short =
-      record { words = words; unit = unit; is = is; short = short }

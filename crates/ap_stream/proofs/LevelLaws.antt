@@ -1,5 +1,5 @@
 -- Where the bytes so far end, in the content of a chunk too, and what one more byte shows.
-use Rattle.std.specs.Prelude.{◌≡◌, ◌≢◌, ℕ, ◌+◌, ◌<◌, ◌≤◌, List, [], ◌∷◌, ◌++◌, drop, take, length, Bool, true, false, cond, eqb, ◌||◌, refl}
+use Rattle.std.specs.Prelude.{◌≡◌, ◌≢◌, ℕ, ◌+◌, ◌<◌, List, [], ◌∷◌, ◌++◌, drop, take, length, Bool, true, false, cond, eqb, ◌||◌, refl}
 use Rattle.std.proofs.Common.{arith, ap, sym, subst, ◌∙◌, append_assoc, length-append, get_or}
 use Rattle.std.proofs.lemmas.Bool.{eqb-true}
 use Rattle.std.proofs.lemmas.List.{append-nil, take-append-drop}
@@ -9,7 +9,6 @@ use Rattle.ap_stream.specs.declared.dialect.Dialect.TheVariants.{Lexical}
 use Rattle.ap_stream.specs.declared.examine.Mode.{Mode}
 use Rattle.ap_stream.specs.declared.examine.Mode.TheVariants as mode
 use Rattle.ap_stream.specs.declared.examine.Spot.{Spot}
-use Rattle.ap_stream.specs.declared.examine.Seen.{Seen}
 use Rattle.ap_stream.specs.declared.examine.Seen.TheVariants as seen
 use Rattle.ap_stream.specs.declared.level.Level.{Level}
 use Rattle.ap_stream.specs.declared.level.Level.TheVariants as level
@@ -24,17 +23,12 @@ use Rattle.ap_stream.specs.Blanks.{is_white}
 use Rattle.ap_stream.specs.Chunks.{Held, portion, Opens, body, wrong_byte, wrong_front}
 use Rattle.ap_stream.proofs.ChunkLaws.{body_nil, body_wrong}
 use Rattle.ap_stream.specs.Reading.{First, Needs, Whole, Faulty, Bad, Broken, first, last}
-use Rattle.ap_stream.specs.InUnits.{InUnit, spot}
+use Rattle.ap_stream.specs.Stands.{InUnit, spot, caret_first, InPart, Stands, Always, InBlank, Within, blank_first, Sees, StandsPart, StandsIn, StoodIn, Tells, portion_shown, at_blank_in, between}
 use Rattle.ap_stream.proofs.InUnitLaws.{unit_always, unit_begins}
-use Rattle.ap_stream.specs.InChunks.{part_first, portion_of, IsPart, caret_first, InPart}
-use Rattle.ap_stream.proofs.InChunkLaws.{part_agrees, part_on, part_some, body_begun, body_barred, caret_on, part_grows, part_needs, part_fails, part_ends, part_ends_before, part_closes, inner_on, closed_needs, closed_wrong, closed_chunk, closed_whole}
-use Rattle.ap_stream.specs.Stands.{Stands, Always, InBlank, Within, blank_first}
+use Rattle.ap_stream.proofs.InChunkLaws.{part_first, portion_of, IsPart, part_agrees, part_on, part_some, body_begun, body_barred, caret_on, part_grows, part_needs, part_fails, part_ends, part_ends_before, part_closes, inner_on, closed_needs, closed_wrong, closed_chunk, closed_whole}
 use Rattle.ap_stream.proofs.StandLaws.{begin_white, begin_bracket}
-use Rattle.ap_stream.specs.AtEnd.{Begins}
-use Rattle.ap_stream.proofs.AtEndLaws.{begun, in_blank}
-use Rattle.ap_stream.specs.Step.{Stood, Sees}
+use Rattle.ap_stream.proofs.AtEndLaws.{Begins, begun, in_blank}
 use Rattle.ap_stream.proofs.ByteLaws.{nothing_part, some_part}
-use Rattle.ap_stream.specs.Levels.{StandsPart, StandsIn, StoodIn, Tells, item_shown, portion_shown, at_blank_in, between}
 
 -- laws
 
@@ -155,20 +149,6 @@ some_stood dialect at done part h = some_part h.old part h.byte h.part_is
 
 -- what one more byte tells
 
-pub item_told : (dialect : Dialect) (at : Mode) (done part : List ℕ) (s : Seen) (end : ℕ) →
-    end ≡ length done + length part → Sees dialect at done part s →
-    Tells dialect (level.Item at) done part (item_shown s end)
-item_told dialect at done part seen.Waits end e h = h
-item_told dialect at done part (seen.Goes to) end e h = h
-item_told dialect at done part (seen.Plain c) end e h = h
-item_told dialect at done part seen.BlankEnds end e h = h
-item_told dialect at done part seen.UnitEnds end e h = h
-item_told dialect at done part seen.NameEnds end e h =
-    let all : length (done ++ part) ≡ end = length-append done part ∙ sym e in
-    subst (λ n. InPart dialect n (done ++ part) × StandsPart mode.Start (drop n (done ++ part)) [])
-    all (h, (drop-length (done ++ part), refl))
-item_told dialect at done part (seen.Bad kind) end e h = h
-
 wrong_kind : (f : Front) → wrong_front f ≢ Unfinished
 wrong_kind Part e = cc
 wrong_kind NotChar e = cc
@@ -248,17 +228,6 @@ module _ (dialect : Dialect) (from : ℕ) (at : Mode) (done part : List ℕ)
   begins : part_first (drop from done) ≡ true
   begins = part_begins at (drop from done) h.old within h.stands.1
 
-  pub part_stood : Stood Lexical at (drop from done) part
-  part_stood = record {
-    old = h.old;
-    byte = h.byte;
-    part_is = h.part_is;
-    stands = part_stands at (drop from done) h.old within h.stands.1;
-  }
-
-  pub part_fits : from ≤ length done
-  part_fits = h.stands.0.fits
-
   grown : InPart dialect from (done ++ part)
   grown = part_grows dialect from done h.stands.0 part
 
@@ -271,18 +240,6 @@ module _ (dialect : Dialect) (from : ℕ) (at : Mode) (done part : List ℕ)
   portion_is : (f : First) → Always Lexical (drop from done ++ part) f → (x : List ℕ) →
       portion ((drop from done ++ part) ++ x) ≡ portion_of f
   portion_is f e x = (part_agrees _ (begins_all x)).0 ∙ ap portion_of (e x)
-
-  pub waits_told : Sees Lexical at (drop from done) part seen.Waits →
-      Tells dialect (level.Part from at) done part shown.Waits
-  waits_told s = (h.stands.0, stands_part at (drop from done) part begins s)
-
-  pub goes_told : (to : Mode) → Sees Lexical at (drop from done) part (seen.Goes to) →
-      Tells dialect (level.Part from at) done part (shown.Goes (level.Part from to))
-  goes_told to s = (
-    grown,
-    subst (λ (q : List ℕ). StandsPart to q []) (sym inner_is)
-        (stands_part to (drop from done ++ part) [] (part_on (drop from done) part begins) s),
-  )
 
   pub blank_told : Sees Lexical at (drop from done) part seen.BlankEnds →
       Tells dialect (level.Part from at) done part (portion_shown part (length done))
@@ -328,9 +285,6 @@ module _ (dialect : Dialect) (from : ℕ) (at : Mode) (done part : List ℕ)
   pub never_plain : (c : _) → Sees Lexical at (drop from done) part (seen.Plain c) → ⊥
   never_plain c s =
       subst IsPart (s []) (part_agrees ((drop from done ++ part) ++ []) (begins_all [])).1
-
-  pub never_name : Sees Lexical at (drop from done) part seen.NameEnds → ⊥
-  never_name s = let e = s.chunks in cc
 
 -- behind the content's brace
 module _ (dialect : Dialect) (done part : List ℕ) (h : StoodIn dialect level.Closed done part) where

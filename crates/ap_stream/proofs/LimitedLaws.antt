@@ -15,14 +15,17 @@ use Rattle.ap_stream.specs.declared.level.Level.{Level}
 use Rattle.ap_stream.specs.declared.level.Shown.{Shown}
 use Rattle.ap_stream.specs.declared.level.Shown.TheVariants as shown
 use Rattle.ap_stream.specs.Reading.{First, Needs, Whole, Faulty, Bad, first, limited, past, at_limit, plain}
-use Rattle.ap_stream.specs.Stands.{Always, InBlank}
+use Rattle.ap_stream.specs.Stands.{Always, InBlank, StandsIn, StoodIn, Tells, Surely, Looks}
 use Rattle.ap_stream.proofs.StandLaws.{blank_ends}
-use Rattle.ap_stream.specs.Levels.{StandsIn, StoodIn, Tells}
 use Rattle.ap_stream.proofs.LevelLaws.{begun_in}
 use Rattle.ap_stream.proofs.InUnitLaws.{unit_always}
 use Rattle.ap_stream.specs.UnitBytes.{UnitOf}
 use Rattle.ap_stream.proofs.AtEndLaws.{begun_blank}
-use Rattle.ap_stream.specs.Limited.{IsDecided, Surely, Looks}
+
+abbrev pub IsDecided : First → Type 0
+IsDecided Needs = ⊥
+IsDecided (Whole thing n) = Unit {0}
+IsDecided (Faulty kind) = Unit {0}
 
 past_decided : (most : ℕ) (f next : First) → IsDecided f → past most f next ≡ f
 past_decided most Needs next d = absurd d

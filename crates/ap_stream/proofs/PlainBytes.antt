@@ -6,7 +6,6 @@ use Rattle.std.proofs.lemmas.List.{append-nil, length-drop, drop_all}
 use Rattle.std.proofs.lemmas.List.Folds.{list_any-append}
 use Rattle.std.proofs.lemmas.Grind.{flat_map-append}
 use Rattle.std.proofs.lemmas.Bool.{eqb-true, ne_eqb, and_parts, cases_lt}
-use Rattle.std.proofs.lemmas.Bool.Decides.{nat_tests}
 use Rattle.std.proofs.lemmas.Str.{encode_ascii}
 use Rattle.std.proofs.Math.Seq.{take-add, drop-cons}
 use Rattle.ap_symbol.specs.declared.symbol.Symbol.{Symbol}
@@ -16,12 +15,11 @@ use Rattle.ap_symbol.specs.Words.{is_white}
 use Rattle.ap_symbol.specs.TagNames.{is_reserved_lem}
 use Rattle.ap_symbol.specs.TextWord.{bare_symbol}
 use Rattle.ap_stream.specs.declared.fault.MalformedKind.TheVariants.{Stray, BadTag}
-use Rattle.ap_stream.specs.Chars.{Front, Part, NotChar, Char, char_at, tail2, tail3, tail4, is_tail, is_second, Fits}
-use Rattle.ap_stream.proofs.CharLaws.{char_fits}
+use Rattle.ap_stream.specs.Chars.{Front, Part, NotChar, Char, char_at, tail2, tail3, tail4, is_tail, is_second}
+use Rattle.ap_stream.proofs.CharLaws.{Fits, char_fits}
 use Rattle.ap_stream.specs.Units.{Form, Name, Runs, Breaks, Stops, name, name_by, behind_name, Sign, Awaits, Bars, Reads, Slash, Dollar, sign, of_bare, of_name, bare_of, is_barred, begins_tag, in_surface, rest, longer, Brace}
 use Rattle.ap_stream.proofs.UnitLaws.{longer_longer, longer_zero}
-use Rattle.ap_stream.specs.PlainBytes.{is_stop, plain_size}
-use Rattle.ap_stream.specs.Signs.{Barren}
+use Rattle.ap_stream.specs.UnitBytes.{is_stop, plain_size, Barren}
 use Rattle.ap_stream.proofs.Encoding.{tail_range, second_parts, char_encodes, Encodes}
 use Rattle.ap_stream.proofs.SignLaws as laws
 use Rattle.ap_stream.proofs.SignLaws.{IsWhole}
@@ -39,9 +37,6 @@ high b h = rw (
   ne_eqb b 10 (λ e. omega (arith, e)),
   ne_eqb b 13 (λ e. omega (arith, e)),
 ) refl
-
-above : (a n : ℕ) → ltb a n ≡ false → n ≤ a
-above a n h = grind (arith, nat_tests)
 
 -- the bytes of a character behind its first stop nothing
 abbrev Keeps : List ℕ → Front → Type 0

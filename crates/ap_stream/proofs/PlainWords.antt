@@ -6,9 +6,8 @@ use Rattle.ap_symbol.specs.declared.symbol.Symbol.{Symbol}
 use Rattle.ap_stream.specs.declared.dialect.Dialect.{Dialect}
 use Rattle.ap_stream.specs.Units.{Form, form_of, Slash, Dollar, sign, in_surface, is_none, rest, longer}
 use Rattle.ap_stream.proofs.UnitLaws.{longer_longer}
-use Rattle.ap_stream.specs.UnitBytes.{UnitOf, unit_words}
+use Rattle.ap_stream.specs.UnitBytes.{UnitOf, unit_words, plain_size, IsRendered}
 use Rattle.ap_stream.specs.Chars.{char_at}
-use Rattle.ap_stream.specs.PlainBytes.{plain_size, IsRendered}
 use Rattle.ap_stream.proofs.PlainBytes.{Run, run}
 use Rattle.ap_stream.proofs.Proper.{unit_proper}
 use Rattle.ap_stream.proofs.SignLaws as laws

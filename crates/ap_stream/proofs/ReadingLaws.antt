@@ -1,6 +1,6 @@
 -- The items of a text, and what stops it, by the Apertium stream format. A text is cut item by
 -- item. Places and sizes are in bytes.
-use Rattle.std.specs.Prelude.{◌≡◌, ℕ, zero, suc, ◌+◌, ◌-◌, ◌<◌, List, [], ◌∷◌, drop, length, Some, refl}
+use Rattle.std.specs.Prelude.{◌≡◌, ℕ, zero, suc, ◌+◌, ◌<◌, List, [], ◌∷◌, drop, length, Some, refl}
 use Rattle.std.proofs.Common.{arith, ap}
 use Rattle.ap_stream.specs.Limits.{item_max}
 use Rattle.ap_stream.specs.declared.dialect.Dialect.{Dialect}

@@ -21,7 +21,7 @@ use Rattle.ap_stream.specs.Dialects.{is_refused, has_chunks}
 use Rattle.ap_stream.specs.Laws.{AreWords, AreSpelt, AreParts}
 use Rattle.ap_stream.specs.Limits.{item_max}
 use Rattle.ap_stream.specs.Notation.{AreBlanks, none, space, bracketed, IsUnitText, IsChunkText}
-use Rattle.ap_stream.specs.Pieces.{HasSuperblanks, nothing, piece, plain, white, superblank, unit, IsUnit, escaped, is_bare, supers_of, chunk}
+use Rattle.ap_stream.specs.Pieces.{HasSuperblanks, nothing, piece, plain, white, superblank, unit, IsUnit, is_bare, supers_of, chunk}
 use Rattle.ap_symbol.specs.Kinds.{first_word}
 use Rattle.ap_stream.specs.Reading.{First, Needs, Whole, Faulty, Bad as OfKind, Past, first, last, Last, Complete, Broken, last_run, begins_unit, of_run, of_escaped, of_char, of_unit, plain as plain_item, limited, at_limit, past, walk, walked, reads, at_end, counted, of_caret, of_chunk, of_body}
 use Rattle.ap_stream.specs.Spelling.{character_bytes}

@@ -11,8 +11,7 @@ use Rattle.ap_stream.specs.declared.dialect.Dialect.{Dialect}
 use Rattle.ap_stream.specs.declared.fault.MalformedKind.TheVariants.{Stray, EmptyWord}
 use Rattle.ap_stream.specs.Units.{Form, form_of, is_none, may_part, may_end, Rest, Lacks, Wrong, Ends, rest, longer, early}
 use Rattle.ap_stream.proofs.UnitLaws.{rest_slash, rest_dollar}
-use Rattle.ap_stream.specs.UnitBytes.{UnitOf, ended_words, unit_words}
-use Rattle.ap_stream.specs.PlainBytes.{is_stop, is_odd, plain_size}
+use Rattle.ap_stream.specs.UnitBytes.{UnitOf, ended_words, unit_words, is_stop, is_odd, plain_size}
 use Rattle.ap_stream.specs.Spelling.{unit_bytes, joined}
 use Rattle.ap_stream.proofs.PlainBytes.{Run, run}
 use Rattle.ap_stream.proofs.SignLaws.{IsWhole}

@@ -6,7 +6,7 @@ use Rattle.ap_stream.specs.declared.fault.MalformedKind.TheVariants.{NotUtf8, St
 use Rattle.ap_stream.specs.declared.dialect.Dialect.{Dialect}
 use Rattle.ap_stream.specs.declared.item.Item.TheVariants as item
 use Rattle.ap_stream.specs.Dialects.{is_refused}
-use Rattle.ap_stream.specs.Chars.{Part, NotChar, Char, char_at}
+use Rattle.ap_stream.specs.Chars.{NotChar, Char, char_at}
 use Rattle.ap_stream.proofs.CharLaws.{char_stays}
 use Rattle.ap_stream.specs.Blanks.{BadChar, Done, blank, is_white, further, inside, closes, escapes}
 use Rattle.ap_stream.proofs.BlankLaws.{further_further, inside_char, inside_bad, blank_white, blank_bracket, blank_done}
@@ -125,10 +125,6 @@ escaped_on (a ∷ done) p part c h k = record {
   part_is = refl;
   on = λ x. within_char true (a ∷ done) p c part h k x;
 }
-
-pub within_part : (e : Bool) (done part p : List ℕ) → Within e done part → char_at p ≡ Part →
-    Within e done p
-within_part e done part p h k = record { begins = h.begins; part_is = k; on = h.on }
 
 -- a bad character within a superblank
 pub within_bad : (dialect : Dialect) (e : Bool) (done part p : List ℕ) → Within e done part →

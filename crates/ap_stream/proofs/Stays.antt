@@ -13,8 +13,8 @@ use Rattle.ap_stream.specs.declared.item.Inner.{Inner}
 use Rattle.ap_stream.specs.declared.item.Inner.TheVariants as inner
 use Rattle.ap_stream.specs.declared.item.Item.TheVariants as item
 use Rattle.ap_stream.specs.Blanks.{Close, Within, Bad, Closed, closing, closing_by, closes, escapes, longer, Run, Open, Inside, BadChar, Done, further, behind_close, blank, is_white, begins_blank}
-use Rattle.ap_stream.specs.Chars.{Front, Part, NotChar, Char, char_at, Stays}
-use Rattle.ap_stream.proofs.CharLaws.{char_stays}
+use Rattle.ap_stream.specs.Chars.{Front, Part, NotChar, Char, char_at}
+use Rattle.ap_stream.proofs.CharLaws.{Stays, char_stays}
 use Rattle.ap_stream.specs.Chunks.{Portion, Begun, Barred, Held, Braced, blank_portion, unit_portion, portion, wrong_byte, Body, Opens, Fails, Closes, behind_part, behind_portion, closed, body}
 use Rattle.ap_stream.specs.Dialects.{has_chunks}
 use Rattle.ap_symbol.specs.Kinds.{first_word}

@@ -6,14 +6,12 @@ use Rattle.std.proofs.Math.ListN.{length-take}
 use Rattle.ap_stream.specs.Limits.{begun_max, span_max}
 use Rattle.ap_stream.specs.declared.fault.StreamFault.{StreamFault}
 use Rattle.ap_stream.specs.declared.item.Read.{Read}
-use Rattle.ap_stream.specs.Begun.{Begun}
+use Rattle.ap_stream.specs.Given.{Begun, Shows}
 use Rattle.ap_stream.specs.Reading.{reads, stopped}
-use Rattle.ap_stream.specs.Given.{Shows}
 use Rattle.ap_stream.specs.declared.dialect.Dialect.{Dialect}
 use Rattle.ap_stream.specs.Seat.{Seat}
 use Rattle.ap_stream.specs.Told.{Told, Ending, behind, Begins}
-use Rattle.ap_stream.specs.Rest.{rest_of, rest_from, worked}
-use Rattle.ap_stream.specs.Sound.{measure, Sound}
+use Rattle.ap_stream.specs.Rest.{rest_of, rest_from, worked, measure, Sound}
 
 module _ {H : Type 0} (is_finished : H → Bool) (held : H → ℕ) (dialect : H → Dialect) (work : H →
     List Read → Told) where

@@ -8,7 +8,11 @@ use Rattle.ap_stream.specs.declared.fault.MalformedKind.{MalformedKind}
 use Rattle.ap_stream.specs.declared.fault.MalformedKind.TheVariants.{Stray, EmptyWord}
 use Rattle.ap_stream.specs.Chars.{Front, Part, NotChar, Char, char_at}
 use Rattle.ap_stream.proofs.CharLaws.{char_stays}
-use Rattle.ap_stream.specs.Units.{Form, Name, behind_name, name, of_name, of_escape, of_bare, sign, Rest, longer, in_surface, may_end, early, may_part, rest, first_is, Runs, Breaks, Stops, Awaits, Bars, Reads, Lacks, Wrong, Ends}
+use Rattle.ap_stream.specs.Units.{Form, Name, behind_name, name, of_name, of_escape, of_bare, sign, Rest, longer, in_surface, may_end, early, may_part, rest, Runs, Breaks, Stops, Awaits, Bars, Reads, Lacks, Wrong, Ends}
+
+abbrev pub first_is : ℕ → List ℕ → Bool
+first_is b [] = false
+first_is b (a ∷ more) = eqb a b
 
 -- laws
 

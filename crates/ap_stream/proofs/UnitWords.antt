@@ -8,8 +8,7 @@ use Rattle.ap_symbol.specs.declared.symbol.Symbol.{Symbol}
 use Rattle.ap_stream.specs.declared.dialect.Dialect.{Dialect}
 use Rattle.ap_stream.specs.declared.fault.MalformedKind.TheVariants.{Stray, EmptyWord}
 use Rattle.ap_stream.specs.Units.{Form, form_of, Sign, Awaits, Bars, Reads, Slash, Dollar, Brace, sign, in_surface, is_none, may_part, may_end, early, Rest, Lacks, Wrong, Ends, rest, longer, gone}
-use Rattle.ap_stream.specs.UnitBytes.{UnitOf, ended_words, unit_words, IsAt}
-use Rattle.ap_stream.specs.UnitHeld.{held_words, IsHeld}
+use Rattle.ap_stream.specs.UnitBytes.{UnitOf, ended_words, unit_words, IsAt, held_words, IsHeld}
 use Rattle.ap_stream.specs.declared.unit.Held.{Held}
 use Rattle.ap_stream.specs.declared.unit.Held.TheVariants as held
 use Rattle.ap_stream.proofs.InUnitLaws.{unit_always}

@@ -10,12 +10,9 @@ use Rattle.ap_stream.specs.declared.examine.Mode.TheVariants as mode
 use Rattle.ap_stream.specs.declared.examine.Seen.TheVariants as seen
 use Rattle.ap_stream.specs.declared.examine.Spot.{Spot}
 use Rattle.ap_stream.specs.declared.fault.MalformedKind.TheVariants.{Stray, EmptyWord}
-use Rattle.ap_stream.specs.Copying.{EndsUnit}
-use Rattle.ap_stream.specs.Crossing.{crossing}
+use Rattle.ap_stream.specs.Stands.{EndsUnit, crossing, dollar_seen, InUnit, spot}
 use Rattle.ap_stream.specs.Dialects.{has_units}
-use Rattle.ap_stream.specs.InUnits.{InUnit, spot, braced_in, several_in}
 use Rattle.ap_stream.proofs.InUnitLaws.{unit_begins, unit_ends}
-use Rattle.ap_stream.specs.Step.{dollar_seen}
 use Rattle.ap_stream.specs.UnitBytes.{UnitOf}
 use Rattle.ap_stream.specs.Units.{form_of, is_none, may_end}
 use Rattle.ap_stream.proofs.Crossed.{InUnitAt, crossed_all}
@@ -35,11 +32,11 @@ dollar_ends : (dialect : Dialect) (at : Spot) (done : List ℕ) → InUnit diale
     dollar_seen dialect at ≡ seen.UnitEnds →
     (words : List (List Symbol)) × UnitOf dialect (done ++ 36 ∷ []) words
 dollar_ends dialect at done h e =
-    let k = ends (braced_in dialect) (cond (several_in dialect) at.first at.empty) e in
-    let none : cond (several_in dialect) (is_none h.words) (is_none h.word) ≡ false =
+    let k = ends (form_of dialect).braced (cond (form_of dialect).several at.first at.empty) e in
+    let none : cond (form_of dialect).several (is_none h.words) (is_none h.word) ≡ false =
     rw (← h.first_is, ← h.empty_is) k.1 in
     let may : may_end (form_of dialect) h.words h.word ≡ true =
-    rw k.0 (both (several_in dialect) (is_none h.words) (is_none h.word) ∙ ap not none) in
+    rw k.0 (both (form_of dialect).several (is_none h.words) (is_none h.word) ∙ ap not none) in
     (h.words ++ h.word ∷ [], unit_ends dialect at done h may)
 
 unit_of_run : (dialect : Dialect) (run : List ℕ) (to : Mode) → has_units dialect ≡ true →

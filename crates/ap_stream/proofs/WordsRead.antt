@@ -17,8 +17,8 @@ use Rattle.ap_stream.specs.declared.fault.MalformedKind.TheVariants.{Stray, Empt
 use Rattle.ap_stream.specs.declared.item.Item.TheVariants as item
 use Rattle.ap_stream.specs.Dialects.{has_words, is_refused, has_chunks, has_units}
 use Rattle.ap_stream.specs.Blanks.{Run, Open, Inside, BadChar, Done, blank, begins_blank}
-use Rattle.ap_stream.specs.Chars.{Front, Part, NotChar, Char, char_at, tail2, tail3, tail4, is_tail, is_second, Fits}
-use Rattle.ap_stream.proofs.CharLaws.{char_fits}
+use Rattle.ap_stream.specs.Chars.{Front, Part, NotChar, Char, char_at, tail2, tail3, tail4, is_tail, is_second}
+use Rattle.ap_stream.proofs.CharLaws.{Fits, char_fits}
 use Rattle.ap_stream.specs.Units.{Form, form_of, Name, Runs, Breaks, Stops, name, name_by, behind_name, Sign, Awaits, Bars, Reads, Slash, Dollar, sign, of_bare, of_name, of_escape, bare_of, is_barred, begins_tag, in_surface, is_none, may_part, may_end, Rest, Lacks, Wrong, Ends, rest, longer, gone, Brace, early}
 use Rattle.ap_symbol.specs.Kinds.{first_word}
 use Rattle.ap_stream.specs.Reading.{First, Needs, Whole, Faulty, Bad, first, of_unit, of_run, of_escaped, of_char, begins_unit, plain, of_body, of_chunk, of_caret}

@@ -3,9 +3,7 @@ use Rattle.std.specs.Prelude.{ℕ, ◌+◌, Bool, true, false, ◌&&◌, ◌||�
 use Rattle.ap_stream.specs.Blanks.{is_white}
 use Rattle.ap_stream.specs.Copying.{is_common}
 use Rattle.ap_stream.specs.Reading.{counted, read_at}
-use Rattle.ap_stream.specs.declared.item.Item.{Item}
-use Rattle.ap_stream.specs.declared.item.Item.TheVariants as item
-use Rattle.ap_stream.specs.declared.item.Read.{Read}
+use Rattle.ap_stream.specs.Items.{Item, Read}
 
 -- an ASCII character that no dialect refuses, with which no item but itself begins, and to which no
 -- tool gives a meaning
@@ -24,8 +22,8 @@ bare_run (b ∷ bytes) = (plain_byte b || (is_white b && plain_first bytes)) && 
 
 -- such a byte as an item
 abbrev pub bare_item : ℕ → Item
-bare_item b = if is_white b then item.Blank (b ∷ [])
-    else item.Plain (record { letter = b; escaped = false })
+bare_item b = if is_white b then Item.Blank (b ∷ [])
+    else Item.Plain (record { letter = b; escaped = false })
 
 -- such bytes as items, the first of which stands at this place
 abbrev pub bare_items : ℕ → List ℕ → List Read

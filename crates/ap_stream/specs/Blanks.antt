@@ -16,9 +16,8 @@ pub data Close : Type 0 where
   Closed : ℕ → Close
 
 abbrev pub longer : ℕ → Close → Close
-longer n Within = Within
-longer n Bad = Bad
 longer n (Closed m) = Closed (n + m)
+longer n other = other
 
 -- a bare bracket closes
 abbrev pub closes : Bool → ℕ → Bool
@@ -49,10 +48,8 @@ pub data Run : Type 0 where
   Done : ℕ → Run
 
 abbrev pub further : ℕ → Run → Run
-further n Open = Open
-further n Inside = Inside
-further n BadChar = BadChar
 further n (Done m) = Done (n + m)
+further n other = other
 
 abbrev pub behind_close : Close → (ℕ → Run) → Run
 behind_close Within more = Inside

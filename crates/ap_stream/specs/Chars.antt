@@ -1,5 +1,6 @@
 -- The character at the front of bytes that may go on.
-use Rattle.std.specs.Prelude.{◌≡◌, ℕ, ◌+◌, ◌-◌, ◌*◌, ◌<◌, ◌≤◌, List, [], ◌∷◌, length, Bool, true, cond, eqb, ltb, leb, ◌&&◌}
+use Rattle.std.specs.Prelude.{◌≡◌, ℕ, ◌+◌, ◌-◌, ◌*◌, List, [], ◌∷◌, Bool, true, cond, eqb, ltb, leb, ◌&&◌}
+use Rattle.ap_stream.specs.declared.decode.Decoded.{Decoded}
 
 -- the bytes are the start of a character, or no character begins so, or a character and its length
 pub data Front : Type 0 where
@@ -44,22 +45,12 @@ char_at (a ∷ bs) = cond (ltb a 128) (Char a 1)
     (cond (ltb a 224) (tail2 a bs)
     (cond (ltb a 240) (tail3 a bs) (cond (ltb a 245) (tail4 a bs) NotChar))))
 
--- what is decided stays so, whatever follows
-abbrev pub Stays : Front → Front → Type 0
-Stays Part g = Unit {0}
-Stays NotChar g = g ≡ NotChar
-Stays (Char c n) g = g ≡ Char c n
+-- what the code says of a character
+abbrev pub front_of : Decoded → Front
+front_of Decoded.Part = Part
+front_of Decoded.NotChar = NotChar
+front_of (Decoded.Char c n) = Char c n
 
--- a character has no more bytes than are there, and at least one
-abbrev pub Fits : Front → ℕ → Type 0
-Fits Part n = Unit {0}
-Fits NotChar n = Unit {0}
-Fits (Char c size) n = (0 < size) × (size ≤ n)
-
--- a character that wasn't whole before its last byte has all the bytes
-abbrev pub Ends : Front → Front → ℕ → Type 0
-Ends Part Part n = Unit {0}
-Ends Part NotChar n = Unit {0}
-Ends Part (Char c size) n = size ≡ n
-Ends NotChar g n = Unit {0}
-Ends (Char c size) g n = Unit {0}
+-- the character at the front has so many bytes, if it is one
+abbrev pub CharSize : List ℕ → ℕ → Type 0
+CharSize bytes size = (c : ℕ) (n : ℕ) → char_at bytes ≡ Char c n → size ≡ n

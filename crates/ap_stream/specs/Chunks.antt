@@ -1,20 +1,16 @@
 -- What stands behind the name of a chunk, by the Apertium stream format: the content, a row of
 -- Lexical units and blanks that may be empty, then } and $.
 use Rattle.std.specs.Prelude.{ℕ, zero, suc, ◌+◌, pred, List, [], ◌∷◌, take, cond, eqb}
-use Rattle.ap_stream.specs.declared.dialect.Dialect.TheVariants.{Lexical}
-use Rattle.ap_stream.specs.declared.fault.MalformedKind.{MalformedKind}
-use Rattle.ap_stream.specs.declared.fault.MalformedKind.TheVariants.{NotUtf8, Stray}
-use Rattle.ap_stream.specs.declared.item.Inner.{Inner}
-use Rattle.ap_stream.specs.declared.item.Inner.TheVariants as inner
-use Rattle.ap_stream.specs.Chars.{Front, Part, NotChar, Char, char_at}
-use Rattle.ap_stream.specs.Blanks.{Run, Open, Inside, BadChar, Done, blank, begins_blank}
+use Rattle.ap_stream.specs.Types.{Lexical, MalformedKind, NotUtf8, Stray}
+use Rattle.ap_stream.specs.Items.{Inner}
+use Rattle.ap_stream.specs.Chars.{Front, NotChar, char_at}
+use Rattle.ap_stream.specs.Blanks.{Run, BadChar, Done, blank, begins_blank}
 use Rattle.ap_stream.specs.Units.{Rest, Lacks, Wrong, Ends, rest, form_of}
 
 -- what a byte shows where only ASCII can stand, and not this byte
 abbrev pub wrong_front : Front → MalformedKind
-wrong_front Part = Stray
 wrong_front NotChar = NotUtf8
-wrong_front (Char c n) = Stray
+wrong_front front = Stray
 
 abbrev pub wrong_byte : ℕ → MalformedKind
 wrong_byte b = wrong_front (char_at (b ∷ []))
@@ -29,16 +25,15 @@ pub data Portion : Type 0 where
 
 -- the blank at the front of the bytes
 abbrev pub blank_portion : List ℕ → Run → Portion
-blank_portion bytes Open = Begun
-blank_portion bytes Inside = Begun
 blank_portion bytes BadChar = Barred NotUtf8
-blank_portion bytes (Done n) = Held (inner.Blank (take n bytes)) n
+blank_portion bytes (Done n) = Held (Inner.Blank (take n bytes)) n
+blank_portion bytes run = Begun
 
 -- behind ^ a unit goes on to its $
 abbrev pub unit_portion : Rest → Portion
 unit_portion Lacks = Begun
 unit_portion (Wrong kind) = Barred kind
-unit_portion (Ends words n) = Held (inner.Unit words) (1 + n)
+unit_portion (Ends words n) = Held (Inner.Unit words) (1 + n)
 
 unfoldable pub portion : List ℕ → Portion
 portion [] = Begun
@@ -56,9 +51,8 @@ pub data Body : Type 0 where
 
 -- behind a part of so many bytes
 abbrev pub behind_part : Inner → ℕ → Body → Body
-behind_part part n Opens = Opens
-behind_part part n (Fails kind) = Fails kind
 behind_part part n (Closes parts m) = Closes (part ∷ parts) (n + m)
+behind_part part n other = other
 
 -- the } and what stands behind it
 abbrev pub closed : List ℕ → Body

@@ -2,24 +2,15 @@
 use Rattle.std.specs.Prelude.{◌≡◌, ℕ, ◌+◌, ◌≤◌, List, [], ◌∷◌, ◌++◌, length, Bool, true, false, None, not, ◌&&◌, ◌||◌, eqb, encode_utf8}
 use Rattle.std.specs.List.{flat_map, AllByRecursion}
 use Rattle.ap_symbol.specs.Coded.{IsCode}
-use Rattle.ap_symbol.specs.declared.symbol.Symbol.{Symbol}
-use Rattle.ap_stream.specs.declared.dialect.Dialect.{Dialect}
-use Rattle.ap_stream.specs.declared.item.Item.{Item}
-use Rattle.ap_stream.specs.declared.item.Item.TheVariants.{Plain, Blank, Chunk}
-use Rattle.ap_stream.specs.declared.item.Item.TheVariants as item
-use Rattle.ap_stream.specs.declared.item.Read.{Read}
+use Rattle.ap_stream.specs.Types.{Symbol, Dialect}
+use Rattle.ap_stream.specs.Items.{Item, Read}
 use Rattle.ap_stream.specs.Blanks.{is_white}
-use Rattle.ap_stream.specs.Crossing.{stops_word}
+use Rattle.ap_stream.specs.Stands.{stops_word}
 use Rattle.ap_stream.specs.Limits.{unit_max}
 use Rattle.ap_stream.specs.Reading.{Reads, reads, counted, read_at}
 use Rattle.ap_stream.specs.Rest.{worked}
 use Rattle.ap_stream.specs.Seat.{Seat}
 use Rattle.ap_stream.specs.Spelling.{spelled}
-use Rattle.ap_stream.specs.Step.{dollar_seen}
-use Rattle.ap_stream.specs.declared.examine.Mode.{Mode}
-use Rattle.ap_stream.specs.declared.examine.Mode.TheVariants as mode
-use Rattle.ap_stream.specs.declared.examine.Seen.TheVariants as seen
-use Rattle.ap_stream.specs.declared.examine.Spot.{Spot}
 use Rattle.ap_stream.specs.Told.{Told, Ending, behind}
 use Rattle.ap_stream.specs.UnitBytes.{UnitOf, unit_words}
 
@@ -37,10 +28,9 @@ pub record IsCommon (bytes : List ℕ) : Type 0 where
 
 -- an item of one such character, bare, or a blank
 abbrev pub is_copied : Item → Bool
-is_copied (Plain c) = not c.escaped && is_common c.letter
-is_copied (Blank bytes) = true
-is_copied (item.Unit words) = false
-is_copied (Chunk c) = false
+is_copied (Item.Plain c) = not c.escaped && is_common c.letter
+is_copied (Item.Blank bytes) = true
+is_copied thing = false
 
 abbrev pub AreCopied : List Read → Type 0
 AreCopied items = AllByRecursion (λ read. is_copied read.item ≡ true) items
@@ -79,7 +69,7 @@ pub record GivesUnit {H : Type 0} (work : H → List Read → Told) (dialect : D
     (bytes given : List ℕ) : Type 0 where
   pub short : length given ≤ unit_max
   pub gives : (place size : ℕ) (xs : List Read) →
-      work old (read_at place (item.Unit (unit_words dialect bytes)) size ∷ xs)
+      work old (read_at place (Item.Unit (unit_words dialect bytes)) size ∷ xs)
       ≡ behind given (work new xs)
 
 -- the bytes are a unit that gave what was appended
@@ -98,12 +88,6 @@ pub record Gives {H : Type 0} (work : H → List Read → Told) (dialect : Diale
   pub gives : (place : ℕ) → counted place ≡ place → (x : List ℕ) (e : Ending) →
       worked (work old) (reads dialect place (bytes ++ x)) e
       ≡ behind given (worked (work new) (reads dialect (counted (place + length bytes)) x) e)
-
--- a bare $ ends a unit where its bytes end so
-pub record EndsUnit (dialect : Dialect) (at : Mode) : Type 0 where
-  pub spot : Spot
-  pub is : at ≡ mode.Word spot
-  pub ends : dollar_seen dialect spot ≡ seen.UnitEnds
 
 -- nothing, or one white-space character
 abbrev pub IsWhite : List ℕ → Type 0

@@ -1,32 +1,27 @@
 -- A tool that handles each item by itself: a unit gives a text, and every other item is copied as
 -- it is spelled.
 use Rattle.std.proofs.Common.{arith, refl, ◌≡◌}
-use Rattle.std.specs.Prelude.{ℕ, nat_lt, Bool, true, false, ◌&&◌, List, [], ◌∷◌, ◌++◌, length, Option, Some, None, if◌then◌else◌}
+use Rattle.std.specs.Prelude.{ℕ, nat_lt, Bool, true, false, ◌&&◌, List, [], ◌∷◌, ◌++◌, length, Option, Some, None, if◌then◌else◌, ◌≡◌, ◌≤◌, ◌-◌, take, drop}
+use Rattle.std.specs.List.{AllByRecursion}
+use Rattle.ap_stream.specs.Types.{Symbol, Dialect, Limit, UnitTooLong}
+use Rattle.ap_stream.specs.Items.{Item, Read}
+use Rattle.ap_stream.specs.declared.kept_units.Entry.{Entry}
 use Rattle.ap_stream.specs.Copying.{is_copied}
 use Rattle.ap_stream.specs.Limits.{unit_max}
-use Rattle.ap_symbol.specs.declared.symbol.Symbol.{Symbol}
-use Rattle.ap_stream.specs.declared.dialect.Dialect.{Dialect}
-use Rattle.ap_stream.specs.declared.fault.StreamFault.TheVariants.{Limit}
-use Rattle.ap_stream.specs.declared.fault.LimitKind.TheVariants.{UnitTooLong}
-use Rattle.ap_stream.specs.declared.item.Item.{Item}
-use Rattle.ap_stream.specs.declared.item.Item.TheVariants.{Plain, Blank, Unit, Chunk}
-use Rattle.ap_stream.specs.declared.item.Read.{Read}
 use Rattle.ap_stream.specs.Spelling.{spelled}
 use Rattle.ap_stream.specs.Told.{Told, silent, behind, ends_in}
+use Rattle.ap_stream.specs.UnitBytes.{UnitOf}
 
 -- what is written by the rendering of its words
 abbrev pub is_worded : Item → Bool
-is_worded (Plain c) = false
-is_worded (Blank bytes) = false
-is_worded (Unit words) = true
-is_worded (Chunk c) = true
+is_worded (Item.Unit words) = true
+is_worded (Item.Chunk c) = true
+is_worded thing = false
 
 -- what an item gives, where a unit gives this
 abbrev pub item_text : (List (List Symbol) → List ℕ) → Item → List ℕ
-item_text given (Plain c) = spelled (Plain c)
-item_text given (Blank bytes) = spelled (Blank bytes)
-item_text given (Unit words) = given words
-item_text given (Chunk c) = spelled (Chunk c)
+item_text given (Item.Unit words) = given words
+item_text given thing = spelled thing
 
 -- what is written for one unit has so many bytes at most
 abbrev pub is_over : (List (List Symbol) → List ℕ) → Item → Bool
@@ -63,10 +58,10 @@ copied_first : (given : List (List Symbol) → List ℕ) (thing : Item) (place s
     (xs : List Read) → is_copied thing ≡ true →
     each given ((record { item = thing; place = place; size = size }) ∷ xs)
     ≡ behind (spelled thing) (each given xs)
-copied_first given (Plain c) place size xs copied = refl
-copied_first given (Blank bytes) place size xs copied = refl
-copied_first given (Unit words) place size xs copied = absurd (cc)
-copied_first given (Chunk c) place size xs copied = absurd (cc)
+copied_first given (Item.Plain c) place size xs copied = refl
+copied_first given (Item.Blank bytes) place size xs copied = refl
+copied_first given (Item.Unit words) place size xs copied = absurd (cc)
+copied_first given (Item.Chunk c) place size xs copied = absurd (cc)
 
 pub each_copies : (given : List (List Symbol) → List ℕ) (held : Option Read) (read : Read)
     (xs : List Read) → length (held_items held) ≡ 0 → is_copied read.item ≡ true →
@@ -75,3 +70,23 @@ pub each_copies : (given : List (List Symbol) → List ℕ) (held : Option Read)
 each_copies given None read xs none copied =
     copied_first given read.item read.place read.size xs copied
 each_copies given (Some held) read xs none copied = absurd (omega (arith, none))
+
+-- the bytes are a unit, and its words give this text, which is within the limit
+pub record IsGiven (dialect : Dialect) (given : List (List Symbol) → List ℕ) (key text : List ℕ) :
+    Type 0 where
+  pub words : List (List Symbol)
+  pub unit : UnitOf dialect key words
+  pub is : text ≡ given words
+  pub short : length text ≤ unit_max
+
+-- At the entry's places the bytes of the unit stand, and behind them its text.
+pub record IsKept (dialect : Dialect) (given : List (List Symbol) → List ℕ) (bytes : List ℕ)
+    (entry : Entry) : Type 0 where
+  pub first : entry.from ≤ entry.behind
+  pub second : entry.behind ≤ entry.to
+  pub within : entry.to ≤ length bytes
+  pub is : IsGiven dialect given (take (entry.behind - entry.from) (drop entry.from bytes))
+      (take (entry.to - entry.behind) (drop entry.behind bytes))
+
+abbrev pub AreKept : Dialect → (List (List Symbol) → List ℕ) → List ℕ → List Entry → Type 0
+AreKept dialect given bytes entries = AllByRecursion (IsKept dialect given bytes) entries

@@ -1,7 +1,7 @@
 -- Steps that a handler knows by the bytes at the front of a text, before they are items.
 use Rattle.std.specs.Prelude.{◌≡◌, ℕ, ◌+◌, ◌<◌, ◌≤◌, List, [], ◌++◌, length, take, drop, Bool, false, None}
-use Rattle.ap_stream.specs.declared.dialect.Dialect.{Dialect}
-use Rattle.ap_stream.specs.declared.item.Read.{Read}
+use Rattle.ap_stream.specs.Types.{Dialect}
+use Rattle.ap_stream.specs.Items.{Read}
 use Rattle.ap_stream.specs.Reading.{reads, counted}
 use Rattle.ap_stream.specs.Rest.{worked}
 use Rattle.ap_stream.specs.Seat.{Seat}

@@ -1,15 +1,20 @@
--- What a reader gives.
+-- What a reader holds, and what it gives.
 use Rattle.std.specs.Prelude.{◌≡◌, ◌≢◌, ℕ, ◌+◌, ◌-◌, ◌≤◌, List, ◌++◌, drop, take, length, Option, Bool, true, false}
-use Rattle.ap_stream.specs.declared.fault.StreamFault.{StreamFault}
-use Rattle.ap_stream.specs.declared.fault.StreamFault.TheVariants.{Malformed}
-use Rattle.ap_stream.specs.declared.fault.MalformedKind.TheVariants.{Unfinished}
+use Rattle.ap_stream.specs.Types.{StreamFault, Malformed, Unfinished, Dialect}
+use Rattle.ap_stream.specs.Items.{Read}
 use Rattle.ap_stream.specs.declared.level.Level.{Level}
-use Rattle.ap_stream.specs.declared.item.Read.{Read}
-use Rattle.ap_stream.specs.declared.dialect.Dialect.{Dialect}
-use Rattle.ap_stream.specs.Reading.{first, Reads, Needs, limited, reads, followed, size_of, stopped}
-use Rattle.ap_stream.specs.Levels.{StandsIn, StoodIn}
+use Rattle.ap_stream.specs.Reading.{Reads, Needs, limited, reads, followed, size_of, stopped}
+use Rattle.ap_stream.specs.Stands.{StandsIn, StoodIn}
 use Rattle.ap_stream.specs.Limits.{item_max, unit_max}
-use Rattle.ap_stream.specs.Begun.{Begun}
+
+-- its dialect, the bytes that it took of no whole item, the place of the first, whether it has
+-- looked at the last of them, and the fault that it has answered
+pub record Begun : Type 0 where
+  pub dialect : Dialect
+  pub held : List ℕ
+  pub place : ℕ
+  pub looked : Bool
+  pub fault : Option StreamFault
 
 -- the items of what is held and what comes
 abbrev pub reads_of : Begun → List ℕ → Reads

@@ -1,15 +1,9 @@
 -- What the laws of reading say.
 use Rattle.std.specs.Prelude.{◌≡◌, ℕ, ◌<◌, Bool, true, false, List, [], ◌∷◌, ◌++◌, length, take}
-use Rattle.ap_symbol.specs.declared.symbol.Symbol.{Symbol}
-use Rattle.ap_symbol.specs.declared.symbol.Symbol.TheVariants as symbol
+use Rattle.ap_stream.specs.Types.{Symbol, Dialect, Lexical, Chunked}
 use Rattle.ap_symbol.specs.Words.{is_white, AreProper}
 use Rattle.ap_symbol.specs.Coded.{IsCode, IsNameText, AreCoded}
-use Rattle.ap_stream.specs.declared.dialect.Dialect.{Dialect}
-use Rattle.ap_stream.specs.declared.dialect.Dialect.TheVariants.{Lexical, Chunked}
-use Rattle.ap_stream.specs.declared.item.Chunk.{Chunk}
-use Rattle.ap_stream.specs.declared.item.Inner.{Inner}
-use Rattle.ap_stream.specs.declared.item.Inner.TheVariants as inner
-use Rattle.ap_stream.specs.declared.item.Item.TheVariants as item
+use Rattle.ap_stream.specs.Items.{Chunk, Inner, Item}
 use Rattle.ap_stream.specs.Blanks.{Open, blank}
 use Rattle.ap_stream.specs.Dialects.{has_words}
 use Rattle.ap_stream.specs.Units.{form_of}
@@ -20,14 +14,10 @@ use Rattle.ap_stream.specs.Spelling.{unit_bytes, chunk_bytes}
 
 -- a symbol that bytes of a surface, or of another word, spell
 abbrev pub IsSpelt : Bool → Symbol → Type 0
-IsSpelt surface (symbol.Letter c) = IsCode c × (is_white c ≡ false)
-IsSpelt surface (symbol.Tag name) = (surface ≡ false) × IsNameText name
-IsSpelt surface symbol.Blank = Unit {0}
-IsSpelt surface symbol.Join = surface ≡ false
-IsSpelt surface symbol.Queue = surface ≡ false
-IsSpelt surface symbol.Alarm = surface ≡ false
-IsSpelt surface symbol.Star = surface ≡ false
-IsSpelt surface symbol.At = surface ≡ false
+IsSpelt surface (Symbol.Letter c) = IsCode c × (is_white c ≡ false)
+IsSpelt surface (Symbol.Tag name) = (surface ≡ false) × IsNameText name
+IsSpelt surface Symbol.Blank = Unit {0}
+IsSpelt surface mark = surface ≡ false
 
 abbrev pub AreSpelt : Bool → List Symbol → Type 0
 AreSpelt surface [] = Unit {0}
@@ -57,30 +47,30 @@ IsBlank bytes = (0 < length bytes) × (blank 0 bytes ≡ Open)
 -- the parts of a chunk's content: units of one word and blanks, no two blanks side by side
 abbrev pub AreParts : List Inner → Type 0
 AreParts [] = Unit {0}
-AreParts (inner.Unit words ∷ parts) = AreWords Lexical words × AreParts parts
-AreParts (inner.Blank bytes ∷ parts) = IsBlank bytes × NoBlankFirst parts × AreParts parts
+AreParts (Inner.Unit words ∷ parts) = AreWords Lexical words × AreParts parts
+AreParts (Inner.Blank bytes ∷ parts) = IsBlank bytes × NoBlankFirst parts × AreParts parts
 
 -- what is written of the words of a unit is read back as these words, whatever follows
 abbrev pub ReadsBack : Type 0
 ReadsBack = (dialect : Dialect) (words : List (List Symbol)) (x : List ℕ) → AreWords dialect words →
-    first dialect (unit_bytes words ++ x) ≡ Whole (item.Unit words) (length (unit_bytes words))
+    first dialect (unit_bytes words ++ x) ≡ Whole (Item.Unit words) (length (unit_bytes words))
 
 -- the words of a unit that is read are words of a unit of the dialect
 abbrev pub ReadsWords : Type 0
 ReadsWords = (dialect : Dialect) (text : List ℕ) (words : List (List Symbol)) (n : ℕ) →
-    first dialect text ≡ Whole (item.Unit words) n → AreWords dialect words
+    first dialect text ≡ Whole (Item.Unit words) n → AreWords dialect words
 
 -- what is written of a chunk is read back as it, whatever follows
 abbrev pub ChunksReadBack : Type 0
 ChunksReadBack = (name : List Symbol) (content : List Inner) (x : List ℕ) → AreSpelt false name →
     AreParts content → first Chunked (chunk_bytes name content ++ x)
-    ≡ Whole (item.Chunk (record { name = name; content = content }))
+    ≡ Whole (Item.Chunk (record { name = name; content = content }))
     (length (chunk_bytes name content))
 
 -- a chunk that is read can be written: its name is a word, and its content is of such parts
 abbrev pub ChunksAreWritten : Type 0
 ChunksAreWritten = (text : List ℕ) (chunk : Chunk) (n : ℕ) →
-    first Chunked text ≡ Whole (item.Chunk chunk) n →
+    first Chunked text ≡ Whole (Item.Chunk chunk) n →
     AreSpelt false chunk.name × AreParts chunk.content
 
 -- every word of the program can be written in a unit, and as a chunk's name
@@ -91,12 +81,12 @@ WordsAreSpelt = (word : List Symbol) → AreProper word → AreCoded word → Ar
 abbrev pub UnitsAreRead : Type 0
 UnitsAreRead = (dialect : Dialect) (words : List (List Symbol)) (bytes x : List ℕ) →
     IsUnitText dialect words bytes →
-    first dialect (bytes ++ x) ≡ Whole (item.Unit words) (length bytes)
+    first dialect (bytes ++ x) ≡ Whole (Item.Unit words) (length bytes)
 
 -- what is read as a unit are the bytes of one, with these words
 abbrev pub ReadAreUnits : Type 0
 ReadAreUnits = (dialect : Dialect) (text : List ℕ) (words : List (List Symbol)) (n : ℕ) →
-    first dialect text ≡ Whole (item.Unit words) n → IsUnitText dialect words (take n text)
+    first dialect text ≡ Whole (Item.Unit words) n → IsUnitText dialect words (take n text)
 
 -- bytes are those of one unit, or of none
 abbrev pub AreOneUnit : Type 0
@@ -106,12 +96,12 @@ AreOneUnit = (dialect : Dialect) (bytes : List ℕ) (one other : List (List Symb
 -- the bytes of a chunk are read as it, whatever follows
 abbrev pub ChunksAreRead : Type 0
 ChunksAreRead = (chunk : Chunk) (bytes x : List ℕ) → IsChunkText chunk bytes →
-    first Chunked (bytes ++ x) ≡ Whole (item.Chunk chunk) (length bytes)
+    first Chunked (bytes ++ x) ≡ Whole (Item.Chunk chunk) (length bytes)
 
 -- what is read as a chunk are the bytes of it
 abbrev pub ReadAreChunks : Type 0
 ReadAreChunks = (text : List ℕ) (chunk : Chunk) (n : ℕ) →
-    first Chunked text ≡ Whole (item.Chunk chunk) n → IsChunkText chunk (take n text)
+    first Chunked text ≡ Whole (Item.Chunk chunk) n → IsChunkText chunk (take n text)
 
 -- bytes are those of one chunk, or of none
 abbrev pub AreOneChunk : Type 0

@@ -3,18 +3,12 @@
 use Rattle.std.specs.Prelude.{◌≡◌, ◌≢◌, ℕ, Bool, true, false, not, ◌||◌, ◌&&◌, eqb, List, [], ◌∷◌, ◌++◌, encode_utf8}
 use Rattle.ap_symbol.specs.Coded.{IsCode, IsNameText}
 use Rattle.ap_symbol.specs.TextWord.{bare_symbol, escaped_symbol}
-use Rattle.ap_symbol.specs.declared.symbol.Symbol.{Symbol}
-use Rattle.ap_symbol.specs.declared.symbol.Symbol.TheVariants.{Tag}
+use Rattle.ap_stream.specs.Types.{Symbol, Tag, Dialect, Analysed, Lexical, Bilingual}
 use Rattle.ap_stream.specs.Blanks.{is_white, begins_blank}
 use Rattle.ap_stream.specs.Dialects.{is_refused}
 use Rattle.ap_stream.specs.Reading.{begins_unit}
 use Rattle.ap_stream.specs.Spelling.{character_bytes}
-use Rattle.ap_stream.specs.declared.dialect.Dialect.{Dialect}
-use Rattle.ap_stream.specs.declared.dialect.Dialect.TheVariants.{Analysed, Lexical, Bilingual}
-use Rattle.ap_stream.specs.declared.item.Character.{Character}
-use Rattle.ap_stream.specs.declared.item.Chunk.{Chunk}
-use Rattle.ap_stream.specs.declared.item.Inner.{Inner}
-use Rattle.ap_stream.specs.declared.item.Inner.TheVariants as inner
+use Rattle.ap_stream.specs.Items.{Character, Chunk, Inner}
 
 -- outside units
 
@@ -117,18 +111,17 @@ IsUnitText Bilingual (word ∷ translation ∷ translations) bytes =
 IsUnitText dialect words bytes = ⊥
 
 -- chunks
-
 abbrev pub NoBlankFirst : List Inner → Type 0
 NoBlankFirst [] = Unit {0}
-NoBlankFirst (inner.Unit words ∷ parts) = Unit {0}
-NoBlankFirst (inner.Blank bytes ∷ parts) = ⊥
+NoBlankFirst (Inner.Unit words ∷ parts) = Unit {0}
+NoBlankFirst (Inner.Blank bytes ∷ parts) = ⊥
 
 -- the bytes of a content: those of Lexical units and of blanks, of which no two stand side by side
 abbrev pub IsContentText : List Inner → List ℕ → Type 0
 IsContentText [] bytes = bytes ≡ []
-IsContentText (inner.Unit words ∷ parts) bytes = (own : List ℕ) × (rest : List ℕ)
+IsContentText (Inner.Unit words ∷ parts) bytes = (own : List ℕ) × (rest : List ℕ)
     × IsUnitText Lexical words own × IsContentText parts rest × (bytes ≡ own ++ rest)
-IsContentText (inner.Blank blank ∷ parts) bytes = (rest : List ℕ) × IsBlankText blank
+IsContentText (Inner.Blank blank ∷ parts) bytes = (rest : List ℕ) × IsBlankText blank
     × NoBlankFirst parts × IsContentText parts rest × (bytes ≡ blank ++ rest)
 
 -- the bytes of a chunk: ^, its name, which is a word and may be empty, {, its content, } and $

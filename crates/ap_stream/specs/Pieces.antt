@@ -2,7 +2,7 @@
 -- superblanks, whole units and whole chunks, each of any size.
 use Rattle.std.specs.Prelude.{◌≡◌, ℕ, true, List, [], ◌∷◌, ◌++◌, None}
 use Rattle.std.specs.List.{flat_map}
-use Rattle.ap_symbol.specs.declared.symbol.Symbol.{Symbol}
+use Rattle.ap_stream.specs.Types.{Symbol, Dialect, Chunked}
 use Rattle.ap_stream.specs.Blanks.{is_white}
 use Rattle.ap_stream.specs.Dialects.{has_chunks}
 use Rattle.ap_stream.specs.Each.{each}
@@ -10,10 +10,7 @@ use Rattle.ap_stream.specs.Laws.{AreWords}
 use Rattle.ap_stream.specs.Notation.{IsUnitText, IsChunkText}
 use Rattle.ap_stream.specs.Reading.{reads}
 use Rattle.ap_stream.specs.Supers.{inner_supers, item_supers, supers}
-use Rattle.ap_stream.specs.declared.dialect.Dialect.{Dialect}
-use Rattle.ap_stream.specs.declared.dialect.Dialect.TheVariants.{Raw, Analysed, Lexical, Bilingual, Chunked, Generated}
-use Rattle.ap_stream.specs.declared.item.Chunk.{Chunk}
-use Rattle.ap_stream.specs.declared.item.Read.{Read}
+use Rattle.ap_stream.specs.Items.{Chunk, Read}
 pub use Rattle.ap_stream.specs.Notation.{is_bare, IsPlain, IsToBracket, closed, bare, escaped, IsSuperblank}
 
 -- a whole unit of the dialect
@@ -91,12 +88,8 @@ BareStay from to = (c : ℕ) → is_bare from c ≡ true → is_bare to c ≡ tr
 
 -- and chunks of the one are chunks of the other
 abbrev pub StayBare : Dialect → Dialect → Type 0
-StayBare Raw to = BareStay Raw to
-StayBare Analysed to = BareStay Analysed to
-StayBare Lexical to = BareStay Lexical to
-StayBare Bilingual to = BareStay Bilingual to
 StayBare Chunked to = BareStay Chunked to × (has_chunks to ≡ true)
-StayBare Generated to = BareStay Generated to
+StayBare from to = BareStay from to
 
 -- of each unit of one dialect it makes a text of the other without superblanks
 abbrev pub MakesNone : Dialect → Dialect → (List (List Symbol) → List ℕ) → Type 0

@@ -1,17 +1,11 @@
 -- Texts that a dialect reads to their end, or to an item over the limit: a stage that reads what
 -- another stage wrote finds nothing else there.
 use Rattle.std.specs.Prelude.{◌≡◌, ◌≢◌, ◌⊎◌, ℕ, List, ◌∷◌, ◌++◌, length, Option, Some, None}
-use Rattle.ap_symbol.specs.declared.symbol.Symbol.{Symbol}
+use Rattle.ap_stream.specs.Types.{Symbol, Dialect, ItemTooLong, MalformedKind, Unfinished, StreamFault, Malformed, Limit}
 use Rattle.ap_stream.specs.Each.{each}
 use Rattle.ap_stream.specs.Pieces.{HasSuperblanks, StayBare, MakesNone}
 use Rattle.ap_stream.specs.Reading.{reads, counted}
 use Rattle.ap_stream.specs.Told.{Told, Ending, Clean}
-use Rattle.ap_stream.specs.declared.dialect.Dialect.{Dialect}
-use Rattle.ap_stream.specs.declared.fault.LimitKind.TheVariants.{ItemTooLong}
-use Rattle.ap_stream.specs.declared.fault.MalformedKind.{MalformedKind}
-use Rattle.ap_stream.specs.declared.fault.MalformedKind.TheVariants.{Unfinished}
-use Rattle.ap_stream.specs.declared.fault.StreamFault.{StreamFault}
-use Rattle.ap_stream.specs.declared.fault.StreamFault.TheVariants.{Malformed, Limit}
 
 -- nothing stops, or an item over the limit does
 abbrev pub IsNoneOrTooLong : Option StreamFault → Type 0

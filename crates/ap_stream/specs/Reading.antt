@@ -2,22 +2,12 @@
 -- item. Places and sizes are in bytes.
 use Rattle.std.specs.Prelude.{◌≡◌, ℕ, zero, suc, ◌+◌, ◌-◌, ◌^◌, ◌<◌, ◌≤◌, pred, min, List, [], ◌∷◌, ◌++◌, take, length, Option, Some, None, Bool, true, false, cond, eqb, leb, ◌&&◌}
 use Rattle.ap_stream.specs.Limits.{item_max, unit_max}
-use Rattle.ap_stream.specs.declared.dialect.Dialect.{Dialect}
-use Rattle.ap_stream.specs.declared.fault.StreamFault.{StreamFault}
-use Rattle.ap_stream.specs.declared.fault.StreamFault.TheVariants.{Malformed, Limit}
-use Rattle.ap_stream.specs.declared.fault.MalformedKind.{MalformedKind}
-use Rattle.ap_stream.specs.declared.fault.MalformedKind.TheVariants.{NotUtf8, Stray, Unfinished}
-use Rattle.ap_stream.specs.declared.fault.LimitKind.{LimitKind}
-use Rattle.ap_stream.specs.declared.fault.LimitKind.TheVariants.{ItemTooLong}
+use Rattle.ap_stream.specs.Types.{Dialect, StreamFault, Malformed, Limit, MalformedKind, NotUtf8, Stray, Unfinished, LimitKind, ItemTooLong, Symbol}
 use Rattle.ap_symbol.specs.Kinds.{first_word}
-use Rattle.ap_symbol.specs.declared.symbol.Symbol.{Symbol}
-use Rattle.ap_stream.specs.declared.item.Inner.{Inner}
-use Rattle.ap_stream.specs.declared.item.Item.{Item}
-use Rattle.ap_stream.specs.declared.item.Item.TheVariants as item
-use Rattle.ap_stream.specs.declared.item.Read.{Read}
+use Rattle.ap_stream.specs.Items.{Inner, Item, Read}
 use Rattle.ap_stream.specs.Dialects.{is_refused, has_units, has_chunks}
 use Rattle.ap_stream.specs.Chars.{Front, Part, NotChar, Char, char_at}
-use Rattle.ap_stream.specs.Blanks.{Run, Open, Inside, BadChar, Done, blank, begins_blank}
+use Rattle.ap_stream.specs.Blanks.{Run, Open, BadChar, Done, blank, begins_blank}
 use Rattle.ap_stream.specs.Units.{Rest, Lacks, Wrong, Ends, rest, form_of}
 use Rattle.ap_stream.specs.Chunks.{Body, Opens, Fails, Closes, body}
 
@@ -48,13 +38,12 @@ pub data Last : Type 0 where
   Broken : Kind → Last
 
 abbrev pub plain : ℕ → Bool → Item
-plain letter escaped = item.Plain (record { letter = letter; escaped = escaped })
+plain letter escaped = Item.Plain (record { letter = letter; escaped = escaped })
 
 abbrev pub of_run : List ℕ → Run → First
-of_run bytes Open = Needs
-of_run bytes Inside = Needs
 of_run bytes BadChar = Faulty (Bad NotUtf8)
-of_run bytes (Done n) = Whole (item.Blank (take n bytes)) n
+of_run bytes (Done n) = Whole (Item.Blank (take n bytes)) n
+of_run bytes run = Needs
 
 -- behind a backslash any one character is plain
 abbrev pub of_escaped : Front → First
@@ -74,13 +63,13 @@ abbrev pub of_body : List Symbol → List Inner → ℕ → Body → First
 of_body name parts n Opens = Needs
 of_body name parts n (Fails kind) = Faulty (Bad kind)
 of_body name parts n (Closes more m) =
-    Whole (item.Chunk (record { name = name; content = parts ++ more })) (n + m)
+    Whole (Item.Chunk (record { name = name; content = parts ++ more })) (n + m)
 
 -- behind ^ a unit goes on to its $
 abbrev pub of_unit : Rest → First
 of_unit Lacks = Needs
 of_unit (Wrong kind) = Faulty (Bad kind)
-of_unit (Ends words n) = Whole (item.Unit words) (1 + n)
+of_unit (Ends words n) = Whole (Item.Unit words) (1 + n)
 
 -- behind ^ the name of a chunk goes on to its {, behind which the content stands
 abbrev pub of_chunk : List ℕ → Rest → First
@@ -105,10 +94,8 @@ first dialect (b ∷ bs) =
     (of_char dialect (char_at (b ∷ bs)))))
 
 abbrev pub last_run : List ℕ → Run → Last
-last_run bytes Open = Complete (item.Blank bytes)
-last_run bytes Inside = Broken (Bad Unfinished)
-last_run bytes BadChar = Broken (Bad Unfinished)
-last_run bytes (Done n) = Broken (Bad Unfinished)
+last_run bytes Open = Complete (Item.Blank bytes)
+last_run bytes run = Broken (Bad Unfinished)
 
 -- where the text ends, a blank may be whole, and nothing else that needs more is
 unfoldable pub last : List ℕ → Last
@@ -119,15 +106,13 @@ last (b ∷ bs) = cond (begins_blank b) (last_run (b ∷ bs) (blank 0 (b ∷ bs)
 -- what one byte more than the limit shows: an item of just so many bytes that this byte ends is
 -- whole, and all else is too long
 abbrev pub at_limit : ℕ → First → First
-at_limit most Needs = Faulty (Past ItemTooLong)
 at_limit most (Whole thing n) = cond (leb n most) (Whole thing n) (Faulty (Past ItemTooLong))
-at_limit most (Faulty kind) = Faulty (Past ItemTooLong)
+at_limit most next = Faulty (Past ItemTooLong)
 
 -- an item that the bytes within the limit decide is what they say
 abbrev pub past : ℕ → First → First → First
 past most Needs next = at_limit most next
-past most (Whole thing n) next = Whole thing n
-past most (Faulty kind) next = Faulty kind
+past most within next = within
 
 -- the item at the front, where it may have so many bytes
 unfoldable pub limited : ℕ → Dialect → List ℕ → First

@@ -1,14 +1,14 @@
--- What is still to come of a stage seen as data.
-use Rattle.std.specs.Prelude.{ℕ, ◌+◌, List, [], ◌++◌, length, Option, Some, None, ◌≡◌, refl}
-use Rattle.ap_stream.specs.declared.fault.StreamFault.{StreamFault}
-use Rattle.ap_stream.specs.declared.item.Read.{Read}
-use Rattle.ap_stream.specs.Reading.{reads, Reads}
-use Rattle.ap_stream.specs.Told.{Told, Ending, Clean, Cut, behind, ends_in, or_else, stop_at, Begins, cut_fault, cut_option, cut_told}
-use Rattle.ap_stream.specs.declared.fault.StreamFault.TheVariants.{Malformed, Limit, Memory}
-use Rattle.ap_stream.specs.declared.fault.MalformedKind.TheVariants.{Unfinished, NotUtf8, Stray, BadTag, EmptyWord}
+-- What is still to come of a stage seen as data, and what is true of one that has answered no fault.
+use Rattle.std.specs.Prelude.{ℕ, ◌+◌, List, [], ◌++◌, length, Option, Some, None, ◌≡◌, refl, ◌≢◌, ◌*◌, ◌≤◌, Bool, true, false, cond}
 use Rattle.std.proofs.lemmas.List.{append-nil}
 use Rattle.std.proofs.Common.{sym, ap}
+use Rattle.ap_stream.specs.Types.{StreamFault, Malformed, Unfinished, Dialect}
+use Rattle.ap_stream.specs.Items.{Read}
+use Rattle.ap_stream.specs.Reading.{reads, Reads}
+use Rattle.ap_stream.specs.Told.{Told, Ending, Clean, Cut, behind, ends_in, or_else, stop_at, Begins, cut_fault, cut_option, cut_told}
 use Rattle.ap_stream.specs.Seat.{Seat}
+use Rattle.ap_stream.specs.Limits.{begun_max, stage_max}
+use Rattle.ap_stream.specs.Given.{Begun}
 
 -- What a tool makes of a text that is read item by item: the text of whole items up to the first
 -- that passes a limit, and that limit; where none does, up to where the input stops, and what stops
@@ -59,12 +59,7 @@ rest_pending_first work seat x ending = pending_first_at seat.fault work seat x 
 
 cut_twice : (fault : StreamFault) → cut_option (cut_fault fault) ≡ cut_fault fault
 cut_twice (Malformed Unfinished place) = refl
-cut_twice (Malformed NotUtf8 place) = refl
-cut_twice (Malformed Stray place) = refl
-cut_twice (Malformed BadTag place) = refl
-cut_twice (Malformed EmptyWord place) = refl
-cut_twice (Limit kind place) = refl
-cut_twice Memory = refl
+cut_twice fault = refl
 
 -- where the text was cut, no unfinished item is left
 pub cut_stop : (own stop : Option StreamFault) → cut_option (or_else own (stop_at Cut stop))
@@ -91,3 +86,32 @@ cut_at None work seat x =
 pub rest_at_cut : {H : Type 0} (work : H → List Read → Told) (seat : Seat H) (x : List ℕ) →
     cut_told Cut (rest_of work seat x Cut) ≡ cut_told Cut (rest_of work seat x Clean)
 rest_at_cut work seat x = cut_at seat.fault work seat x
+
+-- no item comes any more, and this is the stop
+abbrev pub only_stop : Option StreamFault → Reads
+only_stop stop = record { items = []; stop = stop }
+
+pub record Sound {H : Type 0} (is_finished : H → Bool) (held : H → ℕ) (dialect : H → Dialect)
+    (handler : H) (reader : Begun) (finished : Bool) (stop : Option StreamFault)
+    (ended : Bool) : Type 0 where
+  pub agrees : is_finished handler ≡ finished
+  pub reads_it : dialect handler ≡ reader.dialect
+  pub bounded : held handler + length reader.held ≤ stage_max
+  pub reader_bounded : length reader.held ≤ begun_max
+  pub reading : finished ≡ false → reader.fault ≡ None
+  pub unstopped : finished ≡ false → stop ≡ None
+  pub at_end : finished ≡ true → reads reader.dialect reader.place reader.held ≡ only_stop stop
+  pub at_stop : finished ≡ true → ended ≡ false → (x : List ℕ) →
+      reads reader.dialect reader.place (reader.held ++ x) ≡ only_stop stop
+  pub stopped : finished ≡ true → ended ≡ false → stop ≢ None
+  pub seen : finished ≡ true → ended ≡ false → (place : ℕ) →
+      stop ≢ Some (Malformed Unfinished place)
+
+-- this text and this ending may still come
+abbrev pub May : {H : Type 0} → Seat H → List ℕ → Ending → Type 0
+May seat x ending = seat.ended ≡ true → (x ≡ []) × (ending ≡ Clean)
+
+-- falls with each step over a piece of which so many bytes are left
+abbrev pub measure : {H : Type 0} → (H → Bool) → (H → ℕ) → Seat H → ℕ → ℕ
+measure finished held seat left =
+    3 * left + 2 * length seat.begun + held seat.handler + cond (finished seat.handler) 0 1

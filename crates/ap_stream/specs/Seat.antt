@@ -2,8 +2,7 @@
 -- the place of the first, what it has pending, whether its input has ended, and the fault that it
 -- has answered.
 use Rattle.std.specs.Prelude.{ℕ, List, Option, Bool}
-use Rattle.ap_stream.specs.declared.dialect.Dialect.{Dialect}
-use Rattle.ap_stream.specs.declared.fault.StreamFault.{StreamFault}
+use Rattle.ap_stream.specs.Types.{Dialect, StreamFault}
 
 pub record Seat (H : Type 0) : Type 0 where
   pub handler : H

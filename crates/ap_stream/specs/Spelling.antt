@@ -2,13 +2,9 @@
 -- rendering of its words.
 use Rattle.std.specs.Prelude.{ℕ, List, [], ◌∷◌, ◌++◌, cond, encode_utf8}
 use Rattle.std.specs.List.{flat_map}
-use Rattle.ap_symbol.specs.declared.symbol.Symbol.{Symbol}
+use Rattle.ap_stream.specs.Types.{Symbol}
 use Rattle.ap_symbol.specs.Rendering.{rendering}
-use Rattle.ap_stream.specs.declared.item.Character.{Character}
-use Rattle.ap_stream.specs.declared.item.Inner.{Inner}
-use Rattle.ap_stream.specs.declared.item.Inner.TheVariants as inner
-use Rattle.ap_stream.specs.declared.item.Item.{Item}
-use Rattle.ap_stream.specs.declared.item.Item.TheVariants.{Plain, Blank, Unit, Chunk}
+use Rattle.ap_stream.specs.Items.{Character, Inner, Item}
 
 -- a backslash before an escaped character
 abbrev pub character_bytes : Character → List ℕ
@@ -26,15 +22,15 @@ abbrev pub unit_bytes : List (List Symbol) → List ℕ
 unit_bytes words = 94 ∷ (joined words ++ 36 ∷ [])
 
 abbrev pub inner_bytes : Inner → List ℕ
-inner_bytes (inner.Unit words) = unit_bytes words
-inner_bytes (inner.Blank bytes) = bytes
+inner_bytes (Inner.Unit words) = unit_bytes words
+inner_bytes (Inner.Blank bytes) = bytes
 
 abbrev pub chunk_bytes : List Symbol → List Inner → List ℕ
 chunk_bytes name content =
     94 ∷ (rendering name ++ (123 ∷ (flat_map inner_bytes content ++ 125 ∷ 36 ∷ [])))
 
 abbrev pub spelled : Item → List ℕ
-spelled (Plain c) = character_bytes c
-spelled (Blank bytes) = bytes
-spelled (Unit words) = unit_bytes words
-spelled (Chunk c) = chunk_bytes c.name c.content
+spelled (Item.Plain c) = character_bytes c
+spelled (Item.Blank bytes) = bytes
+spelled (Item.Unit words) = unit_bytes words
+spelled (Item.Chunk c) = chunk_bytes c.name c.content

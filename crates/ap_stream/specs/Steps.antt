@@ -1,11 +1,8 @@
 -- Tools that go over the items of a text from left to right, step by step; the bytes of items, and
 -- their symbols.
 use Rattle.std.specs.Prelude.{ℕ, zero, suc, ◌+◌, pred, List, [], ◌∷◌, Option, Some, None}
-use Rattle.ap_symbol.specs.declared.symbol.Symbol.{Symbol}
-use Rattle.ap_stream.specs.declared.fault.LimitKind.{LimitKind}
-use Rattle.ap_stream.specs.declared.fault.StreamFault.TheVariants.{Limit}
-use Rattle.ap_stream.specs.declared.item.Item.{Item}
-use Rattle.ap_stream.specs.declared.item.Read.{Read}
+use Rattle.ap_stream.specs.Types.{Symbol, LimitKind, Limit}
+use Rattle.ap_stream.specs.Items.{Item, Read}
 use Rattle.ap_stream.specs.Told.{Told, silent, behind, ends_in}
 
 -- what a step does: it uses so many items and writes this, or it stops at a limit

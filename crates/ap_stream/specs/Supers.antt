@@ -2,18 +2,14 @@
 -- any number of bytes.
 use Rattle.std.specs.Prelude.{ℕ, zero, suc, pred, List, [], ◌∷◌, take, cond, eqb, false}
 use Rattle.std.specs.List.{flat_map}
-use Rattle.ap_stream.specs.declared.dialect.Dialect.{Dialect}
-use Rattle.ap_stream.specs.declared.item.Inner.{Inner}
-use Rattle.ap_stream.specs.declared.item.Inner.TheVariants as inner
-use Rattle.ap_stream.specs.declared.item.Item.{Item}
-use Rattle.ap_stream.specs.declared.item.Item.TheVariants.{Plain, Blank, Unit, Chunk}
-use Rattle.ap_stream.specs.Blanks.{Close, Within, Bad, Closed, closing}
+use Rattle.ap_stream.specs.Types.{Dialect}
+use Rattle.ap_stream.specs.Items.{Inner, Item}
+use Rattle.ap_stream.specs.Blanks.{Close, Closed, closing}
 use Rattle.ap_stream.specs.Reading.{First, Needs, Whole, Faulty, Last, Complete, Broken, first, last}
 
 abbrev pub closed_super : List ℕ → Close → (ℕ → List (List ℕ)) → List (List ℕ)
-closed_super bytes Within more = []
-closed_super bytes Bad more = []
 closed_super bytes (Closed n) more = (91 ∷ take n bytes) ∷ more n
+closed_super bytes close more = []
 
 -- the superblanks of a blank, behind so many bytes
 unfoldable pub blank_supers : ℕ → List ℕ → List (List ℕ)
@@ -24,15 +20,14 @@ blank_supers zero (b ∷ bs) =
     (blank_supers 0 bs)
 
 abbrev pub inner_supers : Inner → List (List ℕ)
-inner_supers (inner.Unit words) = []
-inner_supers (inner.Blank bytes) = blank_supers 0 bytes
+inner_supers (Inner.Unit words) = []
+inner_supers (Inner.Blank bytes) = blank_supers 0 bytes
 
 -- inside a chunk too
 abbrev pub item_supers : Item → List (List ℕ)
-item_supers (Plain c) = []
-item_supers (Blank bytes) = blank_supers 0 bytes
-item_supers (Unit words) = []
-item_supers (Chunk c) = flat_map inner_supers c.content
+item_supers (Item.Blank bytes) = blank_supers 0 bytes
+item_supers (Item.Chunk c) = flat_map inner_supers c.content
+item_supers thing = []
 
 abbrev pub last_item : Last → List Item
 last_item (Complete item) = item ∷ []

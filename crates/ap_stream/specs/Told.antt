@@ -1,8 +1,6 @@
 -- What is still to come of a stage: a text, and a fault or none.
 use Rattle.std.specs.Prelude.{ℕ, List, [], ◌++◌, Option, Some, None, ◌≡◌}
-use Rattle.ap_stream.specs.declared.fault.StreamFault.{StreamFault}
-use Rattle.ap_stream.specs.declared.fault.StreamFault.TheVariants.{Malformed, Limit, Memory}
-use Rattle.ap_stream.specs.declared.fault.MalformedKind.TheVariants.{NotUtf8, Stray, Unfinished, BadTag, EmptyWord}
+use Rattle.ap_stream.specs.Types.{StreamFault, Malformed, Unfinished}
 
 pub record Told : Type 0 where
   pub text : List ℕ
@@ -32,18 +30,12 @@ or_else (Some fault) later = Some fault
 
 -- where the text was cut, it is no fault that an item is unfinished
 abbrev pub cut_fault : StreamFault → Option StreamFault
-cut_fault (Malformed NotUtf8 place) = Some (Malformed NotUtf8 place)
-cut_fault (Malformed Stray place) = Some (Malformed Stray place)
 cut_fault (Malformed Unfinished place) = None
-cut_fault (Malformed BadTag place) = Some (Malformed BadTag place)
-cut_fault (Malformed EmptyWord place) = Some (Malformed EmptyWord place)
-cut_fault (Limit kind place) = Some (Limit kind place)
-cut_fault Memory = Some Memory
+cut_fault fault = Some fault
 
 abbrev pub stop_at : Ending → Option StreamFault → Option StreamFault
-stop_at Clean stop = stop
-stop_at Cut None = None
 stop_at Cut (Some fault) = cut_fault fault
+stop_at ending stop = stop
 
 -- a fault that is left where the text was cut
 abbrev pub cut_option : Option StreamFault → Option StreamFault

@@ -6,7 +6,8 @@ ghost use Rattle.ap_stream.specs.declared.item.Inner.{Inner as InnerIs};
 ghost use Rattle.ap_stream.specs.declared.dialect.Dialect.TheVariants.{Lexical, Chunked};
 ghost use Rattle.ap_stream.specs.Blanks.{Done, blank};
 ghost use Rattle.ap_stream.specs.Chunks.{Closes, behind_part, body};
-ghost use Rattle.ap_stream.specs.ChunkBytes.{ChunkOf, CharSize};
+ghost use Rattle.ap_stream.specs.Stands.{ChunkOf};
+ghost use Rattle.ap_stream.specs.Chars.{CharSize};
 ghost use Rattle.ap_stream.specs.Units.{Stops, name, Reads, sign, Ends, rest, form_of};
 
 use crate::blank::Blank;

@@ -4,7 +4,7 @@ ghost use Rattle.ap_stream.specs.declared.dialect.Dialect.{Dialect};
 ghost use Rattle.ap_stream.specs.declared.item.Read.{Read};
 ghost use Rattle.ap_stream.specs.Blanks.{is_white as white_test};
 ghost use Rattle.ap_stream.specs.Copying.{is_common as common_test, is_copied, IsCommon, IsRun, GivesUnit, GaveUnit, Gives};
-ghost use Rattle.ap_stream.specs.Crossing.{stops_word as stop_test};
+ghost use Rattle.ap_stream.specs.Stands.{stops_word as stop_test};
 ghost use Rattle.ap_stream.specs.Spelling.{spelled};
 ghost use Rattle.ap_stream.specs.Told.{behind};
 ghost use Rattle.ap_stream.specs.UnitBytes.{UnitOf};

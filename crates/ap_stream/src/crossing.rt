@@ -1,5 +1,5 @@
 ghost use Rattle.std.specs.Prelude.{◌≡◌, ◌==◌, ◌||◌, true, ℕ, ◌<◌, ◌≤◌, length, slice_index, take, Some};
-ghost use Rattle.ap_stream.specs.Crossing.{AllGoOn, AllCross, AllCrossIn, is_lone as lone_test, is_named as named_test, parts_at, crossed_by, crossing};
+ghost use Rattle.ap_stream.specs.Stands.{AllGoOn, AllCross, AllCrossIn, is_lone as lone_test, is_named as named_test, parts_at, crossed_by, crossing};
 
 use crate::dialect::Dialect;
 use crate::examine::{Mode, Spot, grown, is_several, is_surface};

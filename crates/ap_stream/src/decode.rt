@@ -1,7 +1,6 @@
 ghost use Rattle.std.specs.Prelude.{◌≡◌, ◌+◌, ◌-◌, ◌*◌, ◌<◌, ◌≤◌, ◌∷◌};
 ghost use Rattle.std.specs.Char.{InScalarRange};
-ghost use Rattle.ap_stream.specs.Chars.{char_at, tail2, tail3, tail4, is_tail as tail_test, is_second as second_test};
-ghost use Rattle.ap_stream.specs.Seen.{front_of};
+ghost use Rattle.ap_stream.specs.Chars.{char_at, tail2, tail3, tail4, is_tail as tail_test, is_second as second_test, front_of};
 
 /// What bytes that may go on begin with: the start of a character, or nothing that begins one, or a
 /// character and the number of its bytes.

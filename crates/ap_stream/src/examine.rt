@@ -1,8 +1,6 @@
 ghost use Rattle.std.specs.Prelude.{◌≡◌, eqb};
-ghost use Rattle.ap_stream.specs.Stands.{Stands, blank_first, escape_first, unit_first, tag_first};
-ghost use Rattle.ap_stream.specs.Units.{is_barred as barred_test};
-ghost use Rattle.ap_stream.specs.InUnits.{surface_at, several_in, braced_in, grown_spot};
-ghost use Rattle.ap_stream.specs.Step.{Stood, Sees, slash_seen, dollar_seen, brace_seen, bare_seen, name_seen};
+ghost use Rattle.ap_stream.specs.Stands.{Stands, blank_first, escape_first, unit_first, tag_first, surface_at, grown_spot, Stood, Sees, slash_seen, dollar_seen, brace_seen, bare_seen, name_seen};
+ghost use Rattle.ap_stream.specs.Units.{is_barred as barred_test, form_of};
 ghost use Rattle.ap_stream.specs.Blanks.{is_white as white_test};
 ghost use Rattle.ap_stream.specs.Dialects.{is_refused as refused_test, is_reserved as reserved_test, has_units as units_test};
 
@@ -193,7 +191,7 @@ pub(crate) fn is_surface(dialect: Dialect, at: Spot) -> bool
 
 /// Whether a unit of the dialect has several words.
 pub(crate) fn is_several(dialect: Dialect) -> bool
-    ensures { result ≡ several_in dialect }
+    ensures { result ≡ (form_of dialect).several }
 {
     matches!(dialect, Dialect::Analysed | Dialect::Bilingual)
 }
@@ -223,7 +221,7 @@ fn see_slash(dialect: Dialect, at: Spot) -> Seen
 
 /// Whether the word behind `^` is a chunk's name.
 fn is_braced(dialect: Dialect) -> bool
-    ensures { result ≡ braced_in dialect }
+    ensures { result ≡ (form_of dialect).braced }
 {
     matches!(dialect, Dialect::Chunked)
 }

@@ -3,7 +3,7 @@
 ghost use Rattle.std.specs.Prelude.{◌≡◌, ◌≤◌, ◌++◌, ◌∷◌, ◌⊎◌, ℕ, List, [], length, bytes_eq, OnOk, IfSome};
 ghost use Rattle.ap_symbol.specs.declared.symbol.Symbol.{Symbol};
 ghost use Rattle.ap_stream.specs.declared.dialect.Dialect.{Dialect};
-ghost use Rattle.ap_stream.specs.KeptUnits.{IsGiven, IsKept, AreKept};
+ghost use Rattle.ap_stream.specs.Each.{IsGiven, IsKept, AreKept};
 ghost use Rattle.ap_stream.specs.UnitBytes.{UnitOf};
 
 use crate::UNIT_MAX;

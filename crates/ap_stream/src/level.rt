@@ -2,8 +2,7 @@ ghost use Rattle.std.specs.Prelude.{◌≡◌, ◌+◌, ◌≤◌, length, take,
 ghost use Rattle.std.proofs.Common.{get_or};
 ghost use Rattle.ap_stream.specs.Chars.{char_at};
 ghost use Rattle.ap_stream.specs.Chunks.{wrong_front};
-ghost use Rattle.ap_stream.specs.Levels.{StoodIn, Tells, item_shown, portion_shown, between};
-ghost use Rattle.ap_stream.specs.Limited.{Looks};
+ghost use Rattle.ap_stream.specs.Stands.{StoodIn, Tells, item_shown, portion_shown, between, Looks};
 
 use crate::UNIT_MAX;
 use crate::decode::{Decoded, decode};

@@ -1,6 +1,6 @@
 ghost use Rattle.std.specs.Prelude.{◌≡◌, ◌++◌, ◌∷◌, List, ℕ, true, IfOk, IfSome};
 ghost use Rattle.std.specs.Str.{bytes_eq};
-ghost use Rattle.ap_stream.specs.Signs.{Heads};
+ghost use Rattle.ap_stream.specs.UnitBytes.{Heads};
 
 use ap_symbol::{Memory, TagName};
 use std::alloc::Global;

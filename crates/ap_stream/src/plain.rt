@@ -1,10 +1,9 @@
 ghost use Rattle.std.specs.Prelude.{◌≡◌, ◌&&◌, eqb, ◌+◌, ◌<◌, ◌≤◌, List, drop, length, true, IfSome, slice_index};
+ghost use Rattle.ap_stream.specs.Units.{form_of};
 ghost use Rattle.std.specs.List.{list_any};
 ghost use Rattle.ap_symbol.specs.declared.symbol.Symbol.{Symbol};
-ghost use Rattle.ap_stream.specs.InUnits.{surface_in};
-ghost use Rattle.ap_stream.specs.PlainBytes.{IsRendered, is_odd, is_stop as stop_test, plain_size as plain_count};
+ghost use Rattle.ap_stream.specs.UnitBytes.{IsRendered, is_odd, is_stop as stop_test, plain_size as plain_count, UnitOf, unit_words};
 ghost use Rattle.ap_stream.specs.Spelling.{unit_bytes};
-ghost use Rattle.ap_stream.specs.UnitBytes.{UnitOf, unit_words};
 
 use crate::dialect::Dialect;
 use crate::words::is_surfaced;
@@ -56,7 +55,7 @@ fn has_at(held: &[u8], at: usize, byte: u8) -> bool
 
 /// Whether the word at a place is a surface.
 fn is_surface_at(dialect: Dialect, at: usize) -> bool
-    ensures { result ≡ (eqb at 0 && surface_in dialect) }
+    ensures { result ≡ (eqb at 0 && (form_of dialect).surface) }
 {
     at == 0 && is_surfaced(dialect)
 }

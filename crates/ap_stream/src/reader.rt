@@ -1,8 +1,13 @@
 ghost use Rattle.std.specs.Prelude.{◌≡◌, ◌≢◌, ℕ, ◌+◌, ◌-◌, ◌<◌, ◌≤◌, List, [], ◌∷◌, ◌++◌, take, drop, length, Some, None, true, false, IfOk, IfErr, OnOk, OnErr, OnSome, IfSome, slice_index};
-ghost use Rattle.ap_stream.specs.Given.{Gives, Stopped, Feeds, Shows, Ends, CanGoOn, NeededMore};
-ghost use Rattle.ap_stream.specs.Levels.{at_blank_in};
+ghost use Rattle.ap_symbol.specs.declared.symbol.Symbol.{Symbol};
 ghost use Rattle.ap_stream.specs.declared.fault.StreamFault.{StreamFault};
-ghost use Rattle.ap_stream.specs.Reading.{counted, reads, stopped, nothing, IsRead};
+ghost use Rattle.ap_stream.specs.declared.item.Chunk.{Chunk as ChunkIs};
+ghost use Rattle.ap_stream.specs.declared.item.Item.TheVariants as ItemIs;
+ghost use Rattle.ap_stream.specs.Stands.{ChunkOf, at_blank_in, Surely};
+ghost use Rattle.ap_stream.specs.Dialects.{has_chunks};
+ghost use Rattle.ap_stream.specs.Given.{Gives, Stopped, Feeds, Shows, Ends, CanGoOn, NeededMore};
+ghost use Rattle.ap_stream.specs.Reading.{Whole, counted, reads, stopped, nothing, IsRead};
+ghost use Rattle.ap_stream.specs.UnitBytes.{UnitOf};
 
 use crate::UNIT_MAX;
 use crate::blank::Blank;
@@ -49,8 +54,7 @@ pub struct Reader {
 impl Model for Reader {
     ghost use Rattle.std.specs.Prelude.{◌≡◌, ◌≤◌, length, None};
     ghost use Rattle.ap_stream.specs.Limits.{begun_max};
-    ghost use Rattle.ap_stream.specs.Begun.{Begun};
-    ghost use Rattle.ap_stream.specs.Given.{Standing};
+    ghost use Rattle.ap_stream.specs.Given.{Begun, Standing};
 
     ghost Value = { Begun };
 
@@ -282,6 +286,138 @@ impl Reader {
         }
     }
 
+    /// Notes a fault, which it answers from then on.
+    fn note(&mut self, fault: StreamFault) -> StreamFault
+        ensures same { result ≡ fault }
+        ensures fault { self.new.fault ≡ Some fault }
+        ensures dialect { self.new.dialect ≡ self.old.dialect }
+        ensures held { self.new.held ≡ self.old.held }
+        ensures place { self.new.place ≡ self.old.place }
+    {
+        self.fault = Some(fault);
+        fault
+    }
+
+    /// Gives this item, which all that it holds is, and begins the next one.
+    fn give(&mut self, item: Item) -> Read
+        requires going { self.old.fault ≡ None }
+        requires some { 0 < length self.old.held }
+        requires short { length self.old.held ≤ UNIT_MAX }
+        requires whole { Surely self.old.dialect self.old.held (Whole item (length self.old.held)) }
+        ensures given { Gives self.old (Some result) self.new }
+        ensures item { IsRead self.old.dialect result }
+        ensures dialect { self.new.dialect ≡ self.old.dialect }
+        ensures held { self.new.held ≡ [] }
+        ensures going { self.new.fault ≡ None }
+    {
+        let read = Read {
+            item,
+            place: self.place,
+            size: self.held.len() as u64,
+        };
+        self.place = place_after(self.place, read.size);
+        self.held.clear();
+        self.level = Level::Item(Mode::Start);
+        self.done = 0;
+        self.looked = true;
+        read
+    }
+
+    /// Gives the unit that all that it holds is, and begins the next item.
+    fn unit(&mut self) -> Result<Option<Read>, StreamFault>
+        requires going { self.old.fault ≡ None }
+        requires short { length self.old.held ≤ UNIT_MAX }
+        requires unit { (words : List (List Symbol)) × UnitOf self.old.dialect self.old.held words }
+        ensures given { IfOk result (λ item. Gives self.old item self.new) }
+        ensures item { IfOk result (λ item. IfSome item (IsRead self.old.dialect)) }
+        ensures some { IfOk result (λ item. item ≢ None) }
+        ensures dialect { self.new.dialect ≡ self.old.dialect }
+        ensures short { OnOk result (length self.new.held ≤ 1) }
+        ensures holds { length self.new.held ≤ UNIT_MAX + 1 }
+        ensures going { OnOk result (self.new.fault ≡ None) }
+        ensures fault { IfErr result (λ f. (f ≡ StreamFault.Memory) × (self.new.fault ≡ Some f)) }
+    {
+        let bytes = match all_out(self.alloc, &mut self.held) {
+            Ok(bytes) => bytes,
+            Err(_) => {
+                self.fault = Some(StreamFault::Memory);
+                return Err(StreamFault::Memory);
+            }
+        };
+        let read = Read {
+            size: bytes.len() as u64,
+            item: Item::Unit(Unit::from_bytes(self.alloc, self.dialect, bytes)),
+            place: self.place,
+        };
+        self.place = place_after(self.place, read.size);
+        self.level = Level::Item(Mode::Start);
+        self.done = 0;
+        self.looked = true;
+        Ok(Some(read))
+    }
+
+    /// Gives the chunk that all that it holds is, and begins the next item.
+    fn chunk(&mut self) -> Result<Option<Read>, StreamFault>
+        requires going { self.old.fault ≡ None }
+        requires some { 0 < length self.old.held }
+        requires short { length self.old.held ≤ UNIT_MAX }
+        requires chunks { has_chunks self.old.dialect ≡ true }
+        requires chunk { (chunk : ChunkIs) × ChunkOf self.old.held chunk }
+        ensures given { IfOk result (λ item. Gives self.old item self.new) }
+        ensures item { IfOk result (λ item. IfSome item (IsRead self.old.dialect)) }
+        ensures some { IfOk result (λ item. item ≢ None) }
+        ensures dialect { self.new.dialect ≡ self.old.dialect }
+        ensures short { OnOk result (length self.new.held ≤ 1) }
+        ensures holds { length self.new.held ≤ UNIT_MAX + 1 }
+        ensures going { OnOk result (self.new.fault ≡ None) }
+        ensures fault { IfErr result (λ f. (f ≡ StreamFault.Memory) × (self.new.fault ≡ Some f)) }
+    {
+        match chunk_of(self.alloc, &mut self.names, self.held.as_slice()) {
+            Ok(chunk) => Ok(Some(self.give(Item::Chunk(chunk)))),
+            Err(_) => {
+                self.fault = Some(StreamFault::Memory);
+                Err(StreamFault::Memory)
+            }
+        }
+    }
+
+    /// Gives so many bytes as a blank, and holds the byte behind them, which ended it: the next item
+    /// begins with it.
+    fn blank(&mut self, count: usize) -> Result<Option<Read>, StreamFault>
+        requires going { self.old.fault ≡ None }
+        requires looked { self.old.looked ≡ false }
+        requires some { 0 < count }
+        requires one { length self.old.held ≡ count + 1 }
+        requires short { count ≤ UNIT_MAX }
+        requires whole { Surely self.old.dialect self.old.held
+            (Whole (ItemIs.Blank (take count self.old.held)) count) }
+        ensures given { IfOk result (λ item. Gives self.old item self.new) }
+        ensures item { IfOk result (λ item. IfSome item (IsRead self.old.dialect)) }
+        ensures some { IfOk result (λ item. item ≢ None) }
+        ensures dialect { self.new.dialect ≡ self.old.dialect }
+        ensures short { OnOk result (length self.new.held ≤ 1) }
+        ensures holds { length self.new.held ≤ UNIT_MAX + 1 }
+        ensures going { OnOk result (self.new.fault ≡ None) }
+        ensures fault { IfErr result (λ f. (f ≡ StreamFault.Memory) × (self.new.fault ≡ Some f)) }
+    {
+        let blank = match cut(self.alloc, &mut self.held, count) {
+            Ok(blank) => blank,
+            Err(_) => {
+                self.fault = Some(StreamFault::Memory);
+                return Err(StreamFault::Memory);
+            }
+        };
+        let read = Read {
+            item: Item::Blank(blank),
+            place: self.place,
+            size: count as u64,
+        };
+        self.place = place_after(self.place, read.size);
+        self.level = Level::Item(Mode::Start);
+        self.done = 0;
+        Ok(Some(read))
+    }
+
     /// Looks at the last byte, if it has not been looked at.
     fn step(&mut self) -> Result<Option<Read>, StreamFault>
         requires going { self.old.fault ≡ None }
@@ -303,7 +439,9 @@ impl Reader {
         if self.looked {
             return Ok(None);
         }
-        let shown = look(self.dialect, self.level, self.done, self.held.as_slice());
+        let place = self.place;
+        let done = self.done;
+        let shown = look(self.dialect, self.level, done, self.held.as_slice());
         match shown {
             Shown::Waits => {
                 self.looked = true;
@@ -315,91 +453,14 @@ impl Reader {
                 self.looked = true;
                 Ok(None)
             }
-            Shown::Bad(kind) => {
-                let fault = StreamFault::Malformed {
-                    kind,
-                    place: self.place,
-                };
-                self.fault = Some(fault);
-                Err(fault)
-            }
+            Shown::Plain(character) => Ok(Some(self.give(Item::Plain(character)))),
+            Shown::UnitEnds => self.unit(),
+            Shown::ChunkEnds => self.chunk(),
+            Shown::BlankEnds => self.blank(done),
+            Shown::Bad(kind) => Err(self.note(StreamFault::Malformed { kind, place })),
             Shown::TooLong => {
-                let fault = StreamFault::Limit {
-                    kind: LimitKind::ItemTooLong,
-                    place: self.place,
-                };
-                self.fault = Some(fault);
-                Err(fault)
-            }
-            Shown::Plain(character) => {
-                let read = Read {
-                    item: Item::Plain(character),
-                    place: self.place,
-                    size: self.held.len() as u64,
-                };
-                self.place = place_after(self.place, read.size);
-                self.held.clear();
-                self.level = Level::Item(Mode::Start);
-                self.done = 0;
-                self.looked = true;
-                Ok(Some(read))
-            }
-            Shown::UnitEnds => {
-                let bytes = match all_out(self.alloc, &mut self.held) {
-                    Ok(bytes) => bytes,
-                    Err(_) => {
-                        self.fault = Some(StreamFault::Memory);
-                        return Err(StreamFault::Memory);
-                    }
-                };
-                let read = Read {
-                    size: bytes.len() as u64,
-                    item: Item::Unit(Unit::from_bytes(self.alloc, self.dialect, bytes)),
-                    place: self.place,
-                };
-                self.place = place_after(self.place, read.size);
-                self.level = Level::Item(Mode::Start);
-                self.done = 0;
-                self.looked = true;
-                Ok(Some(read))
-            }
-            Shown::ChunkEnds => {
-                let chunk = match chunk_of(self.alloc, &mut self.names, self.held.as_slice()) {
-                    Ok(chunk) => chunk,
-                    Err(_) => {
-                        self.fault = Some(StreamFault::Memory);
-                        return Err(StreamFault::Memory);
-                    }
-                };
-                let read = Read {
-                    item: Item::Chunk(chunk),
-                    place: self.place,
-                    size: self.held.len() as u64,
-                };
-                self.place = place_after(self.place, read.size);
-                self.held.clear();
-                self.level = Level::Item(Mode::Start);
-                self.done = 0;
-                self.looked = true;
-                Ok(Some(read))
-            }
-            Shown::BlankEnds => {
-                let blank = match cut(self.alloc, &mut self.held, self.done) {
-                    Ok(blank) => blank,
-                    Err(_) => {
-                        self.fault = Some(StreamFault::Memory);
-                        return Err(StreamFault::Memory);
-                    }
-                };
-                let read = Read {
-                    item: Item::Blank(blank),
-                    place: self.place,
-                    size: self.done as u64,
-                };
-                self.place = place_after(self.place, read.size);
-                self.level = Level::Item(Mode::Start);
-                self.done = 0;
-                Ok(Some(read))
+                let kind = LimitKind::ItemTooLong;
+                Err(self.note(StreamFault::Limit { kind, place }))
             }
         }
     }

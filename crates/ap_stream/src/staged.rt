@@ -3,8 +3,7 @@ ghost use Rattle.ap_stream.specs.declared.fault.StreamFault.{StreamFault};
 ghost use Rattle.ap_stream.specs.declared.fault.MalformedKind.{MalformedKind};
 ghost use Rattle.ap_stream.specs.declared.TheConstants.{SPAN_MAX, UNIT_MAX};
 ghost use Rattle.ap_stream.specs.Told.{Told, Ending, Clean, Cut, silent, behind, ends_in, Begins};
-ghost use Rattle.ap_stream.specs.Rest.{rest_of, held_of, rest_at_fault, rest_at_cut, rest_pending_first};
-ghost use Rattle.ap_stream.specs.Sound.{May, measure};
+ghost use Rattle.ap_stream.specs.Rest.{rest_of, held_of, rest_at_fault, rest_at_cut, rest_pending_first, May, measure};
 ghost use Rattle.ap_stream.specs.Copying.{IsOpen, IsIdle};
 ghost use Rattle.ap_stream.specs.Fronts.{IsFresh};
 
@@ -53,7 +52,7 @@ impl<H: Handler + Drop> Model for Staged<H> {
     ghost use Rattle.std.specs.Prelude.{◌≡◌, ◌≤◌, drop, length, None};
     ghost use Rattle.ap_stream.specs.Limits.{stage_max};
     ghost use Rattle.ap_stream.specs.Seat.{Seat};
-    ghost use Rattle.ap_stream.specs.Sound.{Sound};
+    ghost use Rattle.ap_stream.specs.Rest.{Sound};
 
     ghost Value = { Seat H };
 

@@ -1,7 +1,8 @@
 ghost use Rattle.std.specs.Prelude.{◌≡◌, ◌<◌, ◌≤◌, List, length, take, true};
 ghost use Rattle.ap_symbol.specs.declared.symbol.Symbol.{Symbol};
 ghost use Rattle.ap_stream.specs.UnitBytes.{UnitOf};
-ghost use Rattle.ap_stream.specs.Copying.{EndsUnit, IsWhite};
+ghost use Rattle.ap_stream.specs.Copying.{IsWhite};
+ghost use Rattle.ap_stream.specs.Stands.{EndsUnit};
 
 use crate::crossing::{Crossed, unit_run};
 use crate::dialect::Dialect;

@@ -2,10 +2,8 @@ ghost use Rattle.std.specs.Prelude.{◌≡◌, ◌&&◌, eqb, ◌+◌, ◌<◌, 
 ghost use Rattle.ap_symbol.specs.Words.{is_word_symbol};
 ghost use Rattle.ap_symbol.specs.declared.symbol.Symbol.{Symbol};
 ghost use Rattle.ap_stream.specs.Chars.{char_at};
-ghost use Rattle.ap_stream.specs.Units.{sign, of_bare, of_escape, of_name, name, is_none as none_before};
-ghost use Rattle.ap_stream.specs.InUnits.{surface_in};
-ghost use Rattle.ap_stream.specs.UnitBytes.{UnitOf, unit_words, IsAt};
-ghost use Rattle.ap_stream.specs.Signs.{IsName, Signs, bare_of_test};
+ghost use Rattle.ap_stream.specs.Units.{sign, of_bare, of_escape, of_name, name, is_none as none_before, bare_of, form_of};
+ghost use Rattle.ap_stream.specs.UnitBytes.{UnitOf, unit_words, IsAt, IsName, Signs};
 
 use crate::decode::{Decoded, decode};
 use crate::dialect::Dialect;
@@ -37,7 +35,7 @@ pub(crate) enum Signed {
 
 #[inline(always)]
 fn bare_of(surface: bool, letter: char) -> Symbol
-    ensures value { result ≡ bare_of_test surface letter }
+    ensures value { result ≡ bare_of surface letter }
     ensures word_symbol { IsTrue (is_word_symbol result) }
 {
     if surface {
@@ -166,7 +164,7 @@ pub(crate) fn sign_at(
 }
 
 pub(crate) fn is_surfaced(dialect: Dialect) -> bool
-    ensures { result ≡ surface_in dialect }
+    ensures { result ≡ (form_of dialect).surface }
 {
     matches!(dialect, Dialect::Analysed)
 }

@@ -7,16 +7,14 @@ use Rattle.std.proofs.lemmas.Option.{same_Some, slice_get_within}
 use Rattle.ap_symbol.specs.declared.symbol.Symbol.{Symbol}
 use Rattle.ap_fst.specs.Lists.{IsIn}
 use Rattle.ap_fst.specs.Machines.{Machine}
-use Rattle.ap_fst.specs.declared.label.Label.{Label}
 use Rattle.ap_fst.specs.declared.label.Edge.{Edge}
-use Rattle.ap_trim.specs.Numbers.{HasNumber, Keeps}
+use Rattle.ap_trim.specs.Numbers.{Keeps}
 use Rattle.ap_trim.specs.Products.{HasSight, GoesOn, IsTarget, Follow, AddsOuts}
 use Rattle.ap_trim.specs.Stepping.{BeginsWith, IsGoodSight}
 use Rattle.ap_trim.specs.Watching.{Sight, lemma, tags, sight_of}
 use Rattle.ap_trim.specs.declared.pairs.Pair.{Pair}
 use Rattle.ap_trim.specs.declared.watch.Watch.{Watch}
 use Rattle.ap_trim.specs.declared.watch.Watch.TheVariants as watch
-use Rattle.ap_trim.proofs.Numbered.{number_keeps, number_fresh}
 use Rattle.ap_trim.proofs.Steps.{IsMapped, mapped}
 
 pub keeps_same : {X : Type 0} (xs : List X) → Keeps xs xs
@@ -201,39 +199,3 @@ module _ (b : Machine) (w : Watch) (n : ℕ) where
         | inr ge ↦ g.sights i pair ge at
       ];
     }
-
-  pub out_added : (exit : Edge) (old_sets sets : List (List ℕ)) (old_pairs pairs : List Pair)
-      (old new : List Edge) (next : Watch) (to : ℕ) (label : Label) → Keeps old_sets sets →
-      GoesOn b sets w next (option_to_list exit.label.right)
-      → HasNumber old_pairs pairs (record { state = exit.to; watch = next }) to →
-      label ≡ exit.label → new ≡ old ++ record { from = n; label = label; to = to } ∷ [] →
-      AddsOuts b w n (exit ∷ []) old_sets sets old_pairs pairs old new
-  out_added exit old_sets sets old_pairs pairs old new next to label k goes h same grown =
-      let pair : Pair = record { state = exit.to; watch = next } in
-      let edge : Edge = record { from = n; label = label; to = to } in
-      record {
-        outs = edge ∷ [];
-        grown = grown;
-        follow = (
-          (
-            refl,
-            record {
-              label_is = same;
-              target = pair;
-              target_at = h.at;
-              state_is = refl;
-              goes = goes;
-            },
-          ),
-          tt,
-        );
-        keeps_sets = k;
-        keeps_pairs = number_keeps old_pairs pairs pair to h;
-        sights = λ i other le at.
-            let lt : i < length pairs = slice_get_within pairs i other at in
-            let here : i ≡ to = number_fresh old_pairs pairs pair to h i other at le lt in
-            let own : pair ≡ other = same_Some pair other
-            (sym h.at ∙ ap (slice_get pairs) (sym here) ∙ at) in
-            subst (λ (z : Pair). HasSight sets z.watch) own
-            (record { sight = goes.new; at = goes.new_at });
-      }

@@ -1,10 +1,9 @@
 -- Numbers that are given to keys of a set in order.
-use Rattle.std.proofs.Common.{◌≡◌, inl, inr, ℕ, ◌+◌, ◌<◌, ◌≤◌, suc, not, Bool, true, false, List, [], ◌∷◌, length, refl, sym, ◌∙◌, ap, subst, arith, Some}
+use Rattle.std.proofs.Common.{◌≡◌, inl, inr, ℕ, ◌+◌, suc, not, Bool, true, false, List, [], ◌∷◌, length, refl, sym, ◌∙◌, ap, subst, arith, Some}
 use Rattle.std.specs.Prelude.{slice_get}
 use Rattle.std.specs.List.{list_any, position_or_len}
 use Rattle.indexmap.specs.IndexSet.{insert_key}
 use Rattle.std.proofs.lemmas.Bool.{cases_Bool, cond-true, cond-false, or_parts, not_from_false}
-use Rattle.std.proofs.lemmas.List.{length_push}
 use Rattle.ap_fst.proofs.Listing.{place_front}
 use Rattle.ap_det.specs.Numbered.{IsNumbered}
 use Rattle.ap_trim.specs.Numbers.{HasNumber, Keeps}
@@ -37,16 +36,6 @@ number_keeps {X} old new x number n i y h = elim n.grew [
   | inl e ↦ subst (λ (z : List X). slice_get z i ≡ Some y) (sym e) h
   | inr e ↦ subst (λ (z : List X). slice_get z i ≡ Some y) (sym e.1)
       (place_front old (x ∷ []) i y h)
-]
-
--- no other number is new
-pub number_fresh : {X : Type 0} (old new : List X) (x : X) (number : ℕ) →
-    HasNumber old new x number → (i : ℕ) (y : X) → slice_get new i ≡ Some y → length old ≤ i →
-    i < length new → i ≡ number
-number_fresh old new x number n i y at from below = elim n.grew [
-  | inl e ↦ let l : length new ≡ length old = ap length e in absurd (omega (arith, l, from, below))
-  | inr e ↦ let l : length new ≡ length old + 1 = ap length e.1 ∙ length_push old x in
-      let k : number ≡ length old = e.0 in omega (arith, l, from, below, k)
 ]
 
 -- sets are numbered so too

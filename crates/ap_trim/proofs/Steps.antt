@@ -1,7 +1,7 @@
 -- Steps from a watch to the next one.
-use Rattle.std.proofs.Common.{◌≡◌, ℕ, ◌<◌, Bool, true, false, List, [], ◌∷◌, ◌++◌, length, refl, sym, ◌∙◌, ap, subst, append-nil, Option, Some, None}
-use Rattle.std.specs.Prelude.{◌↔◌, IsTrue, slice_get, option_map}
-use Rattle.std.proofs.lemmas.Option.{same_Some, none-some, slice_get_within}
+use Rattle.std.proofs.Common.{◌≡◌, ℕ, true, false, List, [], ◌∷◌, ◌++◌, refl, sym, ◌∙◌, ap, subst, Option, Some, None}
+use Rattle.std.specs.Prelude.{◌↔◌, slice_get, option_map}
+use Rattle.std.proofs.lemmas.Option.{same_Some, none-some}
 use Rattle.ap_symbol.specs.Kinds.{is_tag, is_joint}
 use Rattle.ap_symbol.specs.declared.symbol.Symbol.{Symbol}
 use Rattle.ap_fst.specs.Lists.{IsIn}
@@ -9,16 +9,16 @@ use Rattle.ap_fst.specs.Machines.{Machine}
 use Rattle.ap_det.specs.Numbered.{IsNumbered}
 use Rattle.ap_det.specs.Subsets.{HoldsFinal}
 use Rattle.ap_trim.specs.Numbers.{Keeps}
-use Rattle.ap_trim.specs.Products.{HasSight, GoesOn}
+use Rattle.ap_trim.specs.Products.{GoesOn}
 use Rattle.ap_trim.specs.Reading.{AreRead, FitsTo, Quietly}
-use Rattle.ap_trim.specs.Stepping.{BeginsWith, StepsTo, GoesBehind, IsGoodSight}
-use Rattle.ap_trim.specs.Watching.{kept, lemma, tags, Sees, IsGood}
+use Rattle.ap_trim.specs.Stepping.{BeginsWith, StepsTo, GoesBehind}
+use Rattle.ap_trim.specs.Watching.{kept, lemma, tags}
 use Rattle.ap_trim.specs.declared.watch.Watch.{Watch}
 use Rattle.ap_trim.specs.declared.watch.Watch.TheVariants as watch
 use Rattle.ap_trim.proofs.Lemmas.{any_front, any_back, any_neither, any_one}
 use Rattle.ap_trim.proofs.Numbered.{number_keeps, set_number}
 use Rattle.ap_trim.proofs.Readings.{reads_start, reads_next, whole_read}
-use Rattle.ap_trim.proofs.Watches.{kept_on, kept_joint, kept_at_tag, kept_whole, untaken_next, no_front_tagged, no_front_lemma}
+use Rattle.ap_trim.proofs.Watches.{kept_at_tag, kept_whole, untaken_next, no_front_tagged, no_front_lemma}
 
 -- ---- the set that a number names
 
@@ -31,22 +31,6 @@ pub mapped : {X Y : Type 0} (f : X → Y) (o : Option X) (y : Y) → option_map 
     IsMapped f o y
 mapped f None y h = absurd (none-some y h)
 mapped f (Some x) y h = record { source = x; source_is = refl; image = sym (same_Some (f x) y h) }
-
-pub lemma_within_sets : (sets : List (List ℕ)) (w : Watch) (n : ℕ) → w ≡ watch.Lemma n →
-    HasSight sets w → n < length sets
-lemma_within_sets sets w n e h =
-    let k : HasSight sets (watch.Lemma n) = subst (HasSight sets) e h in
-    let p : IsMapped lemma (slice_get sets n) k.sight =
-    mapped lemma (slice_get sets n) k.sight k.at in
-    slice_get_within sets n p.source p.source_is
-
-pub tags_within_sets : (sets : List (List ℕ)) (w : Watch) (n : ℕ) → w ≡ watch.Tags n →
-    HasSight sets w → n < length sets
-tags_within_sets sets w n e h =
-    let k : HasSight sets (watch.Tags n) = subst (HasSight sets) e h in
-    let p : IsMapped tags (slice_get sets n) k.sight = mapped tags (slice_get sets n) k.sight k.at
-    in
-    slice_get_within sets n p.source p.source_is
 
 module _ (m : Machine) where
   -- ---- the beginning
@@ -167,57 +151,4 @@ module _ (m : Machine) where
           (any_neither is_joint word (x ∷ []) h.unjoined (any_one is_joint x false unjoined))
           (no_front_tagged m word x h.tagged h.untaken);
     }
-
-    pub joint_on : (sets : List (List ℕ)) (w : Watch) → HasSight sets w → is_joint x ≡ true →
-        GoesOn m sets w watch.Kept (x ∷ [])
-    joint_on sets w s j = record {
-      old = s.sight;
-      old_at = s.at;
-      new = kept;
-      new_at = refl;
-      sees =
-          λ word h. kept_joint m word x j;
-    }
-
-    pub kept_goes : (sets : List (List ℕ)) → GoesOn m sets watch.Kept watch.Kept (x ∷ [])
-    kept_goes sets = record {
-      old = kept;
-      old_at = refl;
-      new = kept;
-      new_at = refl;
-      sees =
-          λ word h. kept_on m word (x ∷ []) h;
-    }
-
-  pub stays_on : (sets : List (List ℕ)) (w : Watch) → HasSight sets w → GoesOn m sets w w []
-  stays_on sets w s = record {
-    old = s.sight;
-    old_at = s.at;
-    new = s.sight;
-    new_at = s.at;
-    sees =
-        λ word h. subst (Sees m s.sight) (sym (append-nil word)) h;
-  }
-
-  -- ---- the end
-
-  pub kept_good : (sets : List (List ℕ)) → IsGoodSight m sets watch.Kept
-  kept_good sets = record { sight = kept; at = refl; good = tt }
-
-  pub lemma_good : (sets : List (List ℕ)) (n : ℕ) (now : List ℕ) (b : Bool) →
-      slice_get sets n ≡ Some now → (IsTrue b ↔ HoldsFinal m now) → IsTrue b ↔
-      IsGoodSight m sets (watch.Lemma n)
-  lemma_good sets n now b at h = (
-    λ t. record { sight = lemma now; at = ap (option_map lemma) at; good = h.0 t },
-    λ g.
-        let p : IsMapped lemma (slice_get sets n) g.sight =
-        mapped lemma (slice_get sets n) g.sight g.at in
-        h.1 (subst (HoldsFinal m) (same_Some p.source now (sym p.source_is ∙ at))
-        (subst (IsGood m) p.image g.good)),
-  )
-
-  pub tags_bad : (sets : List (List ℕ)) (n : ℕ) → IsGoodSight m sets (watch.Tags n) → ⊥
-  tags_bad sets n g =
-      let p : IsMapped tags (slice_get sets n) g.sight =
-      mapped tags (slice_get sets n) g.sight g.at in
-      subst (IsGood m) p.image g.good
+    -- ---- the end

@@ -3,7 +3,7 @@ use Rattle.std.proofs.Common.{◌≡◌, inl, inr, ℕ, ◌+◌, ◌≤◌, true
 use Rattle.std.specs.Prelude.{◌↔◌}
 use Rattle.std.proofs.lemmas.Bool.{cases_lt, true≢false}
 use Rattle.std.proofs.lemmas.List.{take_all}
-use Rattle.ap_symbol.specs.Kinds.{is_tag, is_joint}
+use Rattle.ap_symbol.specs.Kinds.{is_tag}
 use Rattle.ap_symbol.specs.declared.symbol.Symbol.{Symbol}
 use Rattle.ap_fst.specs.Machines.{Machine}
 use Rattle.ap_det.specs.Subsets.{HoldsFinal}
@@ -11,19 +11,10 @@ use Rattle.ap_lookup.specs.Translation.{lemma_length}
 use Rattle.ap_trim.specs.Reading.{ReadsWhole}
 use Rattle.ap_trim.specs.Stepping.{HasNoFront}
 use Rattle.ap_trim.specs.Watching.{IsTaken, IsKeptBy, has_tag, Sight, kept, lemma, tags, IsLemma, Sees, IsGood}
-use Rattle.ap_trim.proofs.Lemmas.{any_front, any_back, any_one, lemma_untagged, lemma_at_tag, lemma_tagged, lemma_within, take_front}
+use Rattle.ap_trim.proofs.Lemmas.{lemma_untagged, lemma_at_tag, lemma_tagged, lemma_within, take_front}
 use Rattle.ap_trim.proofs.Readings.{whole_read}
 
 module _ (m : Machine) where
-  pub kept_on : (word side : List Symbol) → Sees m kept word → Sees m kept (word ++ side)
-  kept_on word side h = λ more. subst (λ (z : List Symbol). IsKeptBy m z)
-      (sym (append_assoc word side more)) (h (side ++ more))
-
-  pub kept_joint : (word : List Symbol) (x : Symbol) → is_joint x ≡ true →
-      Sees m kept (word ++ x ∷ [])
-  kept_joint word x j = λ more. inl (any_front is_joint (word ++ x ∷ []) more
-      (any_back is_joint word (x ∷ []) (any_one is_joint x true j)))
-
   front_kept : (word more : List Symbol) (n : ℕ) → n ≤ length word →
       lemma_length (word ++ more) ≤ n → ReadsWhole m (take n word) → IsKeptBy m (word ++ more)
   front_kept word more n le whole w =

@@ -2,7 +2,7 @@
 //! time of a test.
 use crate::Status;
 use crate::tests::long::{Long, check_all};
-use crate::tests::rows::bad_dictionary;
+use crate::tests::rows::{bad_dictionary, limit};
 use std::test::Fail;
 
 const OPEN: &[Long] = &[Long {
@@ -133,4 +133,82 @@ const MACROS: &[Long] = &[Long {
 #[test]
 fn macros_call_one_another(rt: HostRuntime) -> Result<(), Fail> {
     check_all(&rt, rt.alloc(), MACROS)
+}
+
+/// Of a word that a paradigm of two entries gives twenty times, 2 ^ 20 translations and 2 ^ 20
+/// forms: more bytes than a unit may have.
+const TWENTY: &[Long] = &[
+    Long {
+        words: "lt-proc -b F",
+        name: "F",
+        file: &[
+            (
+                "<dictionary><pardefs><pardef n=\"p\"><e><p><l>a</l><r>x</r></p></e><e><p><l>a</l><r>y</r></p></e></pardef></pardefs>",
+                1,
+            ),
+            ("<section id=\"m\" type=\"standard\"><e>", 1),
+            ("<par n=\"p\"/>", 20),
+            ("</e></section></dictionary>", 1),
+        ],
+        input: &[("^", 1), ("a", 20), ("$", 1)],
+        cut: 7,
+        take: 0,
+        status: limit!(1, 3, 0),
+        out: &[],
+        message: "apertium: stage 1: byte 0: limit 3 UnitTooLong\n",
+    },
+    Long {
+        words: "lt-proc -g F",
+        name: "F",
+        file: &[
+            (
+                "<dictionary><pardefs><pardef n=\"p\"><e><p><l>x</l><r>a</r></p></e><e><p><l>y</l><r>a</r></p></e></pardef></pardefs>",
+                1,
+            ),
+            ("<section id=\"m\" type=\"standard\"><e>", 1),
+            ("<par n=\"p\"/>", 20),
+            ("</e></section></dictionary>", 1),
+        ],
+        input: &[("^", 1), ("a", 20), ("$", 1)],
+        cut: 7,
+        take: 0,
+        status: limit!(1, 3, 0),
+        out: &[],
+        message: "apertium: stage 1: byte 0: limit 3 UnitTooLong\n",
+    },
+];
+
+#[test]
+fn a_million_translations_are_too_long(rt: HostRuntime) -> Result<(), Fail> {
+    check_all(&rt, rt.alloc(), TWENTY)
+}
+
+/// Of an alarm and a word that a paradigm of two entries gives twenty times the least of 2 ^ 20
+/// right words is written.
+const LEAST: &[Long] = &[Long {
+    words: "lt-proc -p F",
+    name: "F",
+    file: &[
+        (
+            "<dictionary><pardefs><pardef n=\"p\"><e><p><l>a</l><r>y</r></p></e><e><p><l>a</l><r>x</r></p></e></pardef></pardefs>",
+            1,
+        ),
+        (
+            "<section id=\"m\" type=\"standard\"><e><p><l><a/></l><r></r></p>",
+            1,
+        ),
+        ("<par n=\"p\"/>", 20),
+        ("</e></section></dictionary>", 1),
+    ],
+    input: &[("~", 1), ("a", 20)],
+    cut: 7,
+    take: 0,
+    status: Status::Done,
+    out: &[("x", 20)],
+    message: "",
+}];
+
+#[test]
+fn the_least_of_a_million_words_is_written(rt: HostRuntime) -> Result<(), Fail> {
+    check_all(&rt, rt.alloc(), LEAST)
 }

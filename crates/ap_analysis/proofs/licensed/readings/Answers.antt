@@ -1,5 +1,4 @@
-use Rattle.std.proofs.Common.{◌≡◌, ap, ◌∙◌, List, map}
-use Rattle.ap_symbol.specs.declared.symbol.Symbol.{Symbol}
+use Rattle.std.proofs.Common.{◌≡◌, ap, ◌∙◌, map}
 use Rattle.ap_fst.specs.declared.compiled.Kind2.TheVariants.{Inconditional, Postblank, Preblank}
 use Rattle.ap_symbol.specs.Recasing.{carry_lem}
 use Rattle.ap_symbol.specs.Words.{AreProper}

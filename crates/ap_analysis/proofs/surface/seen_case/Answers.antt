@@ -1,5 +1,4 @@
-use Rattle.std.proofs.Common.{ap, sym, ◌∙◌, refl, List, Bool, true, false, ◌≡◌}
-use Rattle.ap_symbol.specs.Recasing.{carry_lem}
+use Rattle.std.proofs.Common.{ap, ◌∙◌, List}
 use Rattle.ap_symbol.specs.declared.symbol.Symbol.{Symbol}
 use Rattle.ap_live.specs.Readings.{carried}
 use Rattle.ap_analysis.specs.Licence.{surface}

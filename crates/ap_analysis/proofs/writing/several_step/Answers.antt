@@ -1,4 +1,4 @@
-use Rattle.std.proofs.Common.{arith, ◌≡◌, ap, ◌∙◌, length, ◌++◌}
+use Rattle.std.proofs.Common.{arith, ◌≡◌, ap, ◌∙◌, length, ◌++◌, Ok, refl, true}
 use Rattle.std.specs.Prelude.{nat_lt}
 use Rattle.ap_fst.specs.declared.compiled.Kind2.TheVariants.{Preblank, Postblank}
 use Rattle.ap_stream.specs.Limits.{unit_max}
@@ -7,7 +7,7 @@ use Rattle.ap_live.specs.Lexicon.{lexicon_of}
 use Rattle.ap_analysis.specs.Items.{symbol_of}
 use Rattle.ap_analysis.specs.Licence.{surface}
 use Rattle.ap_analysis.specs.Analysis.{known_unit, known_text, readings_at, space_at, swallowed}
-use Rattle.ap_analysis.proofs.Writings.{four_texts, unit_stops, unit_gives, unit_same}
+use Rattle.ap_analysis.proofs.Writings.{four_texts, unit_stops, unit_gives, unit_over, unit_same}
 use Rattle.ap_analysis.proofs.writing.several_step.Goals as goal
 use Rattle.ap_analysis.proofs.writing.several_step.Goals.{After-is_too_long}
 
@@ -30,6 +30,18 @@ long : (c : After-is_too_long) →
 long c = c.is_too_long.ensures c.push_space.new.text
     (known_unit (lexicon_of c.args.compiled.now c.args.sensitive) c.args.sensitive c.args.reads.now
     c.args.count) (written c) (ap length c.as_slice-before.ensures)
+
+pub is_told_too_long-requires-clause-seen : goal.is_told_too_long-requires-clause-seen
+is_told_too_long-requires-clause-seen c = (c.args.piece.now, c.requires.seen)
+
+pub returns-then-branch : goal.returns-then-branch
+returns-then-branch c =
+    let lexicon = lexicon_of c.args.compiled.now c.args.sensitive in
+    unit_stops (known_unit lexicon c.args.sensitive c.args.reads.now c.args.count)
+    (known_text lexicon c.args.sensitive c.args.reads.now c.args.count) c.args.count true
+    (unit_over (surface c.args.reads.now c.args.count)
+    (readings_at lexicon c.args.sensitive c.args.reads.now c.args.count)
+    (c.is_told_too_long.ensures (c.in_ok-is_told_too_long.was ∙ ap Ok c.if-branch.true))) refl
 
 pub readings-requires-clause-seen : goal.readings-requires-clause-seen
 readings-requires-clause-seen c = (c.args.piece.now, c.requires.seen)

@@ -1,14 +1,15 @@
-use Rattle.std.proofs.Common.{◌≡◌, ◌∙◌, ◌-◌, List, arith, length, sym, subst}
+use Rattle.std.proofs.Common.{◌-◌, List, arith, length, sym, subst}
 use Rattle.ap_dix.specs.declared.dictionary.EntryPart.{EntryPart}
-use Rattle.ap_compile.specs.Gatherings.{endings, Gathers, AreSoundParts}
-use Rattle.ap_compile.proofs.Gathered.{closed_less, endings_length, gathered_on, sound_take}
+use Rattle.ap_compile.specs.Drafts.{AreDraftedParts}
+use Rattle.ap_compile.specs.Gatherings.{endings, Gathers}
+use Rattle.ap_compile.proofs.Gathered.{closed_less, endings_length, gathered_on, drafted_take}
 use Rattle.ap_compile.proofs.gathering.closed_to.Goals as goal
 
 pub with_last_closed-requires : goal.with_last_closed-requires
 with_last_closed-requires c =
-    subst (AreSoundParts (length c.args.drafts.now)) (sym c.loop.invariant.ends)
-    (sound_take (length c.args.drafts.now) (length c.args.gathering.levels.items - c.loop.counter)
-    (endings c.args.gathering.levels.items) c.requires.sound)
+    subst (AreDraftedParts c.args.drafts.now) (sym c.loop.invariant.ends)
+    (drafted_take c.args.drafts.now (length c.args.gathering.levels.items - c.loop.counter)
+    (endings c.args.gathering.levels.items) c.requires.drafted)
 
 pub loop-preserved : goal.loop-preserved
 loop-preserved c =

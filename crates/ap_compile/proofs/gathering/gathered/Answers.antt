@@ -4,7 +4,7 @@ use Rattle.ap_compile.proofs.gathering.gathered.Goals as goal
 
 pub loop-place-preserved : goal.loop-place-preserved
 loop-place-preserved c = record {
-  sound = c.in_ok-gathering.ensures.sound;
+  drafted = c.in_ok-gathering.ensures.drafted;
   strings = λ d are. place_more d c.args.direction
       (SpellsFrom d c.args.direction c.args.entries.now) c.args.places.now c.place-item.result
       c.place-item.result c.loop-place.place-index c.loop-place.gathering

@@ -1,18 +1,19 @@
-use Rattle.std.proofs.Common.{◌≡◌, ◌∙◌, ◌++◌, length, sym, subst, true}
+use Rattle.std.proofs.Common.{◌≡◌, ◌∙◌, ◌++◌, sym, subst, true}
 use Rattle.ap_dix.specs.Derivation.{Derives}
-use Rattle.ap_compile.specs.Gatherings.{endings, Gathers, AreSoundParts}
-use Rattle.ap_compile.proofs.Gathered.{entry_gathered, gathered_on, grown, grown_same, shared_sound, tail_sound}
+use Rattle.ap_compile.specs.Drafts.{AreDraftedParts}
+use Rattle.ap_compile.specs.Gatherings.{endings, Gathers}
+use Rattle.ap_compile.proofs.Gathered.{entry_gathered, gathered_on, grown, grown_same, shared_drafted, tail_drafted}
 use Rattle.ap_compile.proofs.gathering.with_entry.Goals as goal
 
-pub returns-clause-sound : goal.returns-clause-sound
-returns-clause-sound c =
+pub returns-clause-drafted : goal.returns-clause-drafted
+returns-clause-drafted c =
     let whole : c.args.entry.now.parts ≡ c.split_tail.result.0.now ++ c.split_tail.result.1.now =
     sym c.as_slice.ensures ∙ c.split_tail.ensures in
-    subst (AreSoundParts (length c.args.drafts.now))
+    subst (AreDraftedParts c.args.drafts.now)
     (sym (grown_same c.in_ok-ready.ready c.in_ok-more.more c.in_ok-all.all c.in_ok-all.ensures))
-    (shared_sound (length c.args.drafts.now) (endings c.in_ok-ready.ready.levels.items)
+    (shared_drafted c.args.drafts.now (endings c.in_ok-ready.ready.levels.items)
     c.split_tail.result.1.now c.in_ok-ready.ensures.shared
-    (tail_sound (length c.args.drafts.now) c.args.entry.now.parts c.split_tail.result.0.now
+    (tail_drafted c.args.drafts.now c.args.entry.now.parts c.split_tail.result.0.now
     c.split_tail.result.1.now whole c.requires.entry))
 
 pub returns-clause-strings : goal.returns-clause-strings

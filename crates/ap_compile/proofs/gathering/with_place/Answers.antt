@@ -1,6 +1,6 @@
-use Rattle.std.proofs.Common.{sym, length}
+use Rattle.std.proofs.Common.{sym}
 use Rattle.std.proofs.lemmas.Result.{IfOk-weaker}
-use Rattle.ap_dix.specs.Soundness.{is_sound_entry}
+use Rattle.ap_compile.specs.Drafts.{is_drafted_entry}
 use Rattle.ap_compile.proofs.Gathered.{place_passed, place_gathered, all_got}
 use Rattle.ap_compile.proofs.gathering.with_place.Goals as goal
 
@@ -18,5 +18,5 @@ returns-in-Some-clause-strings c =
 
 pub with_entry-requires-clause-entry : goal.with_entry-requires-clause-entry
 with_entry-requires-clause-entry c =
-    all_got (is_sound_entry (length c.args.drafts.now)) c.args.entries.now c.args.place.now.entry
+    all_got (is_drafted_entry c.args.drafts.now) c.args.entries.now c.args.place.now.entry
     c.in-Some.entry.now (sym c.in-Some.ensures) c.requires.entries

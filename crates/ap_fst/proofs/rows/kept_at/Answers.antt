@@ -9,8 +9,8 @@ returns-in_default c = λ m s here loud led. absurd (none-some m (c.in_default.e
 pub returns-then-is_some : goal.returns-then-is_some
 returns-then-is_some c = λ m s here loud led. c.number_at.ensures ∙ led
 
-pub returns-then-quiet_from-gt1 : goal.returns-then-quiet_from-gt1
-returns-then-quiet_from-gt1 c = λ m s here loud led. absurd (not_loud c.args.moves.now c.args.at c.in-Some.next.now m
+pub returns-then-is_shared : goal.returns-then-is_shared
+returns-then-is_shared c = λ m s here loud led. absurd (not_loud c.args.moves.now c.args.at c.in-Some.next.now m
     c.in-Some.ensures here (search rules) loud)
 
 pub returns : goal.returns

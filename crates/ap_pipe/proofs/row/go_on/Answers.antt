@@ -1,4 +1,4 @@
-use Rattle.std.proofs.Common.{true}
+use Rattle.std.proofs.Common.{true, false}
 use Rattle.ap_pipe.proofs.Rows as rows
 use Rattle.ap_pipe.proofs.row.go_on.Goals as goal
 
@@ -14,6 +14,14 @@ returns-then-turned-clause-ran g c =
     c.args.stations.now c.turns.new.stations c.flows.new.stations true c.in_ok-flowed.flowed
     (record { sound = h.sound; same = h.rest; order = rw c.if-turned.true at h.ranking })
     c.in_ok-flowed.ensures.ran)
+
+pub returns-else-turned-clause-ran : goal.returns-else-turned-clause-ran
+returns-else-turned-clause-ran g c =
+    let h = c.in_ok-turned.ensures in
+    rows.ran_on g.S.Stage g.met.S.Stage.at_fault g.met.S.Stage.at_cut c.args.closed
+    c.args.stations.now c.turns.new.stations c.flows.new.stations false c.in_ok-flowed.flowed
+    (record { sound = h.sound; same = h.rest; order = rw c.if-turned.false at h.ranking })
+    c.in_ok-flowed.ensures.ran
 
 pub returns-then-turned-clause-holds : goal.returns-then-turned-clause-holds
 returns-then-turned-clause-holds g c =

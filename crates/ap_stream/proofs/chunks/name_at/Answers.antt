@@ -4,7 +4,7 @@ use Rattle.ap_stream.proofs.SignLaws as laws
 use Rattle.ap_stream.proofs.ChunkWalk as walk
 use Rattle.ap_stream.specs.Units.{sign}
 use Rattle.ap_stream.proofs.UnitLaws.{longer_zero}
-use Rattle.ap_stream.specs.Signs.{Signs}
+use Rattle.ap_stream.specs.UnitBytes.{Signs}
 use Rattle.ap_stream.specs.declared.words.Signed.{Signed}
 use Rattle.ap_stream.proofs.chunks.name_at.Goals.{In_ok-symbol}
 use Rattle.ap_stream.proofs.chunks.name_at.Goals as goal

@@ -1,5 +1,5 @@
 use Rattle.std.proofs.Common.{ap, sym, ◌∙◌}
-use Rattle.ap_stream.specs.Seen.{front_of}
+use Rattle.ap_stream.specs.Chars.{front_of}
 use Rattle.ap_stream.proofs.Copied.{is_common_at}
 use Rattle.ap_stream.proofs.Cut.{char_size}
 use Rattle.ap_stream.proofs.copying.common_size.Goals as goal

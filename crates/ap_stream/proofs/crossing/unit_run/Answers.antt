@@ -1,6 +1,6 @@
 use Rattle.std.proofs.Common.{◌∙◌, ap, sym, get_or, take}
 use Rattle.std.proofs.lemmas.List.{take_more}
-use Rattle.ap_stream.specs.Crossing.{crossing}
+use Rattle.ap_stream.specs.Stands.{crossing}
 use Rattle.ap_stream.proofs.Crossed.{crossing_more, crossing_none}
 use Rattle.ap_stream.proofs.crossing.unit_run.Goals as goal
 

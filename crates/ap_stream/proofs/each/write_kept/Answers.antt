@@ -3,7 +3,7 @@ use Rattle.ap_stream.proofs.UnitWords.{words_are}
 use Rattle.ap_stream.proofs.each.write_kept.Goals as goal
 
 pub returns-in_ok-extend-in-Some-clause-text : goal.returns-in_ok-extend-in-Some-clause-text
-returns-in_ok-extend-in-Some-clause-text g c =
+returns-in_ok-extend-in-Some-clause-text g c = λ _.
     let given = g.W.UnitWriter.given c.args.writer.now in
     let key = c.args.key.now in
     let is = c.in-Some.ensures c.args.dialect given c.requires.kept in

@@ -6,7 +6,7 @@ use Rattle.ap_stream.proofs.each.write_new.Goals as goal
 pub returns-clause-kept : goal.returns-clause-kept
 returns-clause-kept g c =
     let given = g.W.UnitWriter.given c.write_unit.new.writer in
-    let all = c.as_slice.ensures ∙ c.in_ok-write_unit.ensures.text in
+    let all = c.as_slice.ensures ∙ c.in_ok-write_unit.ensures.text (cc) in
     let text : drop (length c.as_slice-before.result.now) c.as_slice.result.now
     ≡ g.W.UnitWriter.given c.args.writer.now c.args.unit.now =
     rw (all, c.as_slice-before.ensures)

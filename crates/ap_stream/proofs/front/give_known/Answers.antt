@@ -1,7 +1,7 @@
-use Rattle.std.proofs.Common.{arith, refl, ap, ◌≡◌, ◌-◌, ◌≤◌, ◌<◌, ◌+◌, ◌∙◌, length, length-drop, drop}
+use Rattle.std.proofs.Common.{arith, refl, ◌≤◌, ◌+◌, ◌∙◌, length-drop}
 use Rattle.std.proofs.lemmas.Grind.{common_steps}
 use Rattle.std.proofs.lemmas.List.{take_rest}
-use Rattle.ap_stream.proofs.FrontLaws.{none_given, next_given, next_gave, after_room}
+use Rattle.ap_stream.proofs.FrontLaws.{none_given, next_given, after_room}
 use Rattle.ap_stream.proofs.front.give_known.Goals as goal
 
 pub loop-room-init : goal.loop-room-init

@@ -1,4 +1,4 @@
-use Rattle.std.proofs.Common.{arith, refl, ap, ◌≡◌, ◌-◌, ◌≤◌, ◌<◌, ◌+◌, ◌∙◌, length, length-drop, drop}
+use Rattle.std.proofs.Common.{arith, refl, ◌≤◌, ◌+◌, ◌∙◌, length-drop}
 use Rattle.std.proofs.lemmas.Grind.{common_steps}
 use Rattle.std.proofs.lemmas.List.{take_rest}
 use Rattle.ap_stream.proofs.FrontLaws.{none_given, next_given, next_gave}

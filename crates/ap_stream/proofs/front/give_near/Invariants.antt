@@ -1,4 +1,4 @@
-use Rattle.std.proofs.Common.{◌≡◌, ℕ, ◌-◌, ◌≤◌, ◌*◌, ◌<◌, List, take, length}
+use Rattle.std.proofs.Common.{◌≡◌, ◌-◌, ◌≤◌, take, length}
 use Rattle.ap_stream.specs.Fronts.{GivesFront}
 use Rattle.ap_stream.proofs.front.give_near.Given as goal
 

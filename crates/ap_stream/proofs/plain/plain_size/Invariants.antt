@@ -1,5 +1,5 @@
 use Rattle.std.proofs.Common.{◌≡◌, ◌+◌, ◌-◌, ◌≤◌, length, drop}
-use Rattle.ap_stream.specs.PlainBytes.{plain_size}
+use Rattle.ap_stream.specs.UnitBytes.{plain_size}
 use Rattle.ap_stream.proofs.plain.plain_size.Given as goal
 
 abbrev pub invariant-loop-at : goal.invariant-loop-at

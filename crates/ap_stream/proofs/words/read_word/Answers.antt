@@ -4,8 +4,7 @@ use Rattle.std.proofs.Common.{length-append, Bool}
 use Rattle.std.proofs.lemmas.Bool.Decides.{nat_tests}
 use Rattle.std.proofs.lemmas.Bool.{eqb-true}
 use Rattle.ap_stream.specs.Units.{sign, in_surface, form_of, Dollar}
-use Rattle.ap_stream.specs.UnitBytes.{IsAt, unit_words}
-use Rattle.ap_stream.specs.Signs.{Signs}
+use Rattle.ap_stream.specs.UnitBytes.{IsAt, unit_words, Signs}
 use Rattle.ap_stream.specs.declared.words.Signed.{Signed}
 use Rattle.ap_stream.proofs.SignLaws as laws
 use Rattle.ap_stream.proofs.UnitWords as units

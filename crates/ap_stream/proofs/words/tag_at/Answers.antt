@@ -1,7 +1,7 @@
 use Rattle.std.proofs.Common.{◌≡◌, ◌+◌, length, ap, sym, ◌∙◌, refl, arith}
 use Rattle.ap_symbol.specs.declared.symbol.Symbol.TheVariants as symbol
 use Rattle.ap_stream.specs.Units.{Reads}
-use Rattle.ap_stream.specs.Signs.{Heads}
+use Rattle.ap_stream.specs.UnitBytes.{Heads}
 use Rattle.ap_stream.proofs.KeptNames.{heads_tag}
 use Rattle.ap_stream.proofs.words.tag_at.Goals as goal
 

@@ -3,7 +3,7 @@ use Rattle.std.proofs.lemmas.List.{length-drop}
 use Rattle.ap_stream.proofs.SignLaws as laws
 use Rattle.ap_stream.proofs.UnitWords.{words_are}
 use Rattle.ap_stream.specs.Units.{sign, in_surface, form_of}
-use Rattle.ap_stream.specs.Signs.{Signs}
+use Rattle.ap_stream.specs.UnitBytes.{Signs}
 use Rattle.ap_stream.specs.declared.words.Signed.{Signed}
 use Rattle.ap_stream.proofs.words.words_of.Goals as goal
 use Rattle.ap_stream.proofs.words.words_of.Goals.{In_ok-symbol}

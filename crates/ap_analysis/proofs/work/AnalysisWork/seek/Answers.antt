@@ -21,6 +21,7 @@ invariant_of-self c = (
       c.self.inside.items c.sought-made.ensures.search,
   c.self.invariant.2,
   c.self.invariant.3,
+  c.self.invariant.4,
 )
 
 pub invariant_of-self-in-None : goal.invariant_of-self-in-None
@@ -30,6 +31,7 @@ invariant_of-self-in-None c = (
       c.self.inside.items c.sought-made.ensures.search,
   c.self.invariant.2,
   c.self.invariant.3,
+  c.self.invariant.4,
 )
 
 pub invariant_of-self-in_err-found-in-Some : goal.invariant_of-self-in_err-found-in-Some
@@ -39,6 +41,7 @@ invariant_of-self-in_err-found-in-Some c = (
       c.self.inside.items c.sought-made.ensures.search,
   c.self.invariant.2,
   c.self.invariant.3,
+  c.self.invariant.4,
 )
 
 pub invariant_of-self-in-Some : goal.invariant_of-self-in-Some
@@ -53,6 +56,7 @@ invariant_of-self-in-Some c = (
       IsFrontStep (lexicon_of c.self.inside.compiled c.self.inside.sensitive)
       c.self.inside.sensitive (step_by c.args.piece.now key c.sought-made.new.text)))
       c.in-Some.is c.in_ok-made.ensures.step)) c.self.invariant.3,
+  c.self.invariant.4,
 )
 
 pub returns-in_ok-found-in-Some-clause-gave : goal.returns-in_ok-found-in-Some-clause-gave

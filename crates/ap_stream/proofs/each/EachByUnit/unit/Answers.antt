@@ -10,13 +10,14 @@ returns-clause-wrote g c = λ ok.
     c.in_ok-extend_from_slice.ensures.items
     ∙ ap (λ (q : List ℕ). q ++ c.args.bytes.now) c.clear.ensures.items in
     let is = rw room at c.from_bytes-unit.ensures in
+    let text = c.in_ok-is_written.ensures.text (cc) in
     let size : leb (length c.as_slice.result.now - length c.as_slice-before.result.now) unit_max
     ≡ true = cc in
     let few = rw (c.as_slice.ensures, c.as_slice-before.ensures) at size in (
       _,
-      c.in_ok-write_new.ensures.text,
+      text,
       laws.unit_gives g.W.UnitWriter.given c.args.self.now c.self.inside.writer c.write_new.new.writer
           c.self.inside.dialect c.self.inside.item c.self.inside.finished c.self.view_is
-          c.requires.none c.in_ok-write_new.ensures.same c.args.bytes.now _ is
-          (laws.few_appended _ _ _ c.in_ok-write_new.ensures.text few),
+          c.requires.none c.in_ok-is_written.ensures.same c.args.bytes.now _ is
+          (laws.few_appended _ _ _ text few),
     )

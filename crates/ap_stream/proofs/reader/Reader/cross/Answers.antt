@@ -1,7 +1,7 @@
 use Rattle.std.proofs.Common.{arith, ap, ◌∙◌, ◌≡◌, ◌<◌, ◌≤◌, ◌++◌, ◌-◌, length, take, None, vec_len}
 use Rattle.std.proofs.lemmas.Grind.{common_steps}
 use Rattle.ap_stream.specs.Limits.{unit_max}
-use Rattle.ap_stream.specs.Begun.{Begun}
+use Rattle.ap_stream.specs.Given.{Begun}
 use Rattle.ap_stream.proofs.Crossed as crossing
 use Rattle.ap_stream.proofs.reader.Reader.cross.Goals as goal
 

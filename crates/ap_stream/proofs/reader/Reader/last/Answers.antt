@@ -1,8 +1,8 @@
 use Rattle.std.proofs.Common.{arith, ap, sym, ◌∙◌, refl, ◌≡◌, ◌<◌, ◌≤◌, [], length, take, drop, None}
 use Rattle.std.proofs.lemmas.Grind.{common_steps}
 use Rattle.ap_stream.specs.Limits.{unit_max}
-use Rattle.ap_stream.specs.Begun.{Begun}
-use Rattle.ap_stream.specs.Levels.{StandsIn}
+use Rattle.ap_stream.specs.Given.{Begun}
+use Rattle.ap_stream.specs.Stands.{StandsIn}
 use Rattle.ap_stream.proofs.GivenLaws as given
 use Rattle.ap_stream.proofs.reader.Reader.last.Goals as goal
 use Rattle.ap_stream.proofs.reader.Reader.last.Goals.{Else-is_empty}

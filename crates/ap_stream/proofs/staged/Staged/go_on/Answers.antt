@@ -1,5 +1,4 @@
-use Rattle.std.proofs.Common.{arith, ap, refl, sym, subst, ◌∙◌, ◌≡◌, ◌≤◌, ◌<◌, ◌+◌, ℕ, List, ◌++◌, length, take, drop, min}
-use Rattle.std.proofs.lemmas.List.{length-take}
+use Rattle.std.proofs.Common.{arith, ap, subst, ◌∙◌, ◌≡◌, ◌≤◌, ◌<◌, ℕ, List, ◌++◌, length, take}
 use Rattle.ap_stream.specs.Fronts.{GivesFront}
 use Rattle.ap_stream.specs.Seat.{Seat}
 use Rattle.ap_stream.proofs.FrontLaws as lemmas

@@ -1,4 +1,4 @@
-use Rattle.std.proofs.Common.{arith, ◌∙◌, refl}
+use Rattle.std.proofs.Common.{arith, ◌∙◌}
 use Rattle.std.proofs.lemmas.Grind.{common_steps}
 use Rattle.ap_stream.proofs.Stop.{take_on}
 use Rattle.ap_stream.proofs.staged.Staged.run.Goals as goal

@@ -1,6 +1,5 @@
 use Rattle.std.proofs.Common.{◌≡◌, ℕ, ◌+◌, ◌-◌, ◌≤◌, List, [], ◌++◌, take, length, false, None}
-use Rattle.ap_stream.specs.Rest.{rest_of}
-use Rattle.ap_stream.specs.Sound.{measure}
+use Rattle.ap_stream.specs.Rest.{rest_of, measure}
 use Rattle.ap_stream.specs.Told.{Ending}
 use Rattle.ap_stream.proofs.staged.Staged.run.Given as goal
 

@@ -1,7 +1,6 @@
 use Rattle.std.proofs.Common.{◌≡◌, ℕ, ◌+◌, ◌-◌, ◌<◌, ◌≤◌, List, ◌++◌, take, length, false, None}
 use Rattle.ap_stream.specs.Told.{Ending}
-use Rattle.ap_stream.specs.Rest.{rest_of}
-use Rattle.ap_stream.specs.Sound.{measure}
+use Rattle.ap_stream.specs.Rest.{rest_of, measure}
 use Rattle.ap_stream.proofs.staged.StagedStage.take.Given as goal
 
 abbrev pub invariant-loop-self : goal.invariant-loop-self
