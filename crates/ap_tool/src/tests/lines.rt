@@ -124,13 +124,13 @@ const ANSWERS: &[Answers] = &[
     },
     Answers {
         words: "run -B 1 MONO BI T1 T2 T3 GEN POST",
-        kept: 3,
+        kept: 0,
         lines: SAID,
         given: GIVEN,
     },
     Answers {
         words: "text MONO BI T1 T2 T3 GEN POST",
-        kept: 3,
+        kept: 0,
         lines: SAID,
         given: GIVEN,
     },
