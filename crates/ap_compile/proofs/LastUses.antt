@@ -24,9 +24,6 @@ use Rattle.ap_compile.proofs.Gathered.{both_true}
 
 -- last uses become no earlier
 
-pub later_same : (last : List ℕ) → AreLater last last
-later_same last = record { count = refl; each = λ n. omega arith }
-
 pub later_on : (a b c : List ℕ) → AreLater a b → AreLater b c → AreLater a c
 later_on a b c h k = record {
   count = k.count ∙ h.count;
@@ -89,11 +86,6 @@ sections_more sections i section s at old new lt is later h noted =
         | inr z ↦ elim z [ ]
       ]
     ]
-
-pub pardefs_later : (pardefs : List Pardef) (old new : List ℕ) → AreLater old new →
-    CoverPardefs old pardefs → CoverPardefs new pardefs
-pardefs_later pardefs old new later h =
-    λ k q at. used_later (paradigms_in q.entries) k old new later (h k q at)
 
 -- what is sound has drafts, where the paradigms that it names have
 
@@ -170,60 +162,6 @@ all_drafted d direction last drafts are uses sound =
 
 -- drafts are let go
 
-pub released_none : (last : List ℕ) (at : ℕ) (drafts : List (Option Sketch)) →
-    AreReleased last at drafts drafts
-released_none last at drafts = record {
-  count = refl;
-  same = λ n lt. refl;
-  some = λ n draft h. h;
-}
-
-pub released_on : (last : List ℕ) (at : ℕ) (a b c : List (Option Sketch)) →
-    AreReleased last at a b → AreReleased last at b c → AreReleased last at a c
-released_on last at a b c h k = record {
-  count = k.count ∙ h.count;
-  same = λ n lt. k.same n lt ∙ h.same n lt;
-  some = λ n draft is. h.some n draft (k.some n draft is);
-}
-
-set_same : {X : Type 0} (xs : List X) (n : ℕ) (x : X) → n < length xs →
-    slice_get (slice_set xs n x) n ≡ Some x
-set_same [] n x lt = absurd (omega arith)
-set_same (y ∷ xs) zero x lt = refl
-set_same (y ∷ xs) (suc n) x lt = set_same xs n x (omega arith)
-
-set_other : {X : Type 0} (xs : List X) (n m : ℕ) (x : X) → m ≢ n →
-    slice_get (slice_set xs n x) m ≡ slice_get xs m
-set_other [] n m x d = refl
-set_other (y ∷ xs) zero zero x d = absurd (omega arith)
-set_other (y ∷ xs) zero (suc m) x d = refl
-set_other (y ∷ xs) (suc n) zero x d = refl
-set_other (y ∷ xs) (suc n) (suc m) x d = set_other xs n m x (omega arith)
-
-set_length : {X : Type 0} (xs : List X) (n : ℕ) (x : X) → length (slice_set xs n x) ≡ length xs
-set_length [] n x = refl
-set_length (y ∷ xs) zero x = refl
-set_length (y ∷ xs) (suc n) x = ap suc (set_length xs n x)
-
-pub released_one : (last : List ℕ) (at n : ℕ) (drafts : List (Option Sketch)) →
-    n < length drafts → get_or last n 0 ≤ at →
-    AreReleased last at drafts (slice_set drafts n None)
-released_one last at n drafts lt le = record {
-  count = set_length drafts n None;
-  same = λ m later. elim (cases_eq m n) [
-    | inl e ↦ absurd (let k : get_or last m 0 ≡ get_or last n 0 = ap (λ z. get_or last z 0) e in
-        omega arith)
-    | inr d ↦ set_other drafts n m None d
-  ];
-  some = λ m draft is. elim (cases_eq m n) [
-    | inl e ↦
-        let none : slice_get (slice_set drafts n None) m ≡ Some None =
-        subst (λ (z : ℕ). slice_get (slice_set drafts n None) z ≡ Some None) (sym e)
-        (set_same drafts n None lt) in cc
-    | inr d ↦ sym (set_other drafts n m None d) ∙ is
-  ];
-}
-
 -- the drafts as another paradigm is drafted
 
 snoc_front : {X : Type 0} (xs : List X) (x : X) (k : ℕ) → k < length xs →
@@ -235,14 +173,6 @@ snoc_front (y ∷ xs) x (suc k) lt = snoc_front xs x k (omega arith)
 snoc_last : {X : Type 0} (xs : List X) (x : X) → slice_get (xs ++ x ∷ []) (length xs) ≡ Some x
 snoc_last [] x = refl
 snoc_last (y ∷ xs) x = snoc_last xs x
-
-pub none_drafted : (d : Dictionary) (direction : Direction) (last : List ℕ) →
-    AreDraftsTo d direction last 0 []
-none_drafted d direction last = record {
-  count = refl;
-  made = record { each = λ n draft is. cc };
-  there = λ n lt le. absurd (omega arith);
-}
 
 pub drafted_more : (d : Dictionary) (direction : Direction) (last : List ℕ) (at : ℕ)
     (drafts : List (Option Sketch)) (draft : Option Sketch) (pardef : Pardef) →

@@ -97,12 +97,6 @@ one_thinned case items left left' kept new x e h more only m = record {
   thins = thins_one case h.gone kept new x h.thins more only m;
 }
 
-pub all_thinned : (case : Case) (items left kept : List Item) → left ≡ [] →
-    AreThinned case items left kept → Thins case items kept
-all_thinned case items left kept e h =
-    subst (λ (z : List Item). Thins case z kept)
-    (sym (h.whole ∙ ap (λ (z : List Item). z ++ h.gone) e)) h.thins
-
 -- what is kept so far is of the items
 pub thinned_in : (case : Case) (items left kept : List Item) (x : Item) →
     AreThinned case items left kept → IsIn x kept → IsIn x items

@@ -17,14 +17,6 @@ use Rattle.ap_live.proofs.WayLaws.{reach_way, way_reach}
 
 -- ---- the states of nodes
 
-pub no_states : (nodes : List Node) (low : ℕ) (states : List ℕ) → states ≡ [] →
-    AreStatesOf nodes low low states
-no_states nodes low states e = record {
-  sound = λ s i. elim (subst (λ (z : List ℕ). IsIn s z) e i) [ ];
-  complete = λ s h. let from : low ≤ h.at = h.from in let below : h.at < low = h.below in
-      absurd (omega arith);
-}
-
 states_longer : (nodes : List Node) (low high high' s : ℕ) → high ≤ high' →
     HasState nodes low high s → HasState nodes low high' s
 states_longer nodes low high high' s le h = record {

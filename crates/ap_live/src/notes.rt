@@ -7,7 +7,10 @@ use ap_symbol::Memory;
 use std::alloc::Global;
 use std::marker::Model;
 
-/// Notes have so many chains; a place stands in that of its remainder.
+/// Of so many places in a row one may have notes.
+pub(crate) const STRIDE: usize = 8;
+
+/// Notes have so many chains; a place that may have notes stands in that of its remainder.
 const CHAINS: usize = 4_096;
 
 /// So many notes of a chain are looked at, at most.
@@ -42,6 +45,11 @@ impl Model for Notes {
     ghost Value = { List Note };
 
     ghost view = { λ n. n.list.items };
+}
+
+/// Where the chain of a place stands.
+fn chain_of(place: usize) -> usize {
+    place / STRIDE % CHAINS
 }
 
 /// Gives each chain its place, where that isn't done yet.
@@ -102,7 +110,7 @@ impl Notes {
 
     /// One more than where the last note of a place's chain stands, or 0.
     pub(crate) fn chain(&self, place: usize) -> usize {
-        match self.chains.get(place % CHAINS) {
+        match self.chains.get(chain_of(place)) {
             None => 0,
             Some(last) => *last,
         }
@@ -128,7 +136,7 @@ impl Notes {
             return;
         }
         self.numbers = self.numbers.saturating_add(numbers);
-        let chain = place % CHAINS;
+        let chain = chain_of(place);
         if chain < self.chains.len() {
             self.chains[chain] = self.list.len();
         }

@@ -3,7 +3,7 @@ ghost use Rattle.ap_fst.specs.Lists.{IsIn};
 ghost use Rattle.ap_live.specs.declared.notes.Note.{Note};
 
 use crate::live_sections::LiveSections;
-use crate::notes::Notes;
+use crate::notes::{Notes, STRIDE};
 use ap_fst::Compiled;
 use std::alloc::Global;
 use std::mem;
@@ -16,7 +16,8 @@ const MOST_NUMBERS: usize = 131_072;
 /// same place need not go on. What comes of it is known by the number that its caller put beside
 /// the note, as how far the earlier walk went on, in vain.
 ///
-/// Places are counted in symbols, from the first held one. It takes memory for some 262,144 numbers
+/// Places are counted in symbols, from the first held one. Only each eighth place of the text has
+/// notes: a walk stands at one after seven symbols at most. It takes memory for some 262,144 numbers
 /// and their lists, at most; then the earlier notes are forgotten.
 #[derive(Drop)]
 pub struct Walked {
@@ -77,14 +78,17 @@ impl Walked {
     }
 
     /// Notes what the walk meets that stands so many symbols behind the first held one, with a
-    /// number beside it. Where a section has more than 64 states or ways there, or there is no
-    /// memory for a note, it isn't noted.
+    /// number beside it. Where the place has no notes, a section has more than 64 states or ways
+    /// there, or there is no memory for a note, it isn't noted.
     pub fn note(&mut self, place: usize, ahead: usize, lives: &LiveSections)
         ensures { AddsNote place ahead lives.now self.old self.new }
     {
         let Some(place) = self.passed.checked_add(place) else {
             return;
         };
+        if place % STRIDE != 0 {
+            return;
+        }
         let Some(met) = lives.met(self.recent.allocator()) else {
             return;
         };
@@ -115,6 +119,9 @@ impl Walked {
             return None;
         }
         let place = self.passed.checked_add(place)?;
+        if place % STRIDE != 0 {
+            return None;
+        }
         if self.recent.chain(place) == 0 && self.earlier.chain(place) == 0 {
             return None;
         }

@@ -92,6 +92,14 @@ few_appended old text new e h =
 over : (n : ℕ) → n ≤ unit_max → nat_lt unit_max n ≡ false
 over n h = grind (arith, nat_tests)
 
+past : (n : ℕ) → unit_max < n → nat_lt unit_max n ≡ true
+past n h = grind (arith, nat_tests)
+
+-- a unit that gives too much
+pub unit_over : (given : List (List Symbol) → List ℕ) (words : List (List Symbol)) →
+    unit_max < length (given words) → is_over given (item.Unit words) ≡ true
+unit_over given words h = past (length (given words)) h
+
 -- a unit that is taken by itself
 pub unit_gives : {W : Type 0} (given : W → List (List Symbol) → List ℕ) (now : Single W)
     (writer after : W) (dialect : Dialect) (held : Option Read) (finished : Bool) →

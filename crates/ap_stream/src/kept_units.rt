@@ -153,7 +153,7 @@ fn free_places(places: &mut Vec<Place>) -> Result<(), Memory> {
 }
 
 /// Whether two lists of bytes are equal.
-fn is_same(a: &[u8], b: &[u8]) -> bool
+pub(crate) fn is_same(a: &[u8], b: &[u8]) -> bool
     ensures { result ≡ bytes_eq a.now b.now }
 {
     a == b

@@ -2,6 +2,7 @@ use Rattle.std.proofs.Common.{ap, ◌∙◌, ◌≡◌, ◌-◌, List, ℕ, ◌+
 use Rattle.std.specs.Prelude.{leb}
 use Rattle.ap_stream.specs.Limits.{unit_max}
 use Rattle.ap_stream.proofs.EachLaws as laws
+use Rattle.ap_stream.proofs.UnitWords.{words_are}
 use Rattle.ap_stream.proofs.each.EachByUnit.unit.Goals as goal
 
 pub returns-clause-wrote : goal.returns-clause-wrote
@@ -20,4 +21,19 @@ returns-clause-wrote g c = λ ok.
           c.self.inside.dialect c.self.inside.item c.self.inside.finished c.self.view_is
           c.requires.none c.in_ok-is_written.ensures.same c.args.bytes.now _ is
           (laws.few_appended _ _ _ text few),
+    )
+
+pub invariant_of-self-then-not-is_written : goal.invariant_of-self-then-not-is_written
+invariant_of-self-then-not-is_written g c =
+    let room : c.extend_from_slice.new.self.items ≡ c.args.bytes.now =
+    c.in_ok-extend_from_slice.ensures.items
+    ∙ ap (λ (q : List ℕ). q ++ c.args.bytes.now) c.clear.ensures.items in
+    let is = rw room at c.from_bytes-unit.ensures in
+    let copy : c.extend_from_slice-then-not-is_written.new.self.items ≡ c.args.bytes.now =
+    c.in_ok-extend_from_slice-2.ensures.items
+    ∙ ap (λ (q : List ℕ). q ++ c.args.bytes.now) c.new-long.ensures.items in (
+      c.self.invariant.0,
+      c.in_ok-is_written.ensures.kept,
+      rw (c.in_ok-is_written.ensures.same, copy, words_are c.self.inside.dialect c.args.bytes.now _ is)
+          (c.in_ok-is_written.ensures.long (cc)),
     )
