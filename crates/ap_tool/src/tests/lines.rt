@@ -49,11 +49,9 @@ impl Source for Lines<'_> {
     }
 }
 
-/// Three lines, and the answer to each; so many bytes at the end of an answer come with the next
-/// line.
+/// Three lines, and the answer to each.
 struct Answers {
     words: &'static str,
-    kept: usize,
     lines: [&'static str; 3],
     given: [&'static str; 3],
 }
@@ -100,43 +98,33 @@ fn answers_each(rt: &impl Abort, alloc: Global, answers: &Answers) -> Result<(),
     let one = first.len();
     let two = one.saturating_add(second.len());
     let three = two.saturating_add(third.len());
-    let kept = answers.kept;
-    let before = [0, one.saturating_sub(kept), two.saturating_sub(kept)];
+    let before = [0, one, two];
     assert!(rt; source.before == before, "of {}", answers.words);
-    assert!(rt;
-        source.at_end == three.saturating_sub(kept),
-        "of {}",
-        answers.words
-    );
+    assert!(rt; source.at_end == three, "of {}", answers.words);
     assert!(rt; put.get() == three, "of {}", answers.words);
     Ok(())
 }
 
-/// A translation is out before the next line is taken: two zero bytes behind a line feed end all
-/// that is held before them, and come with the next line at the latest. A stage gives what it can
-/// before more is taken.
+/// An answer is out before the next line is taken: two zero bytes behind a line feed end all that
+/// is held before them, and come out too.
 const ANSWERS: &[Answers] = &[
     Answers {
         words: "run MONO BI T1 T2 T3 GEN POST",
-        kept: 0,
         lines: SAID,
         given: GIVEN,
     },
     Answers {
         words: "run -B 1 MONO BI T1 T2 T3 GEN POST",
-        kept: 0,
         lines: SAID,
         given: GIVEN,
     },
     Answers {
         words: "text MONO BI T1 T2 T3 GEN POST",
-        kept: 0,
         lines: SAID,
         given: GIVEN,
     },
     Answers {
         words: "transfer T1 BI",
-        kept: 0,
         lines: [
             "^black<adj>$ ^dog<n><sg>$\n\0\0",
             "^black<adj>$\n\0\0",
@@ -150,7 +138,6 @@ const ANSWERS: &[Answers] = &[
     },
     Answers {
         words: "lt-proc -a MONO",
-        kept: 0,
         lines: ["The cat.\n\0\0", "cat\n\0\0", "of x\n\0\0"],
         given: [
             "^The/The<det>$ ^cat/cat<n><sg>$^./.<sent>$\n\0\0",
