@@ -11,4 +11,5 @@ pub mod PostGenerating
 pub mod PostWorks
 pub mod PostCopies
 pub mod PostSearching
+pub mod PostVain
 pub mod PostMeasure

@@ -10,6 +10,7 @@ ghost use Rattle.ap_lookup.specs.PostCopies.{post_copies};
 use crate::post_search::{Search, begins_alarm};
 use crate::post_writing::{Written, alarm_step};
 use ap_fst::Compiled;
+use ap_live::Walked;
 use ap_stream::{Copies, Handler, LimitKind, Queue, Read, SPAN_MAX, StageFault, Turn, write_item};
 use ap_symbol::{Bytes, Memory};
 use std::alloc::Global;
@@ -18,8 +19,9 @@ use std::mem;
 
 /// Post-generation of items (`lt-proc -p`): a `Handler` over the items of a Generated text. At an
 /// alarm, a bare `~`, it holds the items that one match must see together, and looks at each of
-/// them once while further ones come; every other item is copied. The text has room for what a step
-/// writes, which is kept from step to step.
+/// them once while further ones come; every other item is copied. What it met in vain is kept while
+/// the items are held, so that a later search need not go on where it meets the same. The text has
+/// room for what a step writes, which is kept from step to step.
 #[derive(Drop)]
 pub struct PostGenerationWork {
     alloc: Global,
@@ -27,6 +29,7 @@ pub struct PostGenerationWork {
     sensitive: bool,
     items: Queue,
     search: Search,
+    walked: Walked,
     finished: bool,
     text: Bytes,
 }
@@ -46,6 +49,7 @@ impl Model for PostGenerationWork {
     ghost use Rattle.ap_stream.specs.declared.dialect.Dialect.TheVariants.{Generated};
     ghost use Rattle.ap_lookup.specs.PostWorks.{Posting};
     ghost use Rattle.ap_lookup.specs.PostSearching.{IsSearch};
+    ghost use Rattle.ap_lookup.specs.PostVain.{AreVain};
 
     ghost Value = { Posting };
 
@@ -58,7 +62,8 @@ impl Model for PostGenerationWork {
     } };
 
     ghost invariant = { λ w. AllByRecursion (IsRead Generated) w.items
-        × IsSearch w.compiled w.sensitive w.items w.search };
+        × IsSearch w.compiled w.sensitive w.items w.search
+        × AreVain w.compiled w.sensitive w.items w.finished w.walked };
 }
 
 impl PostGenerationWork {
@@ -88,6 +93,7 @@ impl PostGenerationWork {
             sensitive,
             items: Queue::new(alloc),
             search,
+            walked: Walked::new(alloc),
             finished: false,
             text: Bytes::new(alloc),
         })
@@ -103,6 +109,7 @@ impl PostGenerationWork {
     {
         self.items.forget(count);
         self.search.restart();
+        self.walked.pass(count);
         self.text = text;
     }
 
@@ -165,6 +172,7 @@ impl PostGenerationWork {
         write_item(self.alloc, &self.items.as_slice()[0].item, into)?;
         self.items.forget(1);
         self.search.restart();
+        self.walked.pass(1);
         Ok(())
     }
 
@@ -183,10 +191,8 @@ impl PostGenerationWork {
             ≡ length self.old.items) }
     {
         let reads = self.items.as_slice();
-        match self
-            .search
-            .look(&self.compiled, self.sensitive, reads, self.finished)?
-        {
+        let walked = &mut self.walked;
+        match self.search.look(walked, &self.compiled, self.sensitive, reads, self.finished)? {
             None => Ok(None),
             Some(found) => {
                 let text = take_room(self.alloc, &mut self.text);
