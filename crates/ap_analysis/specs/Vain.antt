@@ -1,4 +1,3 @@
--- Of the inside: no public contract stands on this file.
 -- Walks that go on in vain: what an earlier one met tells where a later one ends.
 use Rattle.std.specs.Prelude.{◌≡◌, ◌⊎◌, ℕ, ◌+◌, ◌<◌, ◌≤◌, Bool, true, false, List, ◌++◌, length}
 use Rattle.ap_symbol.specs.declared.symbol.Symbol.{Symbol}

@@ -69,17 +69,6 @@ pub translations_looked_up : (lexicon : Lexicon) (sensitive : Bool) (word : List
 translations_looked_up lexicon sensitive word made m e =
     rw m (ap (λ (t : Translated). translations_by word t.heads t.left) e)
 
--- the unit of a word with translations that have too many bytes
-pub bilingual_long : (word : List Symbol) (words : List (List Symbol)) →
-    unit_max < length (flat_map slashed words) → unit_max < length (unit_bytes (word ∷ words))
-bilingual_long word words h =
-    omega (
-      arith,
-      h,
-      length-append (rendering word) (flat_map slashed words),
-      length-append (rendering word ++ flat_map slashed words) (36 ∷ []),
-    )
-
 -- forms, joined by one slash less than there are forms
 formed_long : (m : Marks) (word : List Symbol) (forms : List (List Symbol)) →
     unit_max + 1 < parted_size forms → unit_max < length (formed m word forms)
