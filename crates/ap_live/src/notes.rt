@@ -16,6 +16,19 @@ const CHAINS: usize = 4_096;
 /// So many notes of a chain are looked at, at most.
 const MOST_LOOKS: usize = 64;
 
+/// A place has so many notes, at most: where as many walks were in other states each, as along one
+/// long entry, a further one won't be in the states of an earlier one either.
+const MOST_OF_PLACE: usize = 16;
+
+/// The notes of a chain: one more than where the last one stands, or 0; its place, and how many in a
+/// row are of that place.
+#[derive(Clone, Copy, Debug)]
+struct Chain {
+    last: usize,
+    place: usize,
+    count: usize,
+}
+
 /// What a walk met at a place, with a number beside it.
 #[derive(Debug, Drop)]
 pub struct Note {
@@ -32,9 +45,8 @@ pub struct Note {
 #[derive(Debug, Drop)]
 pub(crate) struct Notes {
     list: Vec<Note>,
-    /// For each remainder one more than where its last note stands, or 0. None before the first
-    /// note.
-    chains: Vec<usize>,
+    /// One for each remainder. None before the first note.
+    chains: Vec<Chain>,
     numbers: usize,
 }
 
@@ -53,9 +65,13 @@ fn chain_of(place: usize) -> usize {
 }
 
 /// Gives each chain its place, where that isn't done yet.
-fn lay_chains(chains: &mut Vec<usize>) -> Result<(), Memory> {
+fn lay_chains(chains: &mut Vec<Chain>) -> Result<(), Memory> {
     for _ in chains.len()..CHAINS {
-        chains.push(0)?;
+        chains.push(Chain {
+            last: 0,
+            place: 0,
+            count: 0,
+        })?;
     }
     Ok(())
 }
@@ -112,7 +128,31 @@ impl Notes {
     pub(crate) fn chain(&self, place: usize) -> usize {
         match self.chains.get(chain_of(place)) {
             None => 0,
-            Some(last) => *last,
+            Some(chain) => chain.last,
+        }
+    }
+
+    /// Whether a place has as many notes as it may have.
+    pub(crate) fn is_full(&self, place: usize) -> bool {
+        match self.chains.get(chain_of(place)) {
+            None => false,
+            Some(chain) => chain.place == place && chain.count >= MOST_OF_PLACE,
+        }
+    }
+
+    /// The last note is of this place.
+    fn count_last(&mut self, place: usize)
+        ensures { self.new ≡ self.old }
+    {
+        let last = self.list.len();
+        if let Some(chain) = self.chains.get_mut(chain_of(place)) {
+            chain.count = if chain.place == place {
+                chain.count.saturating_add(1)
+            } else {
+                1
+            };
+            chain.place = place;
+            chain.last = last;
         }
     }
 
@@ -136,10 +176,7 @@ impl Notes {
             return;
         }
         self.numbers = self.numbers.saturating_add(numbers);
-        let chain = chain_of(place);
-        if chain < self.chains.len() {
-            self.chains[chain] = self.list.len();
-        }
+        self.count_last(place);
     }
 
     /// The number beside the last note that this was met at a place.

@@ -78,15 +78,15 @@ impl Walked {
     }
 
     /// Notes what the walk meets that stands so many symbols behind the first held one, with a
-    /// number beside it. Where the place has no notes, a section has more than 64 states or ways
-    /// there, or there is no memory for a note, it isn't noted.
+    /// number beside it. Where the place has no notes, or has sixteen, a section has more than 64
+    /// states or ways there, or there is no memory for a note, it isn't noted.
     pub fn note(&mut self, place: usize, ahead: usize, lives: &LiveSections)
         ensures { AddsNote place ahead lives.now self.old self.new }
     {
         let Some(place) = self.passed.checked_add(place) else {
             return;
         };
-        if place % STRIDE != 0 {
+        if place % STRIDE != 0 || self.recent.is_full(place) {
             return;
         }
         let Some(met) = lives.met(self.recent.allocator()) else {
@@ -111,7 +111,8 @@ impl Walked {
     }
 
     /// The number beside a note that at this place the same was met as this walk meets, which
-    /// stands there. None where no such note is found, or there is no memory to look for it.
+    /// stands there. None where no such note is found, the place has sixteen notes, or there is no
+    /// memory to look for it.
     pub fn meets(&self, compiled: &Compiled, place: usize, lives: &LiveSections) -> Option<usize>
         ensures { IfSome result (IsMetAt compiled.now self.now place lives.now) }
     {
@@ -119,7 +120,7 @@ impl Walked {
             return None;
         }
         let place = self.passed.checked_add(place)?;
-        if place % STRIDE != 0 {
+        if place % STRIDE != 0 || self.recent.is_full(place) {
             return None;
         }
         if self.recent.chain(place) == 0 && self.earlier.chain(place) == 0 {

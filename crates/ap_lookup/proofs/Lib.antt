@@ -4,7 +4,6 @@ pub mod Prefixes
 pub mod SuperblanksKept
 pub mod Matches
 pub mod PostSearches
-pub mod PostVain
 pub mod PostSizes
 pub mod PostSteps
 pub mod PostTurns

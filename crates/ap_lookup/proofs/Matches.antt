@@ -3,7 +3,7 @@
 use Rattle.std.specs.Prelude.{◌≡◌, ◌⊎◌, ℕ, suc, ◌<◌, ◌≤◌, nat_le, ◌&&◌, true, false, List, ◌++◌, length, take}
 use Rattle.std.proofs.Common.{arith, ap, sym, ◌∙◌, inl, inr}
 use Rattle.std.proofs.lemmas.Bool.{false_from_ne_true, and_parts}
-use Rattle.std.proofs.lemmas.List.{take-append-le, length-append}
+use Rattle.std.proofs.lemmas.List.{take-append-le, take-take, length-append}
 use Rattle.ap_symbol.specs.declared.symbol.Symbol.{Symbol}
 use Rattle.ap_live.specs.Found.{has_words}
 use Rattle.ap_live.specs.Greatest.{greatest}
@@ -120,3 +120,12 @@ module _ (lexicon : Lexicon) (symbols more : List Symbol) (whole : IsCoherent le
         (ap lexicon.viable (same (length symbols) (omega arith))
         ∙ ap (λ n. lexicon.viable (take n symbols)) (sym e) ∙ t)
   ]
+
+-- the longest match of the symbols that were seen is that of all, where no further one goes on
+pub match_seen : (lexicon : Lexicon) (symbols seen : List Symbol) (n : ℕ) → IsCoherent lexicon →
+    seen ≡ take n symbols → n ≤ length symbols → fitting lexicon symbols ≡ n
+    → greatest (is_match lexicon 0 seen) n ≡ longest_match lexicon 0 symbols
+match_seen lexicon symbols seen n whole is le e =
+    greatest_same (is_match lexicon 0 seen) (is_match lexicon 0 symbols) n
+    (λ m low. match_front lexicon 0 seen symbols m (ap (take m) is ∙ take-take m n symbols low))
+    ∙ sym (match_is lexicon symbols whole 0 n (omega (arith, e)) le)

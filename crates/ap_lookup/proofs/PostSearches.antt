@@ -1,20 +1,25 @@
 -- The search at the front of held items: one symbol more, back to the longest match, and what it
 -- finds.
-use Rattle.std.specs.Prelude.{◌≡◌, ◌⊎◌, ℕ, suc, ◌<◌, ◌≤◌, Bool, true, false, List, [], ◌∷◌, ◌++◌, length, take, Some, None}
+use Rattle.std.specs.Prelude.{◌≡◌, ◌⊎◌, ℕ, suc, zero, ◌<◌, ◌≤◌, Bool, true, false, List, [], ◌∷◌, ◌++◌, length, take, Some, None}
 use Rattle.std.proofs.Common.{refl, ap, sym, ◌∙◌, subst, arith, get_or, inl, inr}
 use Rattle.std.proofs.lemmas.List.{length-take, length-append, take-take}
 use Rattle.ap_symbol.specs.declared.symbol.Symbol.{Symbol}
 use Rattle.ap_fst.specs.Sections.{Parts}
 use Rattle.ap_stream.specs.declared.item.Read.{Read}
 use Rattle.ap_stream.proofs.ItemFronts.{front_short, front_more, front_stops, IsNextSymbol, front_next}
+use Rattle.ap_live.specs.Greatest.{greatest}
 use Rattle.ap_live.specs.Lexicon.{Lexicon, IsCoherent, lexicon_of, viable_in}
 use Rattle.ap_live.specs.SectionLives.{AreLive}
+use Rattle.ap_live.specs.declared.live_sections.LiveSections.{LiveSections}
 use Rattle.ap_live.proofs.AnyWords.{viable_front}
-use Rattle.ap_lookup.specs.Matching.{fitting}
+use Rattle.ap_live.proofs.Greatest.{greatest_within}
+use Rattle.ap_lookup.specs.Matching.{is_match, fitting}
 use Rattle.ap_lookup.specs.PostGenerating.{symbol_of, symbols}
-use Rattle.ap_lookup.specs.PostSearching.{IsBegun, IsSearch, IsEnd}
+use Rattle.ap_lookup.specs.PostSearching.{IsBegun, IsSearch, IsEnd, IsFound}
 use Rattle.ap_lookup.specs.declared.post_search.Search.{Search}
-use Rattle.ap_lookup.proofs.Matches.{fitting_is}
+use Rattle.ap_lookup.specs.declared.post_search.Found.{Found}
+use Rattle.ap_lookup.proofs.Matches.{fitting_is, match_seen}
+use Rattle.ap_lookup.proofs.PostSteps.{matched_is}
 
 -- what was seen is no more than there is
 pub seen_within : (reads : List Read) (seen : List Symbol) →
@@ -146,7 +151,7 @@ begun_less lexicon seen m whole le (inr t) =
 module _ (p : Parts) (sensitive : Bool) (reads : List Read) (search new : Search) (m : ℕ)
     (whole : IsCoherent (lexicon_of p sensitive)) (is : IsSearch p sensitive reads search)
     (le : m ≤ length search.seen.items) (e : new.seen.items ≡ take m search.seen.items) where
-  back_is : new.seen.items ≡ take m (symbols reads)
+  pub back_is : new.seen.items ≡ take m (symbols reads)
   back_is = e ∙ ap (take m) is.seen_are ∙ take-take m (length search.seen.items) (symbols reads) le
 
   pub search_back : AreLive p sensitive new.seen.items new.lives → IsSearch p sensitive reads new
@@ -159,6 +164,43 @@ module _ (p : Parts) (sensitive : Bool) (reads : List Read) (search new : Search
         begun = subst (λ (z : List Symbol). IsBegun (lexicon_of p sensitive) z) (sym e)
             (begun_less (lexicon_of p sensitive) search.seen.items m whole le is.begun);
       }
+
+-- the live sets are cut to the match
+pub lives_back : (p : Parts) (sensitive : Bool) (seen kept : List Symbol) (n : ℕ)
+    (lives new : LiveSections) →
+    ((p : Parts) (sensitive : Bool) (symbols : List Symbol) → AreLive p sensitive symbols lives →
+    AreLive p sensitive (take n symbols) new)
+    → AreLive p sensitive kept lives → (0 < n → AreLive p sensitive (take n seen) lives) →
+    AreLive p sensitive (take n seen) new
+lives_back p sensitive seen kept zero lives new cut live some = cut p sensitive kept live
+lives_back p sensitive seen kept (suc n) lives new cut live some =
+    subst (λ (z : List Symbol). AreLive p sensitive z new)
+    (take-take (suc n) (suc n) seen (omega arith))
+    (cut p sensitive (take (suc n) seen) (some (omega arith)))
+
+-- what is found
+pub found_is : (lexicon : Lexicon) (reads : List Read) (seen : List Symbol) (m span : ℕ)
+    (finished : Bool) → IsCoherent lexicon → seen ≡ take (length seen) (symbols reads) →
+    IsEnd lexicon reads (length seen) → m ≡ greatest (is_match lexicon 0 seen) (length seen)
+    → span ≡ length seen → (length seen < length reads) ⊎ (finished ≡ true) →
+    IsFound lexicon reads finished (let found : Found =
+    record { matched = m; span = span } in found)
+found_is lexicon reads seen m span finished whole is ends value count settled =
+    let e = end_is lexicon reads (length seen) whole ends in
+    record {
+      matched_is = value ∙ match_seen lexicon (symbols reads) seen (length seen) whole is
+          ends.within e ∙ sym (matched_is lexicon reads);
+      span_is = count ∙ sym e;
+      settled = rw count settled;
+      within = let w = seen_items reads seen is in omega (arith, w, count);
+      below = let w = greatest_within (is_match lexicon 0 seen) (length seen) in
+          omega (arith, value, w, count);
+    }
+
+pub settled_by : (ends finished : Bool) (n count : ℕ) → (ends ≡ true → n < count) →
+    (ends ≡ true) ⊎ (finished ≡ true) → (n < count) ⊎ (finished ≡ true)
+settled_by ends finished n count more (inl e) = inl (more e)
+settled_by ends finished n count more (inr f) = inr f
 
 -- nothing is seen
 pub none_seen : (p : Parts) (sensitive : Bool) (reads : List Read) (search : Search) →

@@ -11,5 +11,4 @@ pub mod PostGenerating
 pub mod PostWorks
 pub mod PostCopies
 pub mod PostSearching
-pub mod PostVain
 pub mod PostMeasure

@@ -10,7 +10,6 @@ ghost use Rattle.ap_lookup.specs.PostCopies.{post_copies};
 use crate::post_search::{Search, begins_alarm};
 use crate::post_writing::{Written, alarm_step};
 use ap_fst::Compiled;
-use ap_live::Walked;
 use ap_stream::{Copies, Handler, LimitKind, Queue, Read, SPAN_MAX, StageFault, Turn, write_item};
 use ap_symbol::{Bytes, Memory};
 use std::alloc::Global;
@@ -19,9 +18,8 @@ use std::mem;
 
 /// Post-generation of items (`lt-proc -p`): a `Handler` over the items of a Generated text. At an
 /// alarm, a bare `~`, it holds the items that one match must see together, and looks at each of
-/// them once while further ones come; every other item is copied. What it met in vain is kept while
-/// the items are held, so that a later search need not go on where it meets the same. The text has
-/// room for what a step writes, which is kept from step to step.
+/// them once while further ones come; every other item is copied. The text has room for what a step
+/// writes, which is kept from step to step.
 #[derive(Drop)]
 pub struct PostGenerationWork {
     alloc: Global,
@@ -29,7 +27,6 @@ pub struct PostGenerationWork {
     sensitive: bool,
     items: Queue,
     search: Search,
-    walked: Walked,
     finished: bool,
     text: Bytes,
 }
@@ -49,7 +46,6 @@ impl Model for PostGenerationWork {
     ghost use Rattle.ap_stream.specs.declared.dialect.Dialect.TheVariants.{Generated};
     ghost use Rattle.ap_lookup.specs.PostWorks.{Posting};
     ghost use Rattle.ap_lookup.specs.PostSearching.{IsSearch};
-    ghost use Rattle.ap_lookup.specs.PostVain.{AreVain};
 
     ghost Value = { Posting };
 
@@ -62,8 +58,7 @@ impl Model for PostGenerationWork {
     } };
 
     ghost invariant = { λ w. AllByRecursion (IsRead Generated) w.items
-        × IsSearch w.compiled w.sensitive w.items w.search
-        × AreVain w.compiled w.sensitive w.items w.finished w.walked };
+        × IsSearch w.compiled w.sensitive w.items w.search };
 }
 
 impl PostGenerationWork {
@@ -93,7 +88,6 @@ impl PostGenerationWork {
             sensitive,
             items: Queue::new(alloc),
             search,
-            walked: Walked::new(alloc),
             finished: false,
             text: Bytes::new(alloc),
         })
@@ -109,7 +103,6 @@ impl PostGenerationWork {
     {
         self.items.forget(count);
         self.search.restart();
-        self.walked.pass(count);
         self.text = text;
     }
 
@@ -172,7 +165,6 @@ impl PostGenerationWork {
         write_item(self.alloc, &self.items.as_slice()[0].item, into)?;
         self.items.forget(1);
         self.search.restart();
-        self.walked.pass(1);
         Ok(())
     }
 
@@ -191,8 +183,10 @@ impl PostGenerationWork {
             ≡ length self.old.items) }
     {
         let reads = self.items.as_slice();
-        let walked = &mut self.walked;
-        match self.search.look(walked, &self.compiled, self.sensitive, reads, self.finished)? {
+        match self
+            .search
+            .look(&self.compiled, self.sensitive, reads, self.finished)?
+        {
             None => Ok(None),
             Some(found) => {
                 let text = take_room(self.alloc, &mut self.text);

@@ -1,13 +1,13 @@
-ghost use Rattle.std.specs.Prelude.{◌≡◌, ◌⊎◌, ◌+◌, ◌-◌, ◌<◌, Bool, true, false, Ok, List, [], ◌∷◌, ◌++◌, None, length, take, OnOk, OnErr, IfOk, IfSome};
+ghost use Rattle.std.specs.Prelude.{◌≡◌, ◌⊎◌, ◌+◌, ◌<◌, ◌≤◌, Bool, true, false, Ok, List, [], ◌∷◌, ◌++◌, None, length, take, OnOk, OnErr, IfOk, IfSome};
 ghost use Rattle.ap_live.specs.Greatest.{greatest};
-ghost use Rattle.ap_live.specs.Lexicon.{Lexicon, lexicon_of};
+ghost use Rattle.ap_live.specs.Lexicon.{lexicon_of};
 ghost use Rattle.ap_live.specs.SectionLives.{AreLive};
 ghost use Rattle.ap_lookup.specs.Matching.{is_match, fitting};
 ghost use Rattle.ap_lookup.specs.PostGenerating.{is_alarm as alarm_test, symbol_of, symbols, begins_alarm as begins_test};
 
-use crate::translation::step_one;
+use crate::translation::{step_down, step_one};
 use ap_fst::Compiled;
-use ap_live::{LiveSections, Walked};
+use ap_live::LiveSections;
 use ap_stream::{Character, Item, Read};
 use ap_symbol::{Memory, Symbol, is_white};
 use std::alloc::Global;
@@ -19,27 +19,6 @@ pub(crate) struct Found {
     pub(crate) matched: usize,
     pub(crate) span: usize,
 }
-
-/// How a walk over the items went: over all that are held; to where the next may not be read with
-/// those before it; or to where an earlier walk was in the same states, which went on by so many
-/// items to its end, and in vain.
-#[derive(Clone, Copy)]
-pub(crate) enum Walk {
-    All,
-    Ends,
-    Meets { ahead: usize },
-}
-
-/// So many items fit a beginning of a left word. What a walk meets is worth a note in front of the
-/// place `below`, on the way back.
-#[derive(Clone, Copy)]
-pub(crate) struct Ended {
-    pub(crate) fitting: usize,
-    pub(crate) below: usize,
-}
-
-/// A walk that goes on in vain by fewer items is sooner walked again than noted.
-const NEAR: usize = 16;
 
 /// A search for a match at the front of the held items. It goes on from where it stands when
 /// further items come.
@@ -88,22 +67,18 @@ pub(crate) fn begins_alarm(reads: &[Read]) -> bool
     }
 }
 
-/// The end, where the search stands at it.
-fn ended_at(looked: usize) -> Ended
-    ensures { result.fitting ≡ looked }
+/// No end is known, and more items may come.
+fn is_open(ends: bool, finished: bool) -> bool
+    ensures unknown { result ≡ true → (ends ≡ false) × (finished ≡ false) }
+    ensures known { result ≡ false → (ends ≡ true) ⊎ (finished ≡ true) }
 {
-    Ended {
-        fitting: looked,
-        below: looked.saturating_sub(NEAR),
-    }
+    !ends && !finished
 }
 
 impl Search {
     ghost use Rattle.ap_fst.specs.Sections.{Parts};
     ghost use Rattle.ap_stream.specs.declared.item.Read.{Read};
     ghost use Rattle.ap_lookup.specs.PostSearching.{IsSearch, IsEnd, IsFound};
-    ghost use Rattle.ap_lookup.specs.PostVain.{AreVain, IsEnded, IsWalk};
-    ghost use Rattle.ap_live.specs.Walks.{AddsNote, IsMetAt};
 
     pub(crate) fn start(alloc: Global, compiled: &Compiled) -> Result<Search, Memory>
         ensures { IfOk result (λ search. (sensitive : Bool) →
@@ -169,149 +144,66 @@ impl Search {
         }
     }
 
-    /// How many items were looked at.
-    fn looked(&self) -> usize
-        ensures { result ≡ length self.now.seen.items }
-    {
-        self.seen.len()
-    }
-
-    /// By how many items an earlier walk went on from here, in vain, that was in the same states.
-    fn meets(&self, walked: &Walked, compiled: &Compiled, noted: bool) -> Option<usize>
-        ensures { IfSome result
-            (IsMetAt compiled.now walked.now (length self.now.seen.items) self.now.lives) }
-    {
-        let looked = self.looked();
-        if !noted || looked == 0 {
-            return None;
-        }
-        walked.meets(compiled, looked, &self.lives)
-    }
-
-    /// Looks at items while they may be read together, or until it is known from an earlier walk
-    /// where that ends.
+    /// Looks at items while they may be read together, and answers whether it is known that one
+    /// item more may not.
     fn step_on(
         &mut self,
-        walked: &Walked,
         compiled: &Compiled,
         sensitive: bool,
         reads: &[Read],
-    ) -> Result<Walk, Memory>
+    ) -> Result<bool, Memory>
         requires { IsSearch compiled.now sensitive reads.now self.old }
         ensures search { IsSearch compiled.now sensitive reads.now self.new }
-        ensures ends { IfOk result (λ walk. (finished : Bool) →
-            AreVain compiled.now sensitive reads.now finished walked.now →
-            IsWalk (lexicon_of compiled.now sensitive) reads.now finished
-            (length self.new.seen.items) walk) }
+        ensures ends { IfOk result
+            (λ _. IsEnd (lexicon_of compiled.now sensitive) reads.now
+            (length self.new.seen.items)) }
+        ensures more { result ≡ Ok true → length self.new.seen.items < length reads.now }
+        ensures all { result ≡ Ok false → length self.new.seen.items ≡ length reads.now }
     {
-        let noted = !walked.is_blank();
-        while self.looked() < reads.len() {
-            if let Some(ahead) = self.meets(walked, compiled, noted) {
-                return Ok(Walk::Meets { ahead });
-            }
-            if !self.step(compiled, sensitive, reads)? {
-                return Ok(Walk::Ends);
+        while self.seen.len() < reads.len() {
+            let fits = self.step(compiled, sensitive, reads)?;
+            if !fits {
+                return Ok(true);
             }
         }
-        Ok(Walk::All)
+        Ok(false)
     }
 
-    /// Where the walk ends; none where an item more is wanted.
-    fn end(&self, reads: &[Read], finished: bool, walk: Walk) -> Option<Ended>
-        requires { (lexicon : Lexicon)
-            × IsWalk lexicon reads.now finished (length self.now.seen.items) walk }
-        ensures ended { (lexicon : Lexicon) →
-            IsWalk lexicon reads.now finished (length self.now.seen.items) walk →
-            IfSome result (IsEnded lexicon reads.now finished (length self.now.seen.items)) }
-        ensures waits { result ≡ None → (lexicon : Lexicon) →
-            IsWalk lexicon reads.now finished (length self.now.seen.items) walk →
-            (finished ≡ false) × IsEnd lexicon reads.now (length self.now.seen.items)
-            × (length self.now.seen.items ≡ length reads.now) }
-    {
-        let _ = reads.len();
-        let looked = self.looked();
-        match walk {
-            Walk::Meets { ahead } => Some(Ended {
-                fitting: looked + ahead,
-                below: looked,
-            }),
-            Walk::Ends => Some(ended_at(looked)),
-            Walk::All => {
-                if !finished {
-                    return None;
-                }
-                Some(ended_at(looked))
-            }
-        }
-    }
-
-    /// Notes what it meets where it stands, if it is far from there to the end.
-    fn note(&self, walked: &mut Walked, ended: Ended)
-        ensures { AddsNote (length self.now.seen.items)
-            (ended.fitting - length self.now.seen.items) self.now.lives walked.old walked.new }
-    {
-        let looked = self.looked();
-        if looked < ended.below {
-            let ahead = ended.fitting.saturating_sub(looked);
-            walked.note(looked, ahead, &self.lives);
-        }
-    }
-
-    /// Goes back by one symbol.
-    fn drop_last(&mut self)
-        requires { 0 < length self.old.seen.items }
-        ensures seen { self.new.seen.items
-            ≡ take (length self.old.seen.items - 1) self.old.seen.items }
-        ensures lives { (p : Parts) (sensitive : Bool) →
-            AreLive p sensitive self.old.seen.items self.old.lives →
-            AreLive p sensitive self.new.seen.items self.new.lives }
-    {
-        let at = self.seen.len() - 1;
-        self.lives.cut(at);
-        self.seen.truncate(at);
-    }
-
-    /// Goes back to the longest match, and notes what it meets where that is far.
-    fn step_back(&mut self, walked: &mut Walked, compiled: &Compiled, ended: Ended)
-        ensures search { (sensitive : Bool) (reads : List Read) →
-            IsSearch compiled.now sensitive reads self.old →
-            IsSearch compiled.now sensitive reads self.new }
-        ensures greatest { (sensitive : Bool) (reads : List Read) →
-            IsSearch compiled.now sensitive reads self.old →
-            length self.new.seen.items
-            ≡ greatest (is_match (lexicon_of compiled.now sensitive) 0 (symbols reads))
+    /// Goes back to the longest match, and answers its length, or 0.
+    fn step_back(&mut self, compiled: &Compiled, sensitive: bool) -> usize
+        requires { AreLive compiled.now sensitive self.old.seen.items self.old.lives }
+        ensures value { result ≡ greatest
+            (is_match (lexicon_of compiled.now sensitive) 0 self.old.seen.items)
             (length self.old.seen.items) }
-        ensures walked { (sensitive finished : Bool) (reads : List Read) →
-            IsSearch compiled.now sensitive reads self.old →
-            IsEnded (lexicon_of compiled.now sensitive) reads finished
-            (length self.old.seen.items) ended →
-            AreVain compiled.now sensitive reads finished walked.old →
-            AreVain compiled.now sensitive reads finished walked.new }
+        ensures within { result ≤ length self.old.seen.items }
+        ensures lives { AreLive compiled.now sensitive self.new.seen.items self.new.lives }
+        ensures seen { self.new.seen.items ≡ take result self.old.seen.items }
     {
-        let _ = compiled.alphabet();
-        while self.looked() > 0 {
-            if self.lives.reads_any(compiled) {
-                return;
-            }
-            self.note(walked, ended);
-            self.drop_last();
-        }
+        let from = self.seen.len();
+        let matched = step_down(
+            compiled,
+            sensitive,
+            self.seen.as_slice(),
+            0,
+            from,
+            &mut self.lives,
+        );
+        self.lives.cut(matched);
+        self.seen.truncate(matched);
+        matched
     }
 
     /// What stands at the front of the items, which is an alarm, and then the search stands at the
-    /// match; none where an item more is wanted. What it meets in vain is noted.
+    /// match; none where an item more is wanted.
     pub(crate) fn look(
         &mut self,
-        walked: &mut Walked,
         compiled: &Compiled,
         sensitive: bool,
         reads: &[Read],
         finished: bool,
     ) -> Result<Option<Found>, Memory>
-        requires search { IsSearch compiled.now sensitive reads.now self.old }
-        requires walked { AreVain compiled.now sensitive reads.now finished walked.old }
+        requires { IsSearch compiled.now sensitive reads.now self.old }
         ensures search { IsSearch compiled.now sensitive reads.now self.new }
-        ensures walked { AreVain compiled.now sensitive reads.now finished walked.new }
         ensures found { IfOk result
             (λ look. IfSome look (IsFound (lexicon_of compiled.now sensitive) reads.now finished)) }
         ensures at { IfOk result
@@ -322,13 +214,12 @@ impl Search {
             ≡ length reads.now) }
     {
         let _ = compiled.alphabet();
-        let walk = self.step_on(walked, compiled, sensitive, reads)?;
-        let Some(ended) = self.end(reads, finished, walk) else {
+        let ends = self.step_on(compiled, sensitive, reads)?;
+        if is_open(ends, finished) {
             return Ok(None);
-        };
-        self.step_back(walked, compiled, ended);
-        let matched = self.looked();
-        let span = ended.fitting;
+        }
+        let span = self.seen.len();
+        let matched = self.step_back(compiled, sensitive);
         Ok(Some(Found { matched, span }))
     }
 }

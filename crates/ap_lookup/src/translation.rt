@@ -94,7 +94,7 @@ fn step_all(
 }
 
 /// Goes back to the longest front, of at least so many symbols, that fits a left word.
-fn step_down(
+pub(crate) fn step_down(
     compiled: &Compiled,
     sensitive: bool,
     symbols: &[Symbol],

@@ -3,8 +3,8 @@ use Rattle.ap_live.specs.declared.notes.Note.{Note}
 use Rattle.ap_live.proofs.Walks.{last_given}
 use Rattle.ap_live.proofs.notes.Notes.add.Goals as goal
 
-pub returns-then-chain-len : goal.returns-then-chain-len
-returns-then-chain-len c =
+pub returns : goal.returns
+returns c =
     let last : Note =
     record {
       place = c.args.place;
@@ -12,19 +12,7 @@ returns-then-chain-len c =
       met = c.args.met;
       before = c.chain-before.result;
     } in
-    last_given c.args.place c.args.ahead c.args.met c.args.self.now c.self.inside.list.items
-    c.add_note.new.list.items last c.self.view_is (c.add_note.ensures.added c.if-not-add_note.false)
-    (record { place_is = refl; ahead_is = refl; met_is = refl })
-
-pub returns-else-chain-len : goal.returns-else-chain-len
-returns-else-chain-len c =
-    let last : Note =
-    record {
-      place = c.args.place;
-      ahead = c.args.ahead;
-      met = c.args.met;
-      before = c.chain-before.result;
-    } in
-    last_given c.args.place c.args.ahead c.args.met c.args.self.now c.self.inside.list.items
-    c.add_note.new.list.items last c.self.view_is (c.add_note.ensures.added c.if-not-add_note.false)
-    (record { place_is = refl; ahead_is = refl; met_is = refl })
+    rw c.count_last.ensures (last_given c.args.place c.args.ahead c.args.met c.args.self.now
+    c.self.inside.list.items c.add_note.new.list.items last c.self.view_is
+    (c.add_note.ensures.added c.if-not-add_note.false)
+    (record { place_is = refl; ahead_is = refl; met_is = refl }))

@@ -1,57 +1,43 @@
-use Rattle.std.proofs.Common.{◌∙◌, ap, sym, subst, Option, length, take}
-use Rattle.std.specs.Prelude.{IfSome}
+use Rattle.std.proofs.Common.{arith, ◌∙◌, ap, Ok, length}
 use Rattle.ap_live.specs.Lexicon.{lexicon_of}
 use Rattle.ap_live.proofs.Coherence.{coherent}
-use Rattle.ap_lookup.specs.PostGenerating.{symbols}
-use Rattle.ap_lookup.specs.PostVain.{IsEnded}
-use Rattle.ap_lookup.specs.declared.post_search.Ended.{Ended}
-use Rattle.ap_lookup.proofs.PostSearches.{end_is}
-use Rattle.ap_lookup.proofs.PostVain.{found_ended}
+use Rattle.ap_lookup.proofs.PostSearches.{end_is, search_back, back_is, found_is, settled_by}
 use Rattle.ap_lookup.proofs.post_search.Search.look.Goals as goal
-use Rattle.ap_lookup.proofs.post_search.Search.look.Goals.{After-step_back}
 
-pub end-requires : goal.end-requires
-end-requires c = (
-  lexicon_of c.args.compiled.now c.args.sensitive,
-  c.in_ok-walk.ensures.ends c.args.finished c.requires.walked,
-)
-
-ended : (c : After-step_back) →
-    IsEnded (lexicon_of c.args.compiled.now c.args.sensitive) c.args.reads.now c.args.finished
-    (length c.step_on.new.self.seen.items) c.in-Some.ended
-ended c = subst (λ (o : Option Ended). IfSome o
-    (IsEnded (lexicon_of c.args.compiled.now c.args.sensitive) c.args.reads.now c.args.finished
-    (length c.step_on.new.self.seen.items))) c.in-Some.is
-    (c.end.ensures.ended (lexicon_of c.args.compiled.now c.args.sensitive)
-    (c.in_ok-walk.ensures.ends c.args.finished c.requires.walked))
-
-pub returns-in_default-clause-waits : goal.returns-in_default-clause-waits
-returns-in_default-clause-waits c = λ _.
-    let w = c.end.ensures.waits c.in_default.is
-    (lexicon_of c.args.compiled.now c.args.sensitive)
-    (c.in_ok-walk.ensures.ends c.args.finished c.requires.walked) in (
-      w.0,
+pub returns-then-is_open-clause-waits : goal.returns-then-is_open-clause-waits
+returns-then-is_open-clause-waits c = λ _.
+    let both = c.is_open.ensures.unknown c.if-is_open.true in (
+      both.1,
       end_is (lexicon_of c.args.compiled.now c.args.sensitive) c.args.reads.now
           (length c.step_on.new.self.seen.items)
-          (coherent c.args.compiled.now c.args.sensitive c.alphabet.ensures.sound) w.1 ∙ w.2,
+          (coherent c.args.compiled.now c.args.sensitive c.alphabet.ensures.sound)
+          c.in_ok-ends.ensures.ends ∙ c.in_ok-ends.ensures.all (ap Ok both.0),
     )
 
-pub returns : goal.returns
-returns c =
-    let at = (goal.at.returns c).After-step_back in
-    let search = c.step_back.ensures.search c.args.sensitive c.args.reads.now
-    c.in_ok-walk.ensures.search in
-    record {
-      search = search;
-      walked = c.step_back.ensures.walked c.args.sensitive c.args.finished c.args.reads.now
-          c.in_ok-walk.ensures.search (ended at) c.requires.walked;
-      found = found_ended (lexicon_of c.args.compiled.now c.args.sensitive) c.args.reads.now
-          c.args.finished (length c.step_on.new.self.seen.items)
-          (length c.step_back.new.self.seen.items) c.looked-matched.result c.in-Some.ended
-          (coherent c.args.compiled.now c.args.sensitive c.alphabet.ensures.sound) (ended at)
-          (c.step_back.ensures.greatest c.args.sensitive c.args.reads.now
-          c.in_ok-walk.ensures.search) c.looked-matched.ensures;
-      at = search.seen_are
-          ∙ ap (λ n. take n (symbols c.args.reads.now)) (sym c.looked-matched.ensures);
-      waits = λ e. absurd (cc);
-    }
+pub returns-clause-search : goal.returns-clause-search
+returns-clause-search c =
+    search_back c.args.compiled.now c.args.sensitive c.args.reads.now c.step_on.new.self
+    c.step_back-matched.new.self c.step_back-matched.result
+    (coherent c.args.compiled.now c.args.sensitive c.alphabet.ensures.sound)
+    c.in_ok-ends.ensures.search
+    c.step_back-matched.ensures.within c.step_back-matched.ensures.seen
+    c.step_back-matched.ensures.lives
+
+pub returns-clause-found : goal.returns-clause-found
+returns-clause-found c =
+    let n = length c.step_on.new.self.seen.items in
+    let settled = settled_by c.in_ok-ends.ends c.args.finished n (length c.args.reads.now)
+    (λ e. c.in_ok-ends.ensures.more (ap Ok e)) (c.is_open.ensures.known c.if-is_open.false) in
+    found_is (lexicon_of c.args.compiled.now c.args.sensitive) c.args.reads.now
+    c.step_on.new.self.seen.items c.step_back-matched.result c.len-span.result c.args.finished
+    (coherent c.args.compiled.now c.args.sensitive c.alphabet.ensures.sound)
+    c.in_ok-ends.ensures.search.seen_are c.in_ok-ends.ensures.ends c.step_back-matched.ensures.value
+    (omega (arith, c.len-span.ensures)) settled
+
+pub returns-clause-at : goal.returns-clause-at
+returns-clause-at c =
+    back_is c.args.compiled.now c.args.sensitive c.args.reads.now c.step_on.new.self
+    c.step_back-matched.new.self c.step_back-matched.result
+    (coherent c.args.compiled.now c.args.sensitive c.alphabet.ensures.sound)
+    c.in_ok-ends.ensures.search
+    c.step_back-matched.ensures.within c.step_back-matched.ensures.seen
