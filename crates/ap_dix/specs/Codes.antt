@@ -1,6 +1,7 @@
--- Expressions can be told apart: each is kept as the list of steps that build it.
+-- Of the inside: no public contract stands on this file.
+-- Expressions can be told apart: each is kept as the list of steps that build it. Such a code holds
+-- the proof that the steps give the expression back.
 use Rattle.std.specs.Prelude.{◌≡◌, ◌⊎◌, ℕ, zero, suc, List, [], ◌∷◌, refl}
-use Rattle.std.proofs.Common.{ap, ◌∙◌}
 use Rattle.std.specs.Coded.{Coded, code_by, coded×, coded⊎, coded_ℕ, coded_list}
 use mathlib.Core.Logic.{inl, inr}
 use Rattle.ap_symbol.specs.contracts.symbol.Symbol as symbols
@@ -81,8 +82,9 @@ mutual
   pub built-steps_all : (fs : Forms) (ops : List Op) (stack : List Forms) →
       built (steps_all fs ops) stack ≡ built ops (fs ∷ stack)
   built-steps_all no_forms ops stack = refl
-  built-steps_all (then_form f fs) ops stack = built-steps_all fs (steps f (before ∷ ops)) stack
-      ∙ built-steps f (before ∷ ops) (fs ∷ stack)
+  built-steps_all (then_form f fs) ops stack =
+      rw (built-steps_all fs (steps f (before ∷ ops)) stack)
+      (built-steps f (before ∷ ops) (fs ∷ stack))
 
 abbrev pub top_of : List Forms → Form
 top_of [] = one Blank
@@ -95,7 +97,7 @@ abbrev pub steps_of : Form → List Op
 steps_of f = steps f []
 
 pub form_of-steps : (f : Form) → form_of (steps_of f) ≡ f
-form_of-steps f = ap top_of (built-steps f [] [])
+form_of-steps f = rw (built-steps f [] []) refl
 
 -- a step by its number
 abbrev pub split : Op → Symbol ⊎ (List Range ⊎ ℕ)

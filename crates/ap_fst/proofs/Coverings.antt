@@ -1,12 +1,12 @@
 -- What empty moves lead to, and states that lead on as others do.
 use Rattle.std.proofs.Common.{get_or, ◌≡◌, inl, inr, ℕ, ◌+◌, ◌<◌, ◌≤◌, true, false, not, eqb, List, [], ◌∷◌, ◌++◌, map, length, refl, sym, ◌∙◌, ap, subst, arith, Option, Some, None}
-use Rattle.std.specs.Prelude.{◌↔◌, slice_get}
+use Rattle.std.specs.Prelude.{slice_get}
 use Rattle.std.specs.Option.{is_some}
 use Rattle.std.specs.List.{filter}
 use Rattle.std.specs.List.Sorted.{IsPermutation}
 use Rattle.std.proofs.lemmas.Bool.{cases_lt}
 use Rattle.std.proofs.lemmas.Bool.Decides.{nat_tests}
-use Rattle.std.proofs.lemmas.Option.{none-some, same_Some, slice_get_within, slice_get-get_or}
+use Rattle.std.proofs.lemmas.Option.{same_Some, slice_get_within, slice_get-get_or}
 use Rattle.ap_fst.specs.Lists.{IsIn}
 use Rattle.ap_fst.specs.Graphs.{arc_from, arcs_at, Reaches, begins, follows}
 use Rattle.ap_fst.specs.Quiet.{Quiet, still, along, IsEdge, Steps, final, next}
@@ -15,7 +15,7 @@ use Rattle.ap_fst.specs.Covering.{ArcLists, AreArcsOf, AreEntering, AreFollowedB
 use Rattle.ap_fst.specs.declared.graph.Arc.{Arc}
 use Rattle.ap_fst.specs.declared.draft.Move.{Move}
 use Rattle.ap_fst.specs.declared.label.Label.{Label}
-use Rattle.ap_fst.proofs.Listing.{in_front, in_back, in_either, in_from_place, placed_in, IsPlaced, place_front, in_map, in_mapped, IsImage, in_filter, filter_in, IsKept, in_permutation, from_permutation}
+use Rattle.ap_fst.proofs.Listing.{placed_in, IsPlaced, place_front, in_map, in_mapped, IsImage, in_filter, filter_in, IsKept, in_permutation, from_permutation}
 use Rattle.ap_fst.proofs.QuietLaws.{steps_along}
 
 pub quiet_option : (o : Option Label) → not (is_some o) ≡ true → o ≡ None

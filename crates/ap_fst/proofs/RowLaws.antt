@@ -1,20 +1,18 @@
 -- Rows of places that stand for all labelled moves that follow a state.
-use Rattle.std.proofs.Common.{◌≡◌, ◌⊎◌, inl, inr, ℕ, zero, suc, ◌+◌, ◌-◌, ◌<◌, ◌≤◌, true, false, not, eqb, List, [], ◌∷◌, ◌++◌, map, length, refl, sym, ◌∙◌, ap, subst, arith, Option, Some, None}
-use Rattle.std.specs.Prelude.{◌↔◌, slice_get}
+use Rattle.std.proofs.Common.{◌≡◌, ◌⊎◌, inl, inr, ℕ, ◌+◌, ◌-◌, ◌<◌, ◌≤◌, false, not, List, [], ◌∷◌, ◌++◌, map, length, refl, sym, ◌∙◌, ap, subst, arith, Option, Some, None}
+use Rattle.std.specs.Prelude.{slice_get}
 use Rattle.std.specs.declared.alloc.Global.{Global}
 use Rattle.std.specs.declared.vec.Vec.{Vec}
 use Rattle.std.specs.Option.{is_some}
 use Rattle.std.proofs.lemmas.Bool.{cases_lt, true≢false}
-use Rattle.std.proofs.lemmas.Bool.Decides.{nat_tests}
 use Rattle.std.proofs.lemmas.Option.{none-some, same_Some, slice_get_within}
 use Rattle.ap_fst.specs.Lists.{IsIn}
 use Rattle.ap_fst.specs.Graphs.{arc_to, arcs_at, Grows}
 use Rattle.ap_fst.specs.Quiet.{Quiet, still, along, Steps}
 use Rattle.ap_fst.specs.Removal.{is_quiet, move_arc, IsLoudArc}
-use Rattle.ap_fst.specs.Covering.{ArcLists, AreArcsOf, Covers, AreLeads, IsLead, IsLedAt, IsExit, IsLike, IsLikeBefore, AddsUnlessLike, beyond, held, other, IsHeld, IsRow, AreRows, GoesOn, by_row, by_arcs, KeepsOn, AreKept}
+use Rattle.ap_fst.specs.Covering.{ArcLists, AreArcsOf, Covers, AreLeads, IsLedAt, IsExit, IsLike, IsLikeBefore, AddsUnlessLike, beyond, held, other, IsHeld, IsRow, AreRows, GoesOn, by_row, by_arcs, KeepsOn, AreKept}
 use Rattle.ap_fst.specs.declared.graph.Arc.{Arc}
 use Rattle.ap_fst.specs.declared.draft.Move.{Move}
-use Rattle.ap_fst.specs.declared.label.Label.{Label}
 use Rattle.std.specs.List.Sorted.{IsPermutation}
 use Rattle.ap_fst.proofs.Listing.{in_front, in_back, in_either, in_from_place, placed_in, IsPlaced, place_front, in_map, in_mapped, IsImage, in_permutation, from_permutation}
 use Rattle.ap_fst.proofs.Growing.{grows_keeps, grows_only, longer_old, few_left}
@@ -268,6 +266,26 @@ found_all moves finish s near places at none r = record {
       found_from moves finish s near places at none r p s x.move.from x.move x.at x.loud refl
       r.started x.quiet (r.gone l.place s l.at (few_left near at l.place s none l.at));
 }
+
+-- where no empty move leaves a state, the places of its own labelled moves are its row
+pub own_row : (moves : List Move) (a : ArcLists) (s : ℕ) (places : List ℕ) → AreArcsOf moves a →
+    arcs_at a.quiet s ≡ [] → places ≡ map arc_to (arcs_at a.loud s) → IsRow moves a.finish s places
+own_row moves a s places h none is =
+    let begun : Grows [] (s ∷ []) (s ∷ []) =
+    record { more = s ∷ []; grown = refl; there = λ x i. i; only = λ x i. i } in
+    let same : Grows (s ∷ []) (map arc_to (arcs_at a.quiet s)) (s ∷ []) =
+    record {
+      more = [];
+      grown = refl;
+      there = λ x i.
+          elim (subst (λ (z : List Arc). IsIn x (map arc_to z)) none i) [ ];
+      only = λ x i. elim i [ ];
+    } in
+    found_all moves a.finish s (s ∷ []) places 1 refl
+    (searching_on moves a.finish s s (s ∷ []) (s ∷ []) [] places 0 refl
+    (stepped moves a (λ _. None) s (s ∷ []) (s ∷ []) [] places h (λ t row at. absurd (cc))
+    (by_arcs same is))
+    (searching_begun moves a.finish s [] (s ∷ []) [] refl begun refl))
 
 -- ---- rows without what others stand for
 

@@ -342,11 +342,15 @@ fn passed_lead(arcs: &MoveArcs, state: usize) -> usize
     found
 }
 
-/// A state that may stand for this one: the hub of the one that covers it.
+/// A state that may stand for this one: the hub of the one that covers it. One that no empty move
+/// leaves stands for itself.
 fn lead(arcs: &MoveArcs, state: usize) -> usize
     ensures { (moves : List Move) → AreArcsOf moves arcs.now →
         IsLead moves arcs.now.finish state result }
 {
+    if arcs.quiet_from(state).is_empty() {
+        return state;
+    }
     arcs.hub(passed_lead(arcs, state))
 }
 

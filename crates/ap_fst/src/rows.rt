@@ -1,8 +1,8 @@
-ghost use Rattle.std.specs.Prelude.{◌≡◌, ◌++◌, ℕ, IsTrue, Some, false, map, nat_eq, slice_get, IfOk, OnOk};
+ghost use Rattle.std.specs.Prelude.{◌≡◌, ◌++◌, [], ℕ, IsTrue, Some, false, map, nat_eq, slice_get, IfOk, OnOk};
 ghost use Rattle.std.specs.Option.{IfSome};
 ghost use Rattle.std.specs.List.Sorted.{IsPermutation};
 ghost use Rattle.ap_fst.specs.Lists.{IsIn};
-ghost use Rattle.ap_fst.specs.Graphs.{arc_to};
+ghost use Rattle.ap_fst.specs.Graphs.{arc_to, arcs_at};
 ghost use Rattle.ap_fst.specs.Removal.{is_quiet};
 ghost use Rattle.indexmap.specs.IndexMap.{get};
 ghost use Rattle.ap_fst.specs.Covering.{AreArcsOf, AreLeads, IsLike, IsLikeBefore, IsHeld, AddsUnlessLike, IsRow, KeepsOn, AreKept, AreRows, GoesOn};
@@ -277,6 +277,22 @@ fn without_held(
     Ok(row)
 }
 
+/// Places of the labelled moves that leave a state, where no empty move leaves it.
+fn own_places(
+    alloc: Global,
+    moves: &[Move],
+    arcs: &MoveArcs,
+    state: usize,
+) -> Result<Vec<usize>, Memory>
+    requires arcs { AreArcsOf moves.now arcs.now }
+    requires alone { arcs_at arcs.now.quiet state ≡ [] }
+    ensures { IfOk result (λ places. IsRow moves.now arcs.now.finish state places.items) }
+{
+    let mut places = Vec::new(alloc);
+    add_places(arcs.loud_from(state), &mut places)?;
+    Ok(places)
+}
+
 /// The row of a state: places of labelled moves that follow it, and that stand for all of these.
 pub(crate) fn row_of(
     alloc: Global,
@@ -291,10 +307,10 @@ pub(crate) fn row_of(
     requires rows { AreRows moves.now arcs.now.finish (get nat_eq rows.now) }
     ensures { IfOk result (λ row. IsRow moves.now arcs.now.finish state row.items) }
 {
-    let mut places = found_places(alloc, moves, arcs, rows, state)?;
     if arcs.quiet_from(state).is_empty() {
-        return Ok(places);
+        return own_places(alloc, moves, arcs, state);
     }
+    let mut places = found_places(alloc, moves, arcs, rows, state)?;
     sort_places(moves, &mut places);
     let row = without_held(alloc, moves, arcs, leads, places.as_slice())?;
     Ok(row)

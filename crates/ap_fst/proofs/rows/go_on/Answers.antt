@@ -1,4 +1,4 @@
-use Rattle.std.proofs.Common.{refl, ap, subst, map, ◌++◌, ◌∙◌, List, ℕ}
+use Rattle.std.proofs.Common.{refl, ap, subst, map, ◌++◌, ◌∙◌, List}
 use Rattle.ap_fst.specs.Graphs.{arc_to, Grows}
 use Rattle.ap_fst.specs.Covering.{by_row, by_arcs}
 use Rattle.ap_fst.specs.declared.graph.Arc.{Arc}

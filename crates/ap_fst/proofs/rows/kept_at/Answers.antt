@@ -1,4 +1,4 @@
-use Rattle.std.proofs.Common.{sym, ◌∙◌, rules}
+use Rattle.std.proofs.Common.{◌∙◌, rules}
 use Rattle.std.proofs.lemmas.Option.{none-some}
 use Rattle.ap_fst.proofs.RowLaws.{not_loud}
 use Rattle.ap_fst.proofs.rows.kept_at.Goals as goal
