@@ -11,7 +11,8 @@ use Rattle.ap_stream.specs.Chars.{Part, char_at}
 use Rattle.ap_stream.specs.Blanks.{Run, Open, Inside, blank, further}
 use Rattle.ap_stream.proofs.BlankLaws.{inside_part}
 use Rattle.ap_stream.specs.Reading.{Needs, Bad, Complete, Broken, first, last, of_run, last_run}
-use Rattle.ap_stream.specs.Stands.{Stands, InBlank, Within, blank_first, escape_first, unit_first, tag_first, InUnit, InEscape, InTag, at_blank}
+use Rattle.ap_stream.specs.Stands.{Stands, InBlank, Within, blank_first, InUnit, InEscape, InTag, at_blank}
+use Rattle.ap_stream.proofs.StandLaws.{escape_first, unit_first, tag_first}
 use Rattle.ap_stream.specs.declared.examine.Spot.{Spot}
 use Rattle.ap_stream.specs.Dialects.{has_units}
 use Rattle.ap_stream.proofs.InUnitLaws.{unit_needs, surface_is}

@@ -8,7 +8,7 @@ use Rattle.ap_stream.specs.declared.fault.StreamFault.TheVariants.{Malformed}
 use Rattle.ap_stream.specs.declared.fault.MalformedKind.TheVariants.{Unfinished}
 use Rattle.ap_stream.specs.declared.level.Level.{Level}
 use Rattle.ap_stream.specs.declared.level.Level.TheVariants as level
-use Rattle.ap_stream.specs.declared.level.Shown.TheVariants as shown
+use Rattle.ap_stream.specs.declared.level.Effect.TheVariants as effect
 use Rattle.ap_stream.specs.declared.examine.Mode.TheVariants as mode
 use Rattle.ap_stream.specs.declared.item.Item.{Item}
 use Rattle.ap_stream.specs.declared.item.Item.TheVariants as item
@@ -66,11 +66,11 @@ stands_byte dialect held b false h e =
 
 pub stands_waits : (dialect : Dialect) (at : Level) (done : ℕ) (held : List ℕ) →
     done ≤ length held →
-    Looks dialect at done held shown.Waits → Standing dialect true at done held
+    Looks dialect at done held effect.Waits → Standing dialect true at done held
 stands_waits dialect at done held fits h = record { fits = fits; short = λ _. h.1; stands = h.0 }
 
 pub stands_goes : (dialect : Dialect) (at to : Level) (done size : ℕ) (held : List ℕ) →
-    size ≡ length held → Looks dialect at done held (shown.Goes to) →
+    size ≡ length held → Looks dialect at done held (effect.Goes to) →
     Standing dialect true to size held
 stands_goes dialect at to done size held e h =
     let all : take size held ≡ held = take_all size held (omega arith) in
@@ -193,7 +193,7 @@ module _ (now : Begun) (dialect : Dialect) (held : List ℕ) (place : ℕ) (look
     (fault : Option StreamFault)
     (view : record { dialect = dialect; held = held; place = place; looked = looked; fault = fault }
     ≡ now) (none : held ≡ []) (bytes : List ℕ) (one : length bytes ≡ 1) (c : Character)
-    (h : Looks dialect (level.Item mode.Start) 0 bytes (shown.Plain c)) where
+    (h : Looks dialect (level.Item mode.Start) 0 bytes (effect.Plain c)) where
   pub bare_given : (newplace : ℕ) (after : List ℕ) → newplace ≡ counted (place + 1) →
       after ≡ held → Feeds now bytes (Some (record { item = item.Plain c; place = place; size = 1 }))
       (record {

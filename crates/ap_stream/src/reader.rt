@@ -18,7 +18,7 @@ use crate::dialect::Dialect;
 use crate::examine::Mode;
 use crate::fault::{LimitKind, MalformedKind, StreamFault};
 use crate::item::{Character, Item, Read};
-use crate::level::{Level, Shown, look};
+use crate::level::{Effect, Level, look};
 use crate::names::Names;
 use crate::unit::Unit;
 use ap_symbol::Memory;
@@ -443,22 +443,22 @@ impl Reader {
         let done = self.done;
         let shown = look(self.dialect, self.level, done, self.held.as_slice());
         match shown {
-            Shown::Waits => {
+            Effect::Waits => {
                 self.looked = true;
                 Ok(None)
             }
-            Shown::Goes(level) => {
+            Effect::Goes(level) => {
                 self.level = level;
                 self.done = self.held.len();
                 self.looked = true;
                 Ok(None)
             }
-            Shown::Plain(character) => Ok(Some(self.give(Item::Plain(character)))),
-            Shown::UnitEnds => self.unit(),
-            Shown::ChunkEnds => self.chunk(),
-            Shown::BlankEnds => self.blank(done),
-            Shown::Bad(kind) => Err(self.note(StreamFault::Malformed { kind, place })),
-            Shown::TooLong => {
+            Effect::Plain(character) => Ok(Some(self.give(Item::Plain(character)))),
+            Effect::UnitEnds => self.unit(),
+            Effect::ChunkEnds => self.chunk(),
+            Effect::BlankEnds => self.blank(done),
+            Effect::Bad(kind) => Err(self.note(StreamFault::Malformed { kind, place })),
+            Effect::TooLong => {
                 let kind = LimitKind::ItemTooLong;
                 Err(self.note(StreamFault::Limit { kind, place }))
             }
