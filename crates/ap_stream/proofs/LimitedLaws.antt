@@ -114,21 +114,27 @@ module _ (dialect : Dialect) (at : Level) (done : ℕ) (held : List ℕ) where
     fits,
   )
   looks_short effect.BlankEnds fits h = (
-    h.0,
-    h.1,
-    surely (Whole (item.Blank (take done held)) (length (take done held))) fits h.2 tt,
+    (
+      h.0,
+      h.1,
+      surely (Whole (item.Blank (take done held)) (length (take done held))) fits h.2 tt,
+    ),
     omega (arith, front_short h.1),
   )
-  looks_short effect.UnitEnds fits h =
-      (h.0, subst (λ (q : List ℕ). UnitOf dialect q h.0) (take-append-drop done held) h.1, fits)
-  looks_short effect.ChunkEnds fits h = (
-    h.0,
-    h.1,
-    let k = whole (Whole (item.Chunk h.0) (length (take done held ++ drop done held))) h.2 in
-        rw (take-append-drop done held) at k,
+  looks_short effect.UnitEnds fits h = (
+    (h.0, subst (λ (q : List ℕ). UnitOf dialect q h.0) (take-append-drop done held) h.1),
     fits,
   )
-  looks_short (effect.Bad kind) fits h = (surely (Faulty (Bad kind)) fits h.0 tt, h.1)
+  looks_short effect.ChunkEnds fits h = (
+    (
+      h.0,
+      h.1,
+      let k = whole (Whole (item.Chunk h.0) (length (take done held ++ drop done held))) h.2 in
+          rw (take-append-drop done held) at k,
+    ),
+    fits,
+  )
+  looks_short (effect.Bad kind) fits h = ((surely (Faulty (Bad kind)) fits h.0 tt, h.1), tt)
   looks_short effect.TooLong fits h = absurd h
 
   -- before the byte past the limit, more was needed
@@ -163,11 +169,13 @@ module _ (dialect : Dialect) (at : Level) (done : ℕ) (held : List ℕ) where
   looks_blank h l s =
       let n : length (take done held) ≡ unit_max = omega (arith, front_short s.1, l) in
       let fine : leb (length (take done held)) item_max ≡ true = rw (item_max_is, n) refl in (
-        s.0,
-        s.1,
-        λ x. past_all h l (Whole (item.Blank (take done held)) (length (take done held)))
-            (all_now (Whole (item.Blank (take done held)) (length (take done held))) s.2) x
-            ∙ rw fine refl,
+        (
+          s.0,
+          s.1,
+          λ x. past_all h l (Whole (item.Blank (take done held)) (length (take done held)))
+              (all_now (Whole (item.Blank (take done held)) (length (take done held))) s.2) x
+              ∙ rw fine refl,
+        ),
         omega (arith, n),
       )
 
