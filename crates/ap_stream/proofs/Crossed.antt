@@ -107,12 +107,12 @@ ascii_char b x h = let t : ltb b 128 ≡ true = grind (arith, nat_tests) in rw t
 pub byte_told : (dialect : Dialect) (at : Mode) (done : List ℕ) (b end : ℕ) →
     Stands dialect at done [] → b < 128 → end ≡ length done + 1 →
     Tells dialect (level.Item at) done (b ∷ []) (table dialect at end b)
-byte_told dialect at done b end h small e = by (at_blank at) refl
+byte_told dialect at done b end h small e = by (at_blank (level.Item at)) refl
   where
     stood : StoodIn dialect (level.Item at) done (b ∷ [])
     stood = record { old = []; byte = b; part_is = refl; stands = h }
 
-    by : (v : Bool) → at_blank at ≡ v →
+    by : (v : Bool) → at_blank (level.Item at) ≡ v →
         Tells dialect (level.Item at) done (b ∷ []) (table dialect at end b)
     by true k = blank_told dialect at done (b ∷ []) end k stood
     by false k = char_told dialect at done (b ∷ []) end b 1 k stood e (sym (ascii_char b [] small))

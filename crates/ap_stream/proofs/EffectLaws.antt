@@ -15,7 +15,7 @@ use Rattle.ap_stream.specs.Blanks.{is_white, begins_blank}
 use Rattle.ap_stream.specs.Dialects.{has_units, is_refused}
 use Rattle.ap_stream.specs.Reading.{Faulty, Bad, begins_unit}
 use Rattle.ap_stream.specs.Units.{begins_tag}
-use Rattle.ap_stream.specs.Effects.{spot, surface_at, blank_effect, start_effect, inside_effect, word_effect, effect as table}
+use Rattle.ap_stream.specs.Effects.{spot, surface_at, effect as table}
 use Rattle.ap_stream.specs.Stands.{InUnit, InBlank, Within, blank_first, Always, at_blank, StandsIn, StoodIn, Tells}
 use Rattle.ap_stream.proofs.StandLaws.{escape_first, tag_first, unit_first}
 use Rattle.ap_stream.proofs.Fronts.{IsLow, same_test, low_blank, low_escape, low_unit}
@@ -75,7 +75,7 @@ module _ (part : List ℕ) (c : ℕ) (k : char_at part ≡ Char c (length part))
 
   module _ (some : 0 < length part) where
     start_told : (dialect : Dialect) →
-        Tells dialect (level.Item mode.Start) [] part (blank_effect c (start_effect dialect c))
+        Tells dialect (level.Item mode.Start) [] part (table dialect mode.Start 0 c)
     start_told dialect =
         by_cond P (is_white c) _ _
         (λ w. (refl, subst InBlank (sym (white_one w)) (stands.begin_white c w)))
@@ -104,7 +104,7 @@ module _ (part : List ℕ) (c : ℕ) (k : char_at part ≡ Char c (length part))
 
     word_told : (dialect : Dialect) (at : Spot) (done : List ℕ) (end : ℕ) → InUnit dialect at done →
         length (done ++ part) ≡ end →
-        Tells dialect (level.Item (mode.Word at)) done part (word_effect dialect at end c)
+        Tells dialect (level.Item (mode.Word at)) done part (table dialect (mode.Word at) end c)
     word_told dialect at done end h ends =
         by_cond P (eqb c 92) _ _
         (λ e. (words.word_escape dialect at done part h (is_one 92 (omega arith) e), nothing_part))
@@ -121,7 +121,7 @@ module _ (part : List ℕ) (c : ℕ) (k : char_at part ≡ Char c (length part))
         P s = Tells dialect (level.Item (mode.Word at)) done part s
 
   inside_told : (dialect : Dialect) (done old : List ℕ) → Within false done old →
-      Tells dialect (level.Item mode.Inside) done part (inside_effect c)
+      Tells dialect (level.Item mode.Inside) done part (table dialect mode.Inside 0 c)
   inside_told dialect done old h =
       by_cond P (eqb c 93) _ _ (λ e. (refl, stands.close_on done part old c h k e))
       (λ n. by_cond P (eqb c 92) _ _ (λ e. stands.escape_on done part old c h k n e)
@@ -132,12 +132,12 @@ module _ (part : List ℕ) (c : ℕ) (k : char_at part ≡ Char c (length part))
 
 -- a character that is whole
 effect_told : (dialect : Dialect) (at : Mode) (done part : List ℕ) (end c : ℕ) →
-    at_blank at ≡ false → StoodIn dialect (level.Item at) done part →
+    at_blank (level.Item at) ≡ false → StoodIn dialect (level.Item at) done part →
     end ≡ length done + length part → char_at part ≡ Char c (length part) →
     Tells dialect (level.Item at) done part (table dialect at end c)
 effect_told dialect mode.Start done part end c b h e k =
     subst (λ (q : List ℕ). Tells dialect (level.Item mode.Start) q part
-    (blank_effect c (start_effect dialect c))) (sym h.stands.0)
+    (table dialect mode.Start 0 c)) (sym h.stands.0)
     (start_told part c k (step.some_part _ _ _ h.part_is) dialect)
 effect_told dialect mode.Escape done part end c b h e k =
     λ x. rw (h.stands.0, length-append) (stands.escaped_whole dialect part c k x)
@@ -154,7 +154,7 @@ effect_told dialect (mode.WordEscape at) done part end c b h e k =
 effect_told dialect (mode.Tag at some) done part end c b h e k =
     words.tag_char dialect at some done part h.stands.0 c k (step.some_part _ _ _ h.part_is)
 
-before : (dialect : Dialect) (at : Mode) (done old : List ℕ) → at_blank at ≡ false →
+before : (dialect : Dialect) (at : Mode) (done old : List ℕ) → at_blank (level.Item at) ≡ false →
     StandsIn dialect (level.Item at) done old → char_at old ≡ Part
 before dialect mode.Start done old b h = h.1
 before dialect mode.Escape done old b h = h.1
@@ -167,7 +167,7 @@ before dialect (mode.Tag at some) done old b h = h.1
 
 -- as it is decoded
 pub char_told : (dialect : Dialect) (at : Mode) (done part : List ℕ) (end c n : ℕ) →
-    at_blank at ≡ false → StoodIn dialect (level.Item at) done part →
+    at_blank (level.Item at) ≡ false → StoodIn dialect (level.Item at) done part →
     end ≡ length done + length part → Char c n ≡ char_at part →
     Tells dialect (level.Item at) done part (table dialect at end c)
 char_told dialect at done part end c n b h e k =
@@ -176,7 +176,7 @@ char_told dialect at done part end c n b h e k =
 
 -- behind a blank it is a byte
 pub blank_told : (dialect : Dialect) (at : Mode) (done part : List ℕ) (end : ℕ) →
-    at_blank at ≡ true → StoodIn dialect (level.Item at) done part →
+    at_blank (level.Item at) ≡ true → StoodIn dialect (level.Item at) done part →
     Tells dialect (level.Item at) done part (table dialect at end (get_or part 0 0))
 blank_told dialect mode.Start done part end b h = absurd (cc)
 blank_told dialect mode.Escape done part end b h = absurd (cc)
@@ -209,7 +209,7 @@ no_begin (a ∷ p) k = elim (cases_lt a 128) [
 ]
 
 -- more of a character is needed
-pub part_told : (dialect : Dialect) (at : Mode) (done part : List ℕ) → at_blank at ≡ false →
+pub part_told : (dialect : Dialect) (at : Mode) (done part : List ℕ) → at_blank (level.Item at) ≡ false →
     StoodIn dialect (level.Item at) done part → char_at part ≡ Part →
     StandsIn dialect (level.Item at) done part
 part_told dialect mode.Start done part b h k = (h.stands.0, k, no_begin part k)
@@ -235,7 +235,7 @@ first_bad test low (a ∷ p) k of none some = elim (cases_lt a 128) [
 ]
 
 -- no character
-pub bad_told : (dialect : Dialect) (at : Mode) (done part : List ℕ) → at_blank at ≡ false →
+pub bad_told : (dialect : Dialect) (at : Mode) (done part : List ℕ) → at_blank (level.Item at) ≡ false →
     StoodIn dialect (level.Item at) done part → char_at part ≡ NotChar →
     Always dialect (done ++ part) (Faulty (Bad NotUtf8))
 bad_told dialect mode.Start done part b h k =

@@ -17,7 +17,7 @@ use Rattle.ap_stream.specs.declared.item.Character.{Character}
 use Rattle.ap_stream.specs.declared.dialect.Dialect.{Dialect}
 use Rattle.ap_stream.specs.Reading.{first, Whole, Faulty, Needs, Kind, limited, reads, read_at, followed, stopped, counted, fault_at, IsRead}
 use Rattle.ap_stream.proofs.ReadingLaws.{first_nil, reads_whole, reads_faulty, reads_needs, reads_nil}
-use Rattle.ap_stream.specs.Stands.{Surely, Looks, StandsIn, StoodIn, at_blank_in, InBlank}
+use Rattle.ap_stream.specs.Stands.{Surely, Looks, StandsIn, StoodIn, at_blank, InBlank}
 use Rattle.ap_stream.proofs.LimitedLaws.{limited_within, limited_ends}
 use Rattle.ap_stream.proofs.LevelLaws.{begun_in, begun_at, in_blank_at, some_stood}
 use Rattle.ap_stream.proofs.ByteLaws.{nothing_part}
@@ -239,14 +239,14 @@ module _ (dialect : Dialect) (held : List ℕ) (place done : ℕ) (at : Level)
   at_front = limited_within item_max dialect held (rw item_max_is short)
       ∙ (begun_at dialect held done at h some).needs
 
-  pub last_broken : at_blank_in at ≡ false → reads dialect place held
+  pub last_broken : at_blank at ≡ false → reads dialect place held
       ≡ stopped (Malformed Unfinished place)
   last_broken e = reads_needs dialect place held at_front some
       ∙ rw ((begun_at dialect held done at h some).broken_is e) refl
 
   pub last_whole : (now : Begun) (looked : Bool) (fault : Option StreamFault) →
       record { dialect = dialect; held = held; place = place; looked = looked; fault = fault } ≡ now
-      → at_blank_in at ≡ true →
+      → at_blank at ≡ true →
       (size newplace : ℕ) (bytes after : List ℕ) (looks : Bool) → bytes ≡ held →
       size ≡ length held → after ≡ [] →
       Ends now (Some (record { item = item.Blank bytes; place = place; size = size }))
@@ -266,7 +266,7 @@ module _ (dialect : Dialect) (held : List ℕ) (place done : ℕ) (at : Level)
   }
 
   -- a letter would end the blank
-  pub last_read : (at_blank_in at ≡ true) → (bytes : List ℕ) (size : ℕ) → bytes ≡ held →
+  pub last_read : (at_blank at ≡ true) → (bytes : List ℕ) (size : ℕ) → bytes ≡ held →
       size ≡ length held → IsRead dialect
       (record { item = item.Blank bytes; place = place; size = size })
   last_read e bytes size t l =

@@ -22,7 +22,7 @@ use Rattle.ap_stream.specs.Blanks.{is_white}
 use Rattle.ap_stream.specs.Chunks.{Held, portion, Opens, body, wrong_byte, wrong_front}
 use Rattle.ap_stream.proofs.ChunkLaws.{body_nil, body_wrong}
 use Rattle.ap_stream.specs.Reading.{First, Needs, Whole, Faulty, Bad, Broken, first, last}
-use Rattle.ap_stream.specs.Stands.{InUnit, caret_first, InPart, Stands, Always, InBlank, Within, blank_first, StandsPart, StandsIn, StoodIn, Tells, portion_effect, at_blank_in, between}
+use Rattle.ap_stream.specs.Stands.{InUnit, caret_first, InPart, Stands, Always, InBlank, Within, blank_first, StandsPart, StandsIn, StoodIn, Tells, portion_effect, at_blank, between}
 use Rattle.ap_stream.specs.Effects.{spot}
 use Rattle.ap_stream.proofs.InUnitLaws.{unit_always, unit_begins}
 use Rattle.ap_stream.proofs.InChunkLaws.{part_first, portion_of, IsPart, part_agrees, part_on, part_some, body_begun, body_barred, caret_on, part_grows, part_needs, part_fails, part_ends, part_ends_before, part_closes, inner_on, closed_needs, closed_wrong, closed_chunk, closed_whole}
@@ -113,7 +113,7 @@ open_part (mode.Tag at some) done part true e h = absurd (cc)
 
 pub begun_in : (dialect : Dialect) (at : Level) (done part : List ℕ) →
     StandsIn dialect at done part →
-    0 < length (done ++ part) → Begins dialect (done ++ part) (at_blank_in at)
+    0 < length (done ++ part) → Begins dialect (done ++ part) (at_blank at)
 begun_in dialect (level.Item at) done part h some = begun dialect at done part h some
 begun_in dialect (level.Part from at) done part h some =
     let grown : InPart dialect from (done ++ part) = part_grows dialect from done h.0 part in
@@ -130,7 +130,7 @@ begun_in dialect level.Closed done part h some =
 
 pub begun_at : (dialect : Dialect) (held : List ℕ) (done : ℕ) (at : Level) →
     StandsIn dialect at (take done held) (drop done held) → 0 < length held →
-    Begins dialect held (at_blank_in at)
+    Begins dialect held (at_blank at)
 begun_at dialect held done at h some =
     let more : 0 < length (take done held ++ drop done held) =
     rw (take-append-drop done held) some in
@@ -138,7 +138,7 @@ begun_at dialect held done at h some =
     (drop done held) h more)
 
 pub in_blank_at : (dialect : Dialect) (held : List ℕ) (done : ℕ) (at : Level) →
-    StandsIn dialect at (take done held) (drop done held) → at_blank_in at ≡ true → InBlank held
+    StandsIn dialect at (take done held) (drop done held) → at_blank at ≡ true → InBlank held
 in_blank_at dialect held done (level.Item at) h e = in_blank dialect held done at h e
 in_blank_at dialect held done (level.Part from at) h e = absurd (cc)
 in_blank_at dialect held done level.Closed h e = absurd (cc)

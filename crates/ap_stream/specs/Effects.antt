@@ -31,18 +31,6 @@ abbrev pub blank_effect : ℕ → Effect → Effect
 blank_effect c other =
     cond (is_white c) (goes Mode.Blank) (cond (eqb c 91) (goes Mode.Inside) other)
 
--- before an item, where no blank begins
-abbrev pub start_effect : Dialect → ℕ → Effect
-start_effect dialect c = cond (eqb c 92) (goes Mode.Escape)
-    (cond (begins_unit dialect c) (goes (Mode.Word (spot true true)))
-    (cond (is_refused dialect c) (Effect.Bad Stray)
-    (Effect.Plain (record { letter = c; escaped = false }))))
-
--- within a superblank
-abbrev pub inside_effect : ℕ → Effect
-inside_effect c = cond (eqb c 93) (goes Mode.Blank)
-    (cond (eqb c 92) (goes Mode.InsideEscape) (goes Mode.Inside))
-
 -- what stands at the front of a word, where so many bytes end with it
 abbrev pub sign_effect : Form → Spot → ℕ → Sign → Effect
 sign_effect form at end Awaits = Effect.Waits
@@ -56,29 +44,26 @@ sign_effect form at end Dollar = cond form.braced (Effect.Bad Stray)
 sign_effect form at end Brace =
     cond form.braced (Effect.Goes (Level.Part end Mode.Start)) (Effect.Bad Stray)
 
--- in a word
-abbrev pub word_effect : Dialect → Spot → ℕ → ℕ → Effect
-word_effect dialect at end c = cond (eqb c 92) (goes (Mode.WordEscape at))
-    (cond (begins_tag (surface_at dialect at) c) (goes (Mode.Tag at false))
-    (sign_effect (form_of dialect) at end (of_bare (surface_at dialect at) (Char c 1))))
-
--- in a tag, of whose name some is there
-abbrev pub tag_effect : Spot → Bool → ℕ → Effect
-tag_effect at some c = cond (is_reserved_lem c)
-    (cond (eqb c 62 && some) (goes (Mode.Word (grown_spot at))) (Effect.Bad BadTag))
-    (goes (Mode.Tag at true))
-
 -- the table: what a character makes of an item, where so many bytes end with it; behind a blank
 -- that is its first byte
 abbrev pub effect : Dialect → Mode → ℕ → ℕ → Effect
-effect dialect Mode.Start end c = blank_effect c (start_effect dialect c)
+effect dialect Mode.Start end c = blank_effect c
+    (cond (eqb c 92) (goes Mode.Escape)
+    (cond (begins_unit dialect c) (goes (Mode.Word (spot true true)))
+    (cond (is_refused dialect c) (Effect.Bad Stray)
+    (Effect.Plain (record { letter = c; escaped = false })))))
 effect dialect Mode.Escape end c = Effect.Plain (record { letter = c; escaped = true })
 effect dialect Mode.Blank end c = blank_effect c Effect.BlankEnds
-effect dialect Mode.Inside end c = inside_effect c
+effect dialect Mode.Inside end c = cond (eqb c 93) (goes Mode.Blank)
+    (cond (eqb c 92) (goes Mode.InsideEscape) (goes Mode.Inside))
 effect dialect Mode.InsideEscape end c = goes Mode.Inside
-effect dialect (Mode.Word at) end c = word_effect dialect at end c
+effect dialect (Mode.Word at) end c = cond (eqb c 92) (goes (Mode.WordEscape at))
+    (cond (begins_tag (surface_at dialect at) c) (goes (Mode.Tag at false))
+    (sign_effect (form_of dialect) at end (of_bare (surface_at dialect at) (Char c 1))))
 effect dialect (Mode.WordEscape at) end c = goes (Mode.Word (grown_spot at))
-effect dialect (Mode.Tag at some) end c = tag_effect at some c
+effect dialect (Mode.Tag at some) end c = cond (is_reserved_lem c)
+    (cond (eqb c 62 && some) (goes (Mode.Word (grown_spot at))) (Effect.Bad BadTag))
+    (goes (Mode.Tag at true))
 
 -- where the item goes on in a superblank, a word or a tag, and not in an escape
 abbrev pub goes_on : Effect → Option Mode

@@ -1,7 +1,7 @@
-ghost use Rattle.std.specs.Prelude.{◌≡◌};
+ghost use Rattle.std.specs.Prelude.{◌≡◌, ℕ};
 ghost use Rattle.ap_stream.specs.Blanks.{is_white as white_test};
 ghost use Rattle.ap_stream.specs.Dialects.{is_refused as refused_test, is_reserved as reserved_test, has_units as units_test};
-ghost use Rattle.ap_stream.specs.Effects.{effect, goes, blank_effect, start_effect, inside_effect, sign_effect, word_effect, tag_effect, grown_spot, surface_at};
+ghost use Rattle.ap_stream.specs.Effects.{effect, goes, blank_effect, sign_effect, grown_spot, surface_at};
 ghost use Rattle.ap_stream.specs.Units.{is_barred as barred_test, form_of, Slash, Dollar, Brace};
 
 use crate::dialect::Dialect;
@@ -104,7 +104,7 @@ fn blank_effect(letter: char, other: Effect) -> Effect
 
 /// Before an item, where no blank begins.
 fn start_effect(dialect: Dialect, letter: char) -> Effect
-    ensures { result ≡ start_effect dialect letter }
+    ensures { (end : ℕ) → blank_effect letter result ≡ effect dialect Mode.Start end letter }
 {
     if letter == '\\' {
         return goes(Mode::Escape);
@@ -126,7 +126,7 @@ fn start_effect(dialect: Dialect, letter: char) -> Effect
 
 /// Within a superblank.
 fn inside_effect(letter: char) -> Effect
-    ensures { result ≡ inside_effect letter }
+    ensures { (dialect : Dialect) (end : ℕ) → result ≡ effect dialect Mode.Inside end letter }
 {
     if letter == ']' {
         return goes(Mode::Blank);
@@ -184,7 +184,7 @@ fn brace_effect(dialect: Dialect, at: Spot, end: usize) -> Effect
 
 /// In a word.
 fn word_effect(dialect: Dialect, at: Spot, end: usize, letter: char) -> Effect
-    ensures { result ≡ word_effect dialect at end letter }
+    ensures { result ≡ effect dialect (Mode.Word at) end letter }
 {
     if letter == '\\' {
         return goes(Mode::WordEscape(at));
@@ -209,7 +209,8 @@ fn word_effect(dialect: Dialect, at: Spot, end: usize, letter: char) -> Effect
 
 /// In a tag, of whose name some is there.
 fn tag_effect(at: Spot, some: bool, letter: char) -> Effect
-    ensures { result ≡ tag_effect at some letter }
+    ensures { (dialect : Dialect) (end : ℕ) →
+        result ≡ effect dialect (Mode.Tag at some) end letter }
 {
     if !is_reserved_in_tag(letter) {
         return goes(Mode::Tag(at, true));

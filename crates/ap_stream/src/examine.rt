@@ -1,13 +1,12 @@
 ghost use Rattle.std.specs.Prelude.{◌≡◌, ◌+◌, eqb, length};
 ghost use Rattle.ap_stream.specs.Blanks.{is_white as white_test};
-ghost use Rattle.ap_stream.specs.Stands.{StoodIn, Tells, at_blank};
-ghost use Rattle.ap_stream.specs.declared.level.Level.{Level};
+ghost use Rattle.ap_stream.specs.Stands.{StoodIn, Tells};
 
 use crate::decode::{Decoded, decode};
 use crate::dialect::Dialect;
 use crate::effects::effect;
 use crate::fault::MalformedKind;
-use crate::level::Effect;
+use crate::level::{Effect, Level, is_blank};
 
 /// Where in a unit a word stands: whether it is the first, and whether nothing of it is there yet.
 #[derive(Clone, Copy, Debug, PartialEq, Eq)]
@@ -49,20 +48,13 @@ pub(crate) fn is_byte(c: u8, d: u8) -> bool
     c == d
 }
 
-/// Whether the bytes so far are a blank.
-pub(crate) fn is_blank(mode: Mode) -> bool
-    ensures { result ≡ at_blank mode }
-{
-    matches!(mode, Mode::Blank)
-}
-
 /// What the last byte shows of an item whose content has no parts, where so many bytes end with it.
 pub(crate) fn examine(dialect: Dialect, mode: Mode, done: &[u8], part: &[u8], end: usize) -> Effect
     requires stood { StoodIn dialect (Level.Item mode) done.now part.now }
     requires end { end ≡ length done.now + length part.now }
     ensures { Tells dialect (Level.Item mode) done.now part.now result }
 {
-    if is_blank(mode) {
+    if is_blank(Level::Item(mode)) {
         return effect(dialect, mode, end, part[0] as char);
     }
     match decode(part) {

@@ -2,7 +2,7 @@ ghost use Rattle.std.specs.Prelude.{◌≡◌, ◌+◌, ◌≤◌, length, take,
 ghost use Rattle.std.proofs.Common.{get_or};
 ghost use Rattle.ap_stream.specs.Chars.{char_at};
 ghost use Rattle.ap_stream.specs.Chunks.{wrong_front};
-ghost use Rattle.ap_stream.specs.Stands.{StoodIn, Tells, portion_effect, between, Looks};
+ghost use Rattle.ap_stream.specs.Stands.{StoodIn, Tells, portion_effect, between, at_blank, Looks};
 
 use crate::UNIT_MAX;
 use crate::decode::{Decoded, decode};
@@ -42,6 +42,13 @@ pub(crate) enum Effect {
     Bad(MalformedKind),
     /// The item has too many bytes.
     TooLong,
+}
+
+/// Whether the bytes so far are a blank, which may go on.
+pub(crate) fn is_blank(level: Level) -> bool
+    ensures { result ≡ at_blank level }
+{
+    matches!(level, Level::Item(Mode::Blank))
 }
 
 /// The fault of a byte where only ASCII can stand, and not this byte.
