@@ -6,12 +6,14 @@ use Rattle.std.proofs.lemmas.Bool.{eqb-true}
 use Rattle.ap_stream.specs.declared.fault.MalformedKind.TheVariants.{Unfinished}
 use Rattle.ap_stream.specs.declared.examine.Mode.{Mode}
 use Rattle.ap_stream.specs.declared.examine.Mode.TheVariants as mode
+use Rattle.ap_stream.specs.declared.level.Level.TheVariants as level
 use Rattle.ap_stream.specs.declared.dialect.Dialect.{Dialect}
 use Rattle.ap_stream.specs.Chars.{Part, char_at}
 use Rattle.ap_stream.specs.Blanks.{Run, Open, Inside, blank, further}
 use Rattle.ap_stream.proofs.BlankLaws.{inside_part}
 use Rattle.ap_stream.specs.Reading.{Needs, Bad, Complete, Broken, first, last, of_run, last_run}
-use Rattle.ap_stream.specs.Stands.{Stands, InBlank, Within, blank_first, escape_first, unit_first, tag_first, InUnit, InEscape, InTag, at_blank}
+use Rattle.ap_stream.specs.Stands.{Stands, InBlank, Within, blank_first, InUnit, InEscape, InTag, at_blank}
+use Rattle.ap_stream.proofs.StandLaws.{escape_first, unit_first, tag_first}
 use Rattle.ap_stream.specs.declared.examine.Spot.{Spot}
 use Rattle.ap_stream.specs.Dialects.{has_units}
 use Rattle.ap_stream.proofs.InUnitLaws.{unit_needs, surface_is}
@@ -160,7 +162,7 @@ begun_escape dialect part h =
     record { needs = rw h refl; whole_is = λ t. absurd (cc); broken_is = λ _. refl }
 
 pub begun : (dialect : Dialect) (at : Mode) (done part : List ℕ) → Stands dialect at done part →
-    0 < length (done ++ part) → Begins dialect (done ++ part) (at_blank at)
+    0 < length (done ++ part) → Begins dialect (done ++ part) (at_blank (level.Item at))
 begun dialect mode.Start done part h some =
     rw h.0 (begun_start dialect part (let P : List ℕ → Type 0 = λ q. 0 < length (q ++ part) in
     subst P h.0 some) h.1 h.2)
@@ -176,7 +178,7 @@ begun dialect (mode.WordEscape at) done part h some = begun_escape_in dialect at
 begun dialect (mode.Tag at named) done part h some = begun_tag dialect at named done part h.0 h.1
 
 pub in_blank : (dialect : Dialect) (held : List ℕ) (done : ℕ) (at : Mode) →
-    Stands dialect at (take done held) (drop done held) → at_blank at ≡ true → InBlank held
+    Stands dialect at (take done held) (drop done held) → at_blank (level.Item at) ≡ true → InBlank held
 in_blank dialect held done mode.Start h e = absurd (cc)
 in_blank dialect held done mode.Escape h e = absurd (cc)
 in_blank dialect held done mode.Blank h e =

@@ -1,13 +1,13 @@
 -- What the code makes of one more byte.
-use Rattle.std.specs.Prelude.{◌≡◌, ℕ, ◌<◌, List, [], ◌∷◌, ◌++◌, length, true, false, eqb, ◌||◌, refl}
+use Rattle.std.specs.Prelude.{◌≡◌, ℕ, ◌<◌, List, [], ◌∷◌, ◌++◌, length, true, false, eqb, refl}
 use Rattle.std.proofs.Common.{arith, ap, sym, subst, ◌∙◌, length-append}
 use Rattle.ap_stream.specs.declared.dialect.Dialect.{Dialect}
 use Rattle.ap_stream.specs.declared.item.Item.TheVariants as item
 use Rattle.ap_stream.specs.Chars.{Part, Char, char_at}
 use Rattle.ap_stream.proofs.CharLaws.{char_length}
 use Rattle.ap_stream.specs.Reading.{Whole}
-use Rattle.ap_stream.specs.Stands.{Always, blank_first, escape_first, InBlank, Within}
-use Rattle.ap_stream.proofs.StandLaws.{begin_white, begin_bracket, blank_on, bracket_on, blank_ends}
+use Rattle.ap_stream.specs.Stands.{Always, InBlank, Within}
+use Rattle.ap_stream.proofs.StandLaws.{blank_on, bracket_on, blank_ends}
 use Rattle.ap_stream.specs.Blanks.{is_white}
 use Rattle.std.proofs.Common.{get_or}
 use Rattle.std.proofs.lemmas.Bool.{eqb-true}
@@ -25,25 +25,6 @@ some_part old part b p = rw (p, length-append) (omega arith)
 
 eqb_is : (b : ℕ) → eqb b 91 ≡ true → b ≡ 91
 eqb_is b h = eqb-true b 91 h
-
--- a blank begins with the first byte alone
-pub start_white : (old part : List ℕ) (b : ℕ) → part ≡ old ++ b ∷ [] → blank_first old ≡ false →
-    blank_first part ≡ true → is_white (get_or part 0 0) ≡ true → InBlank part
-start_white [] part b p h k w = let P : List ℕ → Type 0 = InBlank in
-    subst P (sym p) (begin_white b (ap (λ q. is_white (get_or q 0 0)) (sym p) ∙ w))
-start_white (a ∷ old) part b p h k w =
-    absurd (let e : blank_first part ≡ false = ap blank_first p ∙ h in cc)
-
-pub start_bracket : (old part : List ℕ) (b : ℕ) → part ≡ old ++ b ∷ [] → blank_first old ≡ false →
-    blank_first part ≡ true → is_white (get_or part 0 0) ≡ false → Within false part []
-start_bracket [] part b p h k w =
-    let P : List ℕ → Type 0 = λ q. Within false q [] in
-    let white : is_white b ≡ false = ap (λ q. is_white (get_or q 0 0)) (sym p) ∙ w in
-    let first : is_white b || eqb b 91 ≡ true = ap blank_first (sym p) ∙ k in
-    let is : b ≡ 91 = eqb_is b (rw white at first) in
-    subst P (sym (p ∙ ap (λ c. c ∷ []) is)) begin_bracket
-start_bracket (a ∷ old) part b p h k w =
-    absurd (let e : blank_first part ≡ false = ap blank_first p ∙ h in cc)
 
 pub one_byte : (old part : List ℕ) (b : ℕ) → part ≡ old ++ b ∷ [] → old ≡ [] →
     part ≡ get_or part 0 0 ∷ []
@@ -67,15 +48,6 @@ pub goes_end : (dialect : Dialect) (done part : List ℕ) → part ≡ get_or pa
 goes_end dialect done part p h w k = let P : List ℕ → Type 0 =
     λ q. Always dialect (done ++ q) (Whole (item.Blank done) (length done)) in
     subst P (sym p) (blank_ends dialect done (get_or part 0 0) h w k)
-
--- a backslash alone
-pub backslash : (old part : List ℕ) (b : ℕ) → part ≡ old ++ b ∷ [] → char_at old ≡ Part →
-    escape_first part ≡ true → part ≡ 92 ∷ []
-unfolding char_at
-backslash [] part b p h e = p ∙ ap (λ c. c ∷ []) (eqb-true b 92 (ap escape_first (sym p) ∙ e))
-backslash (a ∷ old) part b p h e =
-    let is : a ≡ 92 = eqb-true a 92 (ap escape_first (sym p) ∙ e) in
-    let k : char_at (92 ∷ old) ≡ Part = rw is at h in absurd cc
 
 pub nothing_part : char_at [] ≡ Part
 unfolding char_at

@@ -11,7 +11,7 @@ use Rattle.ap_stream.specs.declared.dialect.Dialect.{Dialect}
 use Rattle.ap_stream.specs.declared.dialect.Dialect.TheVariants.{Raw, Analysed, Lexical, Bilingual, Chunked, Generated}
 use Rattle.ap_stream.specs.declared.examine.Mode.TheVariants as mode
 use Rattle.ap_stream.specs.declared.level.Level.TheVariants as level
-use Rattle.ap_stream.specs.declared.level.Shown.TheVariants as shown
+use Rattle.ap_stream.specs.declared.level.Effect.TheVariants as effect
 use Rattle.ap_stream.specs.declared.item.Item.{Item}
 use Rattle.ap_stream.specs.declared.item.Item.TheVariants as item
 use Rattle.ap_stream.specs.declared.item.Read.{Read}
@@ -235,7 +235,7 @@ one_byte (b ∷ bytes) e = refl
 pub common_looks : (dialect : Dialect) (piece : List ℕ) → length (take 1 piece) ≡ 1 →
     get_or piece 0 0 < 128 → is_common (get_or piece 0 0) ≡ true →
     Looks dialect (level.Item mode.Start) 0 (take 1 piece)
-    (shown.Plain (record { letter = get_or piece 0 0; escaped = false }))
+    (effect.Plain (record { letter = get_or piece 0 0; escaped = false }))
 common_looks dialect piece single low common =
     let b : ℕ = get_or piece 0 0 in
     let bytes : List ℕ = take 1 piece in

@@ -22,7 +22,8 @@ use Rattle.ap_stream.specs.ReadOn.{ArePieces}
 use Rattle.ap_symbol.specs.Kinds.{first_word}
 use Rattle.ap_stream.specs.Reading.{First, Needs, Whole, Faulty, Bad as OfKind, first, begins_unit, of_run, of_escaped, of_char, of_unit, plain as plain_item, of_body, of_chunk, of_caret}
 use Rattle.ap_stream.specs.Supers.{item_supers, inner_supers}
-use Rattle.ap_stream.specs.Stands.{blank_first, escape_first, unit_first}
+use Rattle.ap_stream.specs.Stands.{blank_first}
+use Rattle.ap_stream.proofs.StandLaws.{escape_first, unit_first}
 use Rattle.ap_stream.proofs.StandLaws.{letter_whole, escaped_whole}
 use Rattle.ap_stream.specs.Units.{Rest, Lacks, Wrong, Ends, rest, form_of}
 use Rattle.ap_stream.proofs.Back.{char_back}

@@ -8,7 +8,7 @@ use Rattle.ap_stream.specs.declared.fault.StreamFault.TheVariants.{Malformed}
 use Rattle.ap_stream.specs.declared.fault.MalformedKind.TheVariants.{Unfinished}
 use Rattle.ap_stream.specs.declared.level.Level.{Level}
 use Rattle.ap_stream.specs.declared.level.Level.TheVariants as level
-use Rattle.ap_stream.specs.declared.level.Shown.TheVariants as shown
+use Rattle.ap_stream.specs.declared.level.Effect.TheVariants as effect
 use Rattle.ap_stream.specs.declared.examine.Mode.TheVariants as mode
 use Rattle.ap_stream.specs.declared.item.Item.{Item}
 use Rattle.ap_stream.specs.declared.item.Item.TheVariants as item
@@ -17,7 +17,7 @@ use Rattle.ap_stream.specs.declared.item.Character.{Character}
 use Rattle.ap_stream.specs.declared.dialect.Dialect.{Dialect}
 use Rattle.ap_stream.specs.Reading.{first, Whole, Faulty, Needs, Kind, limited, reads, read_at, followed, stopped, counted, fault_at, IsRead}
 use Rattle.ap_stream.proofs.ReadingLaws.{first_nil, reads_whole, reads_faulty, reads_needs, reads_nil}
-use Rattle.ap_stream.specs.Stands.{Surely, Looks, StandsIn, StoodIn, at_blank_in, InBlank}
+use Rattle.ap_stream.specs.Stands.{Surely, Looks, StandsIn, StoodIn, at_blank, InBlank}
 use Rattle.ap_stream.proofs.LimitedLaws.{limited_within, limited_ends}
 use Rattle.ap_stream.proofs.LevelLaws.{begun_in, begun_at, in_blank_at, some_stood}
 use Rattle.ap_stream.proofs.ByteLaws.{nothing_part}
@@ -66,11 +66,11 @@ stands_byte dialect held b false h e =
 
 pub stands_waits : (dialect : Dialect) (at : Level) (done : ℕ) (held : List ℕ) →
     done ≤ length held →
-    Looks dialect at done held shown.Waits → Standing dialect true at done held
+    Looks dialect at done held effect.Waits → Standing dialect true at done held
 stands_waits dialect at done held fits h = record { fits = fits; short = λ _. h.1; stands = h.0 }
 
 pub stands_goes : (dialect : Dialect) (at to : Level) (done size : ℕ) (held : List ℕ) →
-    size ≡ length held → Looks dialect at done held (shown.Goes to) →
+    size ≡ length held → Looks dialect at done held (effect.Goes to) →
     Standing dialect true to size held
 stands_goes dialect at to done size held e h =
     let all : take size held ≡ held = take_all size held (omega arith) in
@@ -193,7 +193,7 @@ module _ (now : Begun) (dialect : Dialect) (held : List ℕ) (place : ℕ) (look
     (fault : Option StreamFault)
     (view : record { dialect = dialect; held = held; place = place; looked = looked; fault = fault }
     ≡ now) (none : held ≡ []) (bytes : List ℕ) (one : length bytes ≡ 1) (c : Character)
-    (h : Looks dialect (level.Item mode.Start) 0 bytes (shown.Plain c)) where
+    (h : Looks dialect (level.Item mode.Start) 0 bytes (effect.Plain c)) where
   pub bare_given : (newplace : ℕ) (after : List ℕ) → newplace ≡ counted (place + 1) →
       after ≡ held → Feeds now bytes (Some (record { item = item.Plain c; place = place; size = 1 }))
       (record {
@@ -239,14 +239,14 @@ module _ (dialect : Dialect) (held : List ℕ) (place done : ℕ) (at : Level)
   at_front = limited_within item_max dialect held (rw item_max_is short)
       ∙ (begun_at dialect held done at h some).needs
 
-  pub last_broken : at_blank_in at ≡ false → reads dialect place held
+  pub last_broken : at_blank at ≡ false → reads dialect place held
       ≡ stopped (Malformed Unfinished place)
   last_broken e = reads_needs dialect place held at_front some
       ∙ rw ((begun_at dialect held done at h some).broken_is e) refl
 
   pub last_whole : (now : Begun) (looked : Bool) (fault : Option StreamFault) →
       record { dialect = dialect; held = held; place = place; looked = looked; fault = fault } ≡ now
-      → at_blank_in at ≡ true →
+      → at_blank at ≡ true →
       (size newplace : ℕ) (bytes after : List ℕ) (looks : Bool) → bytes ≡ held →
       size ≡ length held → after ≡ [] →
       Ends now (Some (record { item = item.Blank bytes; place = place; size = size }))
@@ -266,7 +266,7 @@ module _ (dialect : Dialect) (held : List ℕ) (place done : ℕ) (at : Level)
   }
 
   -- a letter would end the blank
-  pub last_read : (at_blank_in at ≡ true) → (bytes : List ℕ) (size : ℕ) → bytes ≡ held →
+  pub last_read : (at_blank at ≡ true) → (bytes : List ℕ) (size : ℕ) → bytes ≡ held →
       size ≡ length held → IsRead dialect
       (record { item = item.Blank bytes; place = place; size = size })
   last_read e bytes size t l =

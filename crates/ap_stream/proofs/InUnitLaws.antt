@@ -14,7 +14,8 @@ use Rattle.ap_stream.specs.Units.{form_of, Reads, sign, in_surface, is_none, may
 use Rattle.ap_stream.proofs.UnitLaws.{longer_longer, rest_symbol, rest_slash, rest_dollar}
 use Rattle.ap_stream.specs.UnitBytes.{UnitOf}
 use Rattle.ap_stream.specs.Reading.{Needs, Whole, Faulty, Bad, first, of_unit, of_chunk, of_caret}
-use Rattle.ap_stream.specs.Stands.{surface_at, spot, grown_spot, InUnit}
+use Rattle.ap_stream.specs.Stands.{InUnit}
+use Rattle.ap_stream.specs.Effects.{surface_at, spot, grown_spot}
 
 pub first_caret : (dialect : Dialect) (t : List ℕ) → has_units dialect ≡ true →
     first dialect (94 ∷ t) ≡ of_caret dialect t (rest (form_of dialect) [] [] 0 t)

@@ -9,11 +9,10 @@ use Rattle.ap_stream.specs.declared.dialect.Dialect.TheVariants.{Lexical}
 use Rattle.ap_stream.specs.declared.examine.Mode.{Mode}
 use Rattle.ap_stream.specs.declared.examine.Mode.TheVariants as mode
 use Rattle.ap_stream.specs.declared.examine.Spot.{Spot}
-use Rattle.ap_stream.specs.declared.examine.Seen.TheVariants as seen
 use Rattle.ap_stream.specs.declared.level.Level.{Level}
 use Rattle.ap_stream.specs.declared.level.Level.TheVariants as level
-use Rattle.ap_stream.specs.declared.level.Shown.{Shown}
-use Rattle.ap_stream.specs.declared.level.Shown.TheVariants as shown
+use Rattle.ap_stream.specs.declared.level.Effect.{Effect}
+use Rattle.ap_stream.specs.declared.level.Effect.TheVariants as effect
 use Rattle.ap_stream.specs.declared.fault.MalformedKind.{MalformedKind}
 use Rattle.ap_stream.specs.declared.fault.MalformedKind.TheVariants.{Unfinished}
 use Rattle.ap_stream.specs.declared.item.Inner.TheVariants as inner
@@ -23,7 +22,8 @@ use Rattle.ap_stream.specs.Blanks.{is_white}
 use Rattle.ap_stream.specs.Chunks.{Held, portion, Opens, body, wrong_byte, wrong_front}
 use Rattle.ap_stream.proofs.ChunkLaws.{body_nil, body_wrong}
 use Rattle.ap_stream.specs.Reading.{First, Needs, Whole, Faulty, Bad, Broken, first, last}
-use Rattle.ap_stream.specs.Stands.{InUnit, spot, caret_first, InPart, Stands, Always, InBlank, Within, blank_first, Sees, StandsPart, StandsIn, StoodIn, Tells, portion_shown, at_blank_in, between}
+use Rattle.ap_stream.specs.Stands.{InUnit, caret_first, InPart, Stands, Always, InBlank, Within, blank_first, StandsPart, StandsIn, StoodIn, Tells, portion_effect, at_blank, between}
+use Rattle.ap_stream.specs.Effects.{spot}
 use Rattle.ap_stream.proofs.InUnitLaws.{unit_always, unit_begins}
 use Rattle.ap_stream.proofs.InChunkLaws.{part_first, portion_of, IsPart, part_agrees, part_on, part_some, body_begun, body_barred, caret_on, part_grows, part_needs, part_fails, part_ends, part_ends_before, part_closes, inner_on, closed_needs, closed_wrong, closed_chunk, closed_whole}
 use Rattle.ap_stream.proofs.StandLaws.{begin_white, begin_bracket}
@@ -113,7 +113,7 @@ open_part (mode.Tag at some) done part true e h = absurd (cc)
 
 pub begun_in : (dialect : Dialect) (at : Level) (done part : List ℕ) →
     StandsIn dialect at done part →
-    0 < length (done ++ part) → Begins dialect (done ++ part) (at_blank_in at)
+    0 < length (done ++ part) → Begins dialect (done ++ part) (at_blank at)
 begun_in dialect (level.Item at) done part h some = begun dialect at done part h some
 begun_in dialect (level.Part from at) done part h some =
     let grown : InPart dialect from (done ++ part) = part_grows dialect from done h.0 part in
@@ -130,7 +130,7 @@ begun_in dialect level.Closed done part h some =
 
 pub begun_at : (dialect : Dialect) (held : List ℕ) (done : ℕ) (at : Level) →
     StandsIn dialect at (take done held) (drop done held) → 0 < length held →
-    Begins dialect held (at_blank_in at)
+    Begins dialect held (at_blank at)
 begun_at dialect held done at h some =
     let more : 0 < length (take done held ++ drop done held) =
     rw (take-append-drop done held) some in
@@ -138,7 +138,7 @@ begun_at dialect held done at h some =
     (drop done held) h more)
 
 pub in_blank_at : (dialect : Dialect) (held : List ℕ) (done : ℕ) (at : Level) →
-    StandsIn dialect at (take done held) (drop done held) → at_blank_in at ≡ true → InBlank held
+    StandsIn dialect at (take done held) (drop done held) → at_blank at ≡ true → InBlank held
 in_blank_at dialect held done (level.Item at) h e = in_blank dialect held done at h e
 in_blank_at dialect held done (level.Part from at) h e = absurd (cc)
 in_blank_at dialect held done level.Closed h e = absurd (cc)
@@ -154,7 +154,7 @@ wrong_kind Part e = cc
 wrong_kind NotChar e = cc
 wrong_kind (Char c n) e = cc
 
-by_cond : (P : Shown → Type 0) (b : Bool) (s t : Shown) → (b ≡ true → P s) → (b ≡ false → P t) →
+by_cond : (P : Effect → Type 0) (b : Bool) (s t : Effect) → (b ≡ true → P s) → (b ≡ false → P t) →
     P (cond b s t)
 by_cond P true s t h k = h refl
 by_cond P false s t h k = k refl
@@ -165,13 +165,13 @@ neither a b h k = rw (h, k) refl
 -- the first byte of a part, or the one behind the last
 module _ (dialect : Dialect) (at : Level) (done : List ℕ) (b from : ℕ)
     (h : InPart dialect from (done ++ b ∷ [])) (inner : drop from (done ++ b ∷ []) ≡ b ∷ []) where
-  abbrev Told : Shown → Type 0
+  abbrev Told : Effect → Type 0
   Told s = Tells dialect at done (b ∷ []) s
 
-  goes_part : (to : Mode) → StandsPart to (b ∷ []) [] → Told (shown.Goes (level.Part from to))
+  goes_part : (to : Mode) → StandsPart to (b ∷ []) [] → Told (effect.Goes (level.Part from to))
   goes_part to s = (h, subst (λ (q : List ℕ). StandsPart to q []) (sym inner) s)
 
-  byte_told : Told (portion_shown (b ∷ []) from)
+  byte_told : Told (portion_effect (b ∷ []) from)
   byte_told =
       by_cond Told (is_white b) _ _ (λ w. goes_part mode.Blank (refl, begin_white b w))
       (λ w. by_cond Told (eqb b 91) _ _
@@ -198,15 +198,15 @@ module _ (dialect : Dialect) (at : Level) (done : List ℕ) (b from : ℕ)
 
 pub portion_told : (dialect : Dialect) (at : Level) (done part : List ℕ) (b from : ℕ) →
     part ≡ b ∷ [] → InPart dialect from (done ++ b ∷ []) → drop from (done ++ b ∷ []) ≡ b ∷ [] →
-    Tells dialect at done part (portion_shown part from)
+    Tells dialect at done part (portion_effect part from)
 portion_told dialect at done part b from is h inner =
-    subst (λ (q : List ℕ). Tells dialect at done q (portion_shown q from)) (sym is)
+    subst (λ (q : List ℕ). Tells dialect at done q (portion_effect q from)) (sym is)
     (byte_told dialect at done b from h inner)
 
 -- between two parts
 pub between_told : (dialect : Dialect) (from : ℕ) (at : Mode) (done part : List ℕ) →
     between at ≡ true → StoodIn dialect (level.Part from at) done part →
-    Tells dialect (level.Part from at) done part (portion_shown part from)
+    Tells dialect (level.Part from at) done part (portion_effect part from)
 between_told dialect from mode.Start done part e h =
     let is : part ≡ h.byte ∷ [] = h.part_is ∙ ap (λ (q : List ℕ). q ++ h.byte ∷ []) h.stands.1.1 in
     portion_told dialect (level.Part from mode.Start) done part h.byte from is
@@ -241,8 +241,8 @@ module _ (dialect : Dialect) (from : ℕ) (at : Mode) (done part : List ℕ)
       portion ((drop from done ++ part) ++ x) ≡ portion_of f
   portion_is f e x = (part_agrees _ (begins_all x)).0 ∙ ap portion_of (e x)
 
-  pub blank_told : Sees Lexical at (drop from done) part seen.BlankEnds →
-      Tells dialect (level.Part from at) done part (portion_shown part (length done))
+  pub blank_told : Tells Lexical (level.Item at) (drop from done) part effect.BlankEnds →
+      Tells dialect (level.Part from at) done part (portion_effect part (length done))
   blank_told s =
       let b : ℕ = get_or part 0 0 in
       let blank : List ℕ = drop from done in
@@ -256,8 +256,8 @@ module _ (dialect : Dialect) (from : ℕ) (at : Mode) (done part : List ℕ)
       (drop-append_seam done (get_or part 0 0 ∷ []))
 
   pub unit_told : (end : ℕ) → end ≡ length done + length part →
-      Sees Lexical at (drop from done) part seen.UnitEnds →
-      Tells dialect (level.Part from at) done part (shown.Goes (level.Part end mode.Start))
+      Tells Lexical (level.Item at) (drop from done) part effect.UnitEnds →
+      Tells dialect (level.Part from at) done part (effect.Goes (level.Part end mode.Start))
   unit_told end e s =
       let all : length (done ++ part) ≡ end = length-append done part ∙ sym e in
       let some : 0 < length (drop from (done ++ part)) =
@@ -272,8 +272,8 @@ module _ (dialect : Dialect) (from : ℕ) (at : Mode) (done part : List ℕ)
         (drop-length (done ++ part), refl),
       )
 
-  pub bad_told : (kind : MalformedKind) → Sees Lexical at (drop from done) part (seen.Bad kind) →
-      Tells dialect (level.Part from at) done part (shown.Bad kind)
+  pub bad_told : (kind : MalformedKind) → Tells Lexical (level.Item at) (drop from done) part (effect.Bad kind) →
+      Tells dialect (level.Part from at) done part (effect.Bad kind)
   bad_told kind s = (
     part_fails dialect from (done ++ part) grown kind (λ x. ap
         (λ (q : List ℕ). body 0 (q ++ x)) inner_is
@@ -282,7 +282,7 @@ module _ (dialect : Dialect) (from : ℕ) (at : Mode) (done part : List ℕ)
     s.1,
   )
 
-  pub never_plain : (c : _) → Sees Lexical at (drop from done) part (seen.Plain c) → ⊥
+  pub never_plain : (c : _) → Tells Lexical (level.Item at) (drop from done) part (effect.Plain c) → ⊥
   never_plain c s =
       subst IsPart (s []) (part_agrees ((drop from done ++ part) ++ []) (begins_all [])).1
 
@@ -292,12 +292,12 @@ module _ (dialect : Dialect) (done part : List ℕ) (h : StoodIn dialect level.C
   only_byte = h.part_is ∙ ap (λ (q : List ℕ). q ++ h.byte ∷ []) h.stands.1
 
   pub chunk_told : eqb (get_or part 0 0) 36 ≡ true →
-      Tells dialect level.Closed done part shown.ChunkEnds
+      Tells dialect level.Closed done part effect.ChunkEnds
   chunk_told e =
       let is : h.byte ≡ 36 =
       eqb-true h.byte 36 (ap (λ (q : List ℕ). eqb (get_or q 0 0) 36) (sym only_byte) ∙ e) in
       let all : part ≡ 36 ∷ [] = only_byte ∙ ap (λ z. z ∷ []) is in
-      subst (λ (q : List ℕ). Tells dialect level.Closed done q shown.ChunkEnds) (sym all) (
+      subst (λ (q : List ℕ). Tells dialect level.Closed done q effect.ChunkEnds) (sym all) (
         closed_chunk dialect done h.stands.0,
         h.stands.0.chunks,
         closed_whole dialect done
@@ -305,11 +305,11 @@ module _ (dialect : Dialect) (done part : List ℕ) (h : StoodIn dialect level.C
       )
 
   pub no_dollar_told : eqb (get_or part 0 0) 36 ≡ false →
-      Tells dialect level.Closed done part (shown.Bad (wrong_front (char_at part)))
+      Tells dialect level.Closed done part (effect.Bad (wrong_front (char_at part)))
   no_dollar_told e =
       let other : eqb h.byte 36 ≡ false =
       ap (λ (q : List ℕ). eqb (get_or q 0 0) 36) (sym only_byte) ∙ e in
       subst (λ (q : List ℕ). Tells dialect level.Closed done q
-      (shown.Bad (wrong_front (char_at q))))
+      (effect.Bad (wrong_front (char_at q))))
       (sym only_byte)
       (closed_wrong dialect done h.stands.0 h.byte other, wrong_kind (char_at (h.byte ∷ [])))

@@ -15,6 +15,7 @@ pub mod CharLaws
 pub mod Stop
 pub mod Encoding
 pub mod WordSteps
+pub mod EffectLaws
 pub mod SignLaws
 pub mod UnitWords
 pub mod PlainBytes

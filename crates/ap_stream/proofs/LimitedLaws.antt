@@ -12,8 +12,8 @@ use Rattle.ap_stream.specs.declared.dialect.Dialect.{Dialect}
 use Rattle.ap_stream.specs.declared.item.Item.TheVariants as item
 use Rattle.ap_stream.specs.declared.item.Chunk.{Chunk}
 use Rattle.ap_stream.specs.declared.level.Level.{Level}
-use Rattle.ap_stream.specs.declared.level.Shown.{Shown}
-use Rattle.ap_stream.specs.declared.level.Shown.TheVariants as shown
+use Rattle.ap_stream.specs.declared.level.Effect.{Effect}
+use Rattle.ap_stream.specs.declared.level.Effect.TheVariants as effect
 use Rattle.ap_stream.specs.Reading.{First, Needs, Whole, Faulty, Bad, first, limited, past, at_limit, plain}
 use Rattle.ap_stream.specs.Stands.{Always, InBlank, StandsIn, StoodIn, Tells, Surely, Looks}
 use Rattle.ap_stream.proofs.StandLaws.{blank_ends}
@@ -100,36 +100,42 @@ module _ (dialect : Dialect) (at : Level) (done : ℕ) (held : List ℕ) where
       ∙ length-append (take done held) (drop done held)
       ∙ ap (λ n. length (take done held) + n) (ap length h)
 
-  pub looks_short : (s : Shown) → length held ≤ unit_max →
+  pub looks_short : (s : Effect) → length held ≤ unit_max →
       Tells dialect at (take done held) (drop done held) s → Looks dialect at done held s
-  looks_short shown.Waits fits h = (h, fits)
-  looks_short (shown.Goes to) fits h = (
+  looks_short effect.Waits fits h = (h, fits)
+  looks_short (effect.Goes to) fits h = (
     let P : List ℕ → Type 0 = λ q. StandsIn dialect to q [] in
         subst P (take-append-drop done held) h,
     fits,
   )
-  looks_short (shown.Plain c) fits h = (
+  looks_short (effect.Plain c) fits h = (
     let l = surely (Whole (plain c.letter c.escaped) (length (take done held ++ drop done held)))
         fits h tt in rw (take-append-drop done held) at l,
     fits,
   )
-  looks_short shown.BlankEnds fits h = (
-    h.0,
-    h.1,
-    surely (Whole (item.Blank (take done held)) (length (take done held))) fits h.2 tt,
+  looks_short effect.BlankEnds fits h = (
+    (
+      h.0,
+      h.1,
+      surely (Whole (item.Blank (take done held)) (length (take done held))) fits h.2 tt,
+    ),
     omega (arith, front_short h.1),
   )
-  looks_short shown.UnitEnds fits h =
-      (h.0, subst (λ (q : List ℕ). UnitOf dialect q h.0) (take-append-drop done held) h.1, fits)
-  looks_short shown.ChunkEnds fits h = (
-    h.0,
-    h.1,
-    let k = whole (Whole (item.Chunk h.0) (length (take done held ++ drop done held))) h.2 in
-        rw (take-append-drop done held) at k,
+  looks_short effect.UnitEnds fits h = (
+    (h.0, subst (λ (q : List ℕ). UnitOf dialect q h.0) (take-append-drop done held) h.1),
     fits,
   )
-  looks_short (shown.Bad kind) fits h = (surely (Faulty (Bad kind)) fits h.0 tt, h.1)
-  looks_short shown.TooLong fits h = absurd h
+  looks_short effect.ChunkEnds fits h = (
+    (
+      h.0,
+      h.1,
+      let k = whole (Whole (item.Chunk h.0) (length (take done held ++ drop done held))) h.2 in
+          rw (take-append-drop done held) at k,
+    ),
+    fits,
+  )
+  looks_short (effect.Bad kind) fits h = ((surely (Faulty (Bad kind)) fits h.0 tt, h.1), tt)
+  looks_short effect.TooLong fits h = absurd h
 
   -- before the byte past the limit, more was needed
   pub needs_before : StoodIn dialect at (take done held) (drop done held) →
@@ -158,16 +164,18 @@ module _ (dialect : Dialect) (at : Level) (done : ℕ) (held : List ℕ) where
   all_now f h = rw append-nil at (whole f h [])
 
   pub looks_blank : StoodIn dialect at (take done held) (drop done held) → length held ≡ begun_max →
-      Tells dialect at (take done held) (drop done held) shown.BlankEnds →
-      Looks dialect at done held shown.BlankEnds
+      Tells dialect at (take done held) (drop done held) effect.BlankEnds →
+      Looks dialect at done held effect.BlankEnds
   looks_blank h l s =
       let n : length (take done held) ≡ unit_max = omega (arith, front_short s.1, l) in
       let fine : leb (length (take done held)) item_max ≡ true = rw (item_max_is, n) refl in (
-        s.0,
-        s.1,
-        λ x. past_all h l (Whole (item.Blank (take done held)) (length (take done held)))
-            (all_now (Whole (item.Blank (take done held)) (length (take done held))) s.2) x
-            ∙ rw fine refl,
+        (
+          s.0,
+          s.1,
+          λ x. past_all h l (Whole (item.Blank (take done held)) (length (take done held)))
+              (all_now (Whole (item.Blank (take done held)) (length (take done held))) s.2) x
+              ∙ rw fine refl,
+        ),
         omega (arith, n),
       )
 
@@ -179,17 +187,17 @@ module _ (dialect : Dialect) (at : Level) (done : ℕ) (held : List ℕ) where
       (begun_in dialect to front part h (omega (arith, len))).needs in
       ap (first dialect) (sym e) ∙ k
 
-  pub looks_long : (s : Shown) → s ≢ shown.BlankEnds →
+  pub looks_long : (s : Effect) → s ≢ effect.BlankEnds →
       StoodIn dialect at (take done held) (drop done held) → length held ≡ begun_max →
       Tells dialect at (take done held) (drop done held) s →
-      Looks dialect at done held shown.TooLong
-  looks_long shown.Waits differs h l s =
+      Looks dialect at done held effect.TooLong
+  looks_long effect.Waits differs h l s =
       past_all h l Needs (needs_all at (take done held) (drop done held)
       (take-append-drop done held) s l)
-  looks_long (shown.Goes to) differs h l s =
+  looks_long (effect.Goes to) differs h l s =
       past_all h l Needs (needs_all to (take done held ++ drop done held) []
       (append-nil _ ∙ take-append-drop done held) s l)
-  looks_long (shown.Plain c) differs h l s =
+  looks_long (effect.Plain c) differs h l s =
       let n : length (take done held ++ drop done held) ≡ begun_max =
       ap length (take-append-drop done held) ∙ l in
       let f : First = Whole (plain c.letter c.escaped)
@@ -200,7 +208,7 @@ module _ (dialect : Dialect) (at : Level) (done : ℕ) (held : List ℕ) where
       (length (take done held ++ drop done held)))
       (all_now (Whole (plain c.letter c.escaped) (length (take done held ++ drop done held))) s)
       x ∙ rw long refl
-  looks_long shown.UnitEnds differs h l s =
+  looks_long effect.UnitEnds differs h l s =
       let n : length (take done held ++ drop done held) ≡ begun_max =
       ap length (take-append-drop done held) ∙ l in
       let long : leb (length (take done held ++ drop done held)) item_max ≡ false =
@@ -208,16 +216,16 @@ module _ (dialect : Dialect) (at : Level) (done : ℕ) (held : List ℕ) where
       λ x. past_all h l (Whole (item.Unit s.0) (length (take done held ++ drop done held)))
       (all_now (Whole (item.Unit s.0) (length (take done held ++ drop done held)))
       (unit_always dialect (take done held ++ drop done held) s.0 s.1)) x ∙ rw long refl
-  looks_long shown.ChunkEnds differs h l s =
+  looks_long effect.ChunkEnds differs h l s =
       let all : List ℕ = take done held ++ drop done held in
       let n : length all ≡ begun_max = ap length (take-append-drop done held) ∙ l in
       let long : leb (length all) item_max ≡ false = rw (item_max_is, n) refl in
       λ x. past_all h l (Whole (item.Chunk s.0) (length all))
       (all_now (Whole (item.Chunk s.0) (length all)) s.2) x ∙ rw long refl
-  looks_long shown.BlankEnds differs h l s = absurd (differs refl)
-  looks_long (shown.Bad kind) differs h l s =
+  looks_long effect.BlankEnds differs h l s = absurd (differs refl)
+  looks_long (effect.Bad kind) differs h l s =
       past_all h l (Faulty (Bad kind)) (all_now (Faulty (Bad kind)) s.0)
-  looks_long shown.TooLong differs h l s = absurd s
+  looks_long effect.TooLong differs h l s = absurd s
 
 ends_past : (most : ℕ) (dialect : Dialect) (held : List ℕ) → length held ≡ most → InBlank held →
     Always dialect (held ++ 97 ∷ []) (Whole (item.Blank held) (length held)) →

@@ -10,8 +10,23 @@ use Rattle.ap_stream.specs.Chars.{NotChar, Char, char_at}
 use Rattle.ap_stream.proofs.CharLaws.{char_stays}
 use Rattle.ap_stream.specs.Blanks.{BadChar, Done, blank, is_white, further, inside, closes, escapes}
 use Rattle.ap_stream.proofs.BlankLaws.{further_further, inside_char, inside_bad, blank_white, blank_bracket, blank_done}
-use Rattle.ap_stream.specs.Reading.{Whole, Faulty, Bad, first, of_run, of_char, plain}
-use Rattle.ap_stream.specs.Stands.{blank_first, escape_first, unit_first, InBlank, Within, Always}
+use Rattle.ap_stream.specs.Reading.{Whole, Faulty, Bad, first, begins_unit, of_run, of_char, plain}
+use Rattle.ap_stream.specs.Stands.{blank_first, InBlank, Within, Always}
+use Rattle.ap_stream.specs.Units.{begins_tag}
+
+-- what the first byte is
+
+abbrev pub escape_first : List ℕ → Bool
+escape_first [] = false
+escape_first (b ∷ bs) = eqb b 92
+
+abbrev pub unit_first : Dialect → List ℕ → Bool
+unit_first dialect [] = false
+unit_first dialect (b ∷ bs) = begins_unit dialect b
+
+abbrev pub tag_first : Bool → List ℕ → Bool
+tag_first surface [] = false
+tag_first surface (b ∷ bs) = begins_tag surface b
 
 first_blank : (dialect : Dialect) (held x : List ℕ) → blank_first held ≡ true →
     first dialect (held ++ x) ≡ of_run (held ++ x) (blank 0 (held ++ x))

@@ -9,6 +9,7 @@ pub mod Units
 pub mod UnitBytes
 pub mod Chunks
 pub mod Reading
+pub mod Effects
 pub mod Stands
 pub mod Given
 pub mod Told

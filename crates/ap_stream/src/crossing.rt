@@ -1,8 +1,12 @@
-ghost use Rattle.std.specs.Prelude.{◌≡◌, ◌==◌, ◌||◌, true, ℕ, ◌<◌, ◌≤◌, length, slice_index, take, Some};
-ghost use Rattle.ap_stream.specs.Stands.{AllGoOn, AllCross, AllCrossIn, is_lone as lone_test, is_named as named_test, parts_at, crossed_by, crossing};
+ghost use Rattle.std.specs.Prelude.{◌≡◌, ◌==◌, ◌&&◌, ◌||◌, not, true, ℕ, nat_lt, ◌<◌, ◌≤◌, length, slice_index, take, Some, IfSome};
+ghost use Rattle.ap_symbol.specs.TagNames.{is_reserved_lem};
+ghost use Rattle.ap_stream.specs.Effects.{crossed_by, crossing};
+ghost use Rattle.ap_stream.specs.Stands.{AllCross, stops_word};
+ghost use Rattle.ap_stream.specs.Units.{form_of};
 
 use crate::dialect::Dialect;
-use crate::examine::{Mode, Spot, grown, is_several, is_surface};
+use crate::effects::{grown, is_several, is_surface};
+use crate::examine::{Mode, Spot};
 use crate::level::Level;
 use memchr::memchr2;
 
@@ -37,14 +41,15 @@ fn ascii_run(bytes: &[u8], end: usize) -> usize
 /// How many of the bytes only go on with a superblank.
 fn superblank_run(bytes: &[u8]) -> usize
     ensures most { result ≤ length bytes.now }
-    ensures goes_on { AllGoOn result bytes.now }
+    ensures crossing { (dialect : Dialect) →
+        crossing dialect Mode.Inside (take result bytes.now) ≡ Some Mode.Inside }
 {
     ascii_run(bytes, bare_run(bytes))
 }
 
 /// Whether the byte is a symbol by itself, in each word of a unit.
 fn is_lone(byte: u8) -> bool
-    ensures { result ≡ lone_test byte }
+    ensures { result ≡ (nat_lt byte 128 && not (stops_word byte)) }
 {
     byte < 128
         && !matches!(
@@ -55,7 +60,7 @@ fn is_lone(byte: u8) -> bool
 
 /// Whether the byte is one of a tag's name by itself.
 fn is_named(byte: u8) -> bool
-    ensures { result ≡ named_test byte }
+    ensures { result ≡ (nat_lt byte 128 && not (is_reserved_lem byte)) }
 {
     byte < 128
         && !matches!(
@@ -79,15 +84,15 @@ fn is_named(byte: u8) -> bool
 
 /// Whether a bare `/` ends a word of the unit here, and another begins.
 fn parts_at(dialect: Dialect, at: Spot) -> bool
-    ensures { result ≡ parts_at dialect at }
+    ensures { result ≡ ((form_of dialect).several && not (at.first && at.empty)) }
 {
     is_several(dialect) && !(at.first && at.empty)
 }
 
 /// The mode behind one more byte within a unit, where the byte is a character by itself that
-/// neither ends the unit nor escapes.
+/// neither ends the unit nor escapes. It tests for most of them at once, and not for an `@`.
 fn crossed_by(dialect: Dialect, mode: Mode, byte: u8) -> Option<Mode>
-    ensures { result ≡ crossed_by dialect mode byte }
+    ensures { IfSome result (λ next. crossed_by dialect mode byte ≡ Some next) }
 {
     match mode {
         Mode::Word(at) => {
@@ -150,7 +155,7 @@ pub(crate) fn unit_run(dialect: Dialect, mode: Mode, bytes: &[u8]) -> Crossed
 /// How many of the bytes only go on with what the mode stands in.
 fn run_of(dialect: Dialect, mode: Mode, bytes: &[u8]) -> Crossed
     ensures most { result.count ≤ length bytes.now }
-    ensures goes_on { AllCross dialect mode result.mode result.count bytes.now }
+    ensures crossing { crossing dialect mode (take result.count bytes.now) ≡ Some result.mode }
 {
     match mode {
         Mode::Inside => Crossed {
@@ -172,7 +177,7 @@ pub(crate) struct Run {
 /// How many of the bytes only go on with what stands at their front, in a content too.
 pub(crate) fn run_in(dialect: Dialect, level: Level, bytes: &[u8]) -> Run
     ensures most { result.count ≤ length bytes.now }
-    ensures goes_on { AllCrossIn dialect level result.level result.count bytes.now }
+    ensures goes_on { AllCross dialect level result.level result.count bytes.now }
 {
     match level {
         Level::Item(mode) => {

@@ -2,12 +2,12 @@ ghost use Rattle.std.specs.Prelude.{◌≡◌, ◌+◌, ◌≤◌, length, take,
 ghost use Rattle.std.proofs.Common.{get_or};
 ghost use Rattle.ap_stream.specs.Chars.{char_at};
 ghost use Rattle.ap_stream.specs.Chunks.{wrong_front};
-ghost use Rattle.ap_stream.specs.Stands.{StoodIn, Tells, item_shown, portion_shown, between, Looks};
+ghost use Rattle.ap_stream.specs.Stands.{StoodIn, Tells, portion_effect, between, at_blank, Looks};
 
 use crate::UNIT_MAX;
 use crate::decode::{Decoded, decode};
 use crate::dialect::Dialect;
-use crate::examine::{Mode, Seen, Spot, examine, is_byte, is_white};
+use crate::examine::{Mode, Spot, examine, is_byte, is_white};
 use crate::fault::MalformedKind;
 use crate::item::Character;
 
@@ -23,9 +23,9 @@ pub(crate) enum Level {
     Closed,
 }
 
-/// What one more byte shows of an item.
+/// What one more byte or character makes of an item.
 #[derive(Clone, Copy, Debug, PartialEq, Eq)]
-pub(crate) enum Shown {
+pub(crate) enum Effect {
     /// More bytes of a character are needed.
     Waits,
     /// The item goes on so.
@@ -44,19 +44,11 @@ pub(crate) enum Shown {
     TooLong,
 }
 
-/// What a byte shows of the item that it stands in, where so many bytes end with it.
-fn of_item(seen: Seen, end: usize) -> Shown
-    ensures { result ≡ item_shown seen end }
+/// Whether the bytes so far are a blank, which may go on.
+pub(crate) fn is_blank(level: Level) -> bool
+    ensures { result ≡ at_blank level }
 {
-    match seen {
-        Seen::Waits => Shown::Waits,
-        Seen::Goes(mode) => Shown::Goes(Level::Item(mode)),
-        Seen::Plain(character) => Shown::Plain(character),
-        Seen::BlankEnds => Shown::BlankEnds,
-        Seen::UnitEnds => Shown::UnitEnds,
-        Seen::NameEnds => Shown::Goes(Level::Part(end, Mode::Start)),
-        Seen::Bad(kind) => Shown::Bad(kind),
-    }
+    matches!(level, Level::Item(Mode::Blank))
 }
 
 /// The fault of a byte where only ASCII can stand, and not this byte.
@@ -71,19 +63,19 @@ fn wrong_byte(byte: &[u8]) -> MalformedKind
 }
 
 /// What the first byte of a part shows, or the one behind the last.
-fn see_portion(byte: &[u8], from: usize) -> Shown
+fn see_portion(byte: &[u8], from: usize) -> Effect
     requires { length byte.now ≡ 1 }
-    ensures { result ≡ portion_shown byte.now from }
+    ensures { result ≡ portion_effect byte.now from }
 {
     let first = byte[0];
     if is_white(first) {
-        return Shown::Goes(Level::Part(from, Mode::Blank));
+        return Effect::Goes(Level::Part(from, Mode::Blank));
     }
     if is_byte(first, 91) {
-        return Shown::Goes(Level::Part(from, Mode::Inside));
+        return Effect::Goes(Level::Part(from, Mode::Inside));
     }
     if is_byte(first, 94) {
-        return Shown::Goes(Level::Part(
+        return Effect::Goes(Level::Part(
             from,
             Mode::Word(Spot {
                 first: true,
@@ -92,9 +84,9 @@ fn see_portion(byte: &[u8], from: usize) -> Shown
         ));
     }
     if is_byte(first, 125) {
-        return Shown::Goes(Level::Closed);
+        return Effect::Goes(Level::Closed);
     }
-    Shown::Bad(wrong_byte(byte))
+    Effect::Bad(wrong_byte(byte))
 }
 
 /// Whether nothing of a part is there yet.
@@ -104,14 +96,6 @@ fn is_between(mode: Mode) -> bool
     matches!(mode, Mode::Start)
 }
 
-fn show_item(dialect: Dialect, mode: Mode, done: &[u8], part: &[u8], end: usize) -> Shown
-    requires stood { StoodIn dialect (Level.Item mode) done.now part.now }
-    requires end { end ≡ length done.now + length part.now }
-    ensures { Tells dialect (Level.Item mode) done.now part.now result }
-{
-    of_item(examine(dialect, mode, done, part), end)
-}
-
 fn show_part(
     dialect: Dialect,
     from: usize,
@@ -119,7 +103,7 @@ fn show_part(
     done: &[u8],
     part: &[u8],
     end: usize,
-) -> Shown
+) -> Effect
     requires stood { StoodIn dialect (Level.Part from mode) done.now part.now }
     requires end { end ≡ length done.now + length part.now }
     ensures { Tells dialect (Level.Part from mode) done.now part.now result }
@@ -127,42 +111,45 @@ fn show_part(
     if is_between(mode) {
         return see_portion(part, from);
     }
-    match examine(Dialect::Lexical, mode, &done[from..], part) {
-        Seen::Waits => Shown::Waits,
-        Seen::Goes(to) => Shown::Goes(Level::Part(from, to)),
-        Seen::BlankEnds => see_portion(part, done.len()),
-        Seen::UnitEnds => Shown::Goes(Level::Part(end, Mode::Start)),
-        Seen::Bad(kind) => Shown::Bad(kind),
-        Seen::Plain(_) => unreachable!(),
-        Seen::NameEnds => unreachable!(),
+    match examine(Dialect::Lexical, mode, &done[from..], part, end - from) {
+        Effect::Waits => Effect::Waits,
+        Effect::Goes(Level::Item(to)) => Effect::Goes(Level::Part(from, to)),
+        Effect::BlankEnds => see_portion(part, done.len()),
+        Effect::UnitEnds => Effect::Goes(Level::Part(end, Mode::Start)),
+        Effect::Bad(kind) => Effect::Bad(kind),
+        Effect::Plain(_) => unreachable!(),
+        Effect::ChunkEnds => unreachable!(),
+        Effect::TooLong => unreachable!(),
+        Effect::Goes(Level::Part(_, _)) => unreachable!(),
+        Effect::Goes(Level::Closed) => unreachable!(),
     }
 }
 
-fn show_closed(dialect: Dialect, done: &[u8], part: &[u8]) -> Shown
+fn show_closed(dialect: Dialect, done: &[u8], part: &[u8]) -> Effect
     requires { StoodIn dialect Level.Closed done.now part.now }
     ensures { Tells dialect Level.Closed done.now part.now result }
 {
     if is_byte(part[0], 36) {
-        Shown::ChunkEnds
+        Effect::ChunkEnds
     } else {
-        Shown::Bad(wrong_byte(part))
+        Effect::Bad(wrong_byte(part))
     }
 }
 
-fn show(dialect: Dialect, level: Level, done: &[u8], part: &[u8], end: usize) -> Shown
+fn show(dialect: Dialect, level: Level, done: &[u8], part: &[u8], end: usize) -> Effect
     requires stood { StoodIn dialect level done.now part.now }
     requires end { end ≡ length done.now + length part.now }
     ensures { Tells dialect level done.now part.now result }
 {
     match level {
-        Level::Item(mode) => show_item(dialect, mode, done, part, end),
+        Level::Item(mode) => examine(dialect, mode, done, part, end),
         Level::Part(from, mode) => show_part(dialect, from, mode, done, part, end),
         Level::Closed => show_closed(dialect, done, part),
     }
 }
 
 /// What the last byte shows, where so many bytes are behind.
-pub(crate) fn look(dialect: Dialect, level: Level, done: usize, held: &[u8]) -> Shown
+pub(crate) fn look(dialect: Dialect, level: Level, done: usize, held: &[u8]) -> Effect
     requires fits { done ≤ length held.now }
     requires stood { StoodIn dialect level (take done held.now) (drop done held.now) }
     requires short { length held.now ≤ UNIT_MAX + 1 }
@@ -174,7 +161,7 @@ pub(crate) fn look(dialect: Dialect, level: Level, done: usize, held: &[u8]) -> 
         return shown;
     }
     match shown {
-        Shown::BlankEnds => Shown::BlankEnds,
-        _ => Shown::TooLong,
+        Effect::BlankEnds => Effect::BlankEnds,
+        _ => Effect::TooLong,
     }
 }

@@ -14,7 +14,7 @@
 //! pieces --take--> Reader --items--> Handler (Queue) --turn--> pending --give--> Pipe
 //!        \------ known by the bytes in front, no item made ---/
 //!
-//! Where a reader stands (`Level`, `Mode`), and what one byte or character more shows:
+//! Where a reader stands (`Level`, `Mode`), and what one character more shows (`effect`):
 //!
 //! Start    white space -> Blank    [ -> Inside    \ -> Escape, then any character: plain, escaped
 //!          ^ -> Word, where the dialect has units or chunks
@@ -83,6 +83,7 @@ mod crossing;
 pub mod decode;
 mod dialect;
 mod each;
+mod effects;
 mod examine;
 mod fault;
 mod front;

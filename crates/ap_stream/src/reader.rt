@@ -3,7 +3,7 @@ ghost use Rattle.ap_symbol.specs.declared.symbol.Symbol.{Symbol};
 ghost use Rattle.ap_stream.specs.declared.fault.StreamFault.{StreamFault};
 ghost use Rattle.ap_stream.specs.declared.item.Chunk.{Chunk as ChunkIs};
 ghost use Rattle.ap_stream.specs.declared.item.Item.TheVariants as ItemIs;
-ghost use Rattle.ap_stream.specs.Stands.{ChunkOf, at_blank_in, Surely};
+ghost use Rattle.ap_stream.specs.Stands.{ChunkOf, Surely};
 ghost use Rattle.ap_stream.specs.Dialects.{has_chunks};
 ghost use Rattle.ap_stream.specs.Given.{Gives, Stopped, Feeds, Shows, Ends, CanGoOn, NeededMore};
 ghost use Rattle.ap_stream.specs.Reading.{Whole, counted, reads, stopped, nothing, IsRead};
@@ -18,7 +18,7 @@ use crate::dialect::Dialect;
 use crate::examine::Mode;
 use crate::fault::{LimitKind, MalformedKind, StreamFault};
 use crate::item::{Character, Item, Read};
-use crate::level::{Level, Shown, look};
+use crate::level::{Effect, Level, is_blank, look};
 use crate::names::Names;
 use crate::unit::Unit;
 use ap_symbol::Memory;
@@ -81,12 +81,6 @@ fn place_after(place: u64, size: u64) -> u64
     ensures { result ≡ counted (place + size) }
 {
     place.saturating_add(size)
-}
-
-fn is_blank(level: Level) -> bool
-    ensures { result ≡ at_blank_in level }
-{
-    matches!(level, Level::Item(Mode::Blank))
 }
 
 /// Takes the bytes before `at` out as a blank, and leaves the one there.
@@ -443,22 +437,22 @@ impl Reader {
         let done = self.done;
         let shown = look(self.dialect, self.level, done, self.held.as_slice());
         match shown {
-            Shown::Waits => {
+            Effect::Waits => {
                 self.looked = true;
                 Ok(None)
             }
-            Shown::Goes(level) => {
+            Effect::Goes(level) => {
                 self.level = level;
                 self.done = self.held.len();
                 self.looked = true;
                 Ok(None)
             }
-            Shown::Plain(character) => Ok(Some(self.give(Item::Plain(character)))),
-            Shown::UnitEnds => self.unit(),
-            Shown::ChunkEnds => self.chunk(),
-            Shown::BlankEnds => self.blank(done),
-            Shown::Bad(kind) => Err(self.note(StreamFault::Malformed { kind, place })),
-            Shown::TooLong => {
+            Effect::Plain(character) => Ok(Some(self.give(Item::Plain(character)))),
+            Effect::UnitEnds => self.unit(),
+            Effect::ChunkEnds => self.chunk(),
+            Effect::BlankEnds => self.blank(done),
+            Effect::Bad(kind) => Err(self.note(StreamFault::Malformed { kind, place })),
+            Effect::TooLong => {
                 let kind = LimitKind::ItemTooLong;
                 Err(self.note(StreamFault::Limit { kind, place }))
             }

@@ -2,20 +2,19 @@ ghost use Rattle.std.specs.Prelude.{◌≡◌, ◌<◌, ◌≤◌, List, length,
 ghost use Rattle.ap_symbol.specs.declared.symbol.Symbol.{Symbol};
 ghost use Rattle.ap_stream.specs.UnitBytes.{UnitOf};
 ghost use Rattle.ap_stream.specs.Copying.{IsWhite};
-ghost use Rattle.ap_stream.specs.Stands.{EndsUnit};
+ghost use Rattle.ap_stream.specs.Effects.{effect};
 
 use crate::crossing::{Crossed, unit_run};
 use crate::dialect::Dialect;
-use crate::examine::{Mode, Seen, Spot, has_units, is_byte, is_white, see_dollar};
+use crate::effects::{effect, has_units};
+use crate::examine::{Mode, Spot, is_byte, is_white};
+use crate::level::Effect;
 
 /// Whether a bare `$` ends a unit here.
 fn ends_unit(dialect: Dialect, mode: Mode) -> bool
-    ensures { result ≡ true → EndsUnit dialect mode }
+    ensures { result ≡ true → effect dialect mode 0 36 ≡ Effect.UnitEnds }
 {
-    match mode {
-        Mode::Word(at) => matches!(see_dollar(dialect, at), Seen::UnitEnds),
-        _ => false,
-    }
+    matches!(effect(dialect, mode, 0, '$'), Effect::UnitEnds)
 }
 
 /// The number of bytes of the unit at the front, or 0 where there is none, it isn't whole, or it

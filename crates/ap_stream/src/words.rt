@@ -7,7 +7,7 @@ ghost use Rattle.ap_stream.specs.UnitBytes.{UnitOf, unit_words, IsAt, IsName, Si
 
 use crate::decode::{Decoded, decode};
 use crate::dialect::Dialect;
-use crate::examine::is_barred;
+use crate::effects::is_barred;
 use crate::names::Names;
 use ap_symbol::{
     Memory, Symbol, TagName, Word, Words, bare_symbol, escaped_symbol, is_reserved_in_tag,

@@ -1,5 +1,5 @@
 use Rattle.std.proofs.Common.{◌≡◌, Some, take}
-use Rattle.ap_stream.specs.Stands.{crossing}
+use Rattle.ap_stream.specs.Effects.{crossing}
 use Rattle.ap_stream.proofs.crossing.unit_run.Given as goal
 
 abbrev pub invariant-loop-count : goal.invariant-loop-count

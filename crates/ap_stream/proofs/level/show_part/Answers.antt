@@ -8,8 +8,8 @@ returns-then-is_between c = rw c.see_portion.ensures
     (levels.between_told _ _ _ _ _ (sym c.is_between.ensures
     ∙ c.if-is_between.true) c.requires.stood)
 
-pub unreachable-requires : goal.unreachable-requires
-unreachable-requires c =
+pub unreachable-requires-in-Plain : goal.unreachable-requires-in-Plain
+unreachable-requires-in-Plain c =
     levels.never_plain c.args.dialect c.args.from c.args.mode c.args.done.now c.args.part.now
     (sym c.is_between.ensures ∙ c.if-is_between.false) c.requires.stood c.in-Plain.field-0
     (rw (slice_rest c.args.done.now c.args.from) at c.in-Plain.ensures)
