@@ -21,6 +21,7 @@ returns-in_err-step-clause-search c = record {
   lives_are = c.in_err-step.ensures.err
       (take c.args.self.now.looked (symbols c.args.reads.now)) c.requires.search.lives_are;
   phase_is = c.requires.search.phase_is;
+  carried = c.requires.search.carried;
 }
 
 pub returns-clause-search : goal.returns-clause-search
@@ -36,6 +37,7 @@ returns-clause-search c =
           c.args.self.now.looked c.cut.new.self size
           (c.cut.ensures c.args.compiled.now c.args.sensitive _ (live at));
       phase_is = c.requires.search.phase_is;
+      carried = c.requires.search.carried;
     }
 
 pub returns-clause-ends : goal.returns-clause-ends
