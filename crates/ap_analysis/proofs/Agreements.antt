@@ -32,8 +32,8 @@ like_more reads rest by count d e m n rest_is lt front behind same is =
       same =
           ap (λ (rs : List Read). take (count + 1) (marks rs)) (sym rest_is)
           ∙ marks_next rest count e lt
-          ∙ ap (λ (rs : List Read). take count (marks rs) ++ mark_of (get_or rest count e).item ∷ [])
-          rest_is
+          ∙ ap (λ (rs : List Read).
+          take count (marks rs) ++ mark_of (get_or rest count e).item ∷ []) rest_is
           ∙ ap (λ ms. ms ++ mark_of (get_or rest count e).item ∷ []) is.same
           ∙ ap (λ (x : ℕ). take count (marks reads) ++ x ∷ []) (sym behind ∙ sym same ∙ front)
           ∙ sym (marks_next reads count d (omega (arith, a, l, lt)));
@@ -68,7 +68,8 @@ left_alike reads by count is =
 pub like_behind : (reads : List Read) (by count left : ℕ) → left ≡ count - by →
     AreLikeFront reads by count → AreLikeFront (drop by reads) by left
 like_behind reads by count left left_is is =
-    subst (λ (k : ℕ). AreLikeFront (drop by reads) by k) (sym left_is) (left_alike reads by count is)
+    subst (λ (k : ℕ). AreLikeFront (drop by reads) by k) (sym left_is)
+    (left_alike reads by count is)
 
 -- more items come
 pub like_pushed : (reads xs : List Read) (by count : ℕ) → AreLikeFront reads by count →
@@ -83,7 +84,8 @@ like_pushed reads xs by (suc n) is =
     record {
       within = omega (arith, w, l);
       same =
-          ap (λ (rs : List Read). take (suc n) (marks rs)) (drop-append-le by reads xs (omega (arith, w)))
+          ap (λ (rs : List Read). take (suc n) (marks rs))
+          (drop-append-le by reads xs (omega (arith, w)))
           ∙ ap (λ ms. take (suc n) ms) (marks_append (drop by reads) xs)
           ∙ take-append-le (suc n) (marks (drop by reads)) (marks xs) (omega (arith, w, d, a))
           ∙ is.same

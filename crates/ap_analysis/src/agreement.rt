@@ -5,8 +5,8 @@ ghost use Rattle.ap_analysis.specs.Agreements.{IsAgreement};
 use crate::items::mark_of_item;
 use ap_stream::Read;
 
-/// How far the items behind the first so many are known to be like those in front: so many have the
-/// same marks.
+/// How far the items behind the first `by` are known to be like those in front: the first `count`
+/// have the same marks.
 #[derive(Clone, Copy)]
 pub(crate) struct Agreement {
     pub(crate) by: usize,
@@ -29,8 +29,8 @@ impl Agreement {
         if self.by == by { self.count } else { 0 }
     }
 
-    /// Counts on, where the items behind so many are asked for, up to the first that is different or
-    /// the one at that place.
+    /// Counts on, for the items behind so many, up to the first that is different, or to the last
+    /// that is asked for.
     pub(crate) fn counted(&self, reads: &[Read], by: usize, last: usize) -> Agreement
         requires { by ≤ length reads.now }
         ensures agrees { IsAgreement reads.now self.now → IsAgreement reads.now result }
