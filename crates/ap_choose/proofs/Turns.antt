@@ -17,7 +17,7 @@ use Rattle.ap_stream.proofs.StepLaws.{steps_none, steps_gives, steps_stops, byte
 use Rattle.ap_choose.specs.declared.forbidden.Pair.{Pair}
 use Rattle.ap_choose.specs.Sentences.{is_unit, is_last, units, sent_place, begins_unit, sentence_length, sentence_text, first_spelled, choose_step, chosen}
 use Rattle.ap_choose.specs.Choice.{chosen_places}
-use Rattle.ap_choose.specs.Works.{Choosing, IsHeld, choose_work, unit_count, is_over, span, step_length, given_text, IsFirstPlace}
+use Rattle.ap_choose.specs.Works.{Choosing, IsHeld, choose_work, unit_count, is_over, span, step_length, given_text, IsFirstPlace, Wants}
 use Rattle.ap_choose.proofs.ChooseSteps.{given_step, overlong_step, length_within, first_held, next_over, next_whole, next_count}
 use Rattle.ap_choose.proofs.Sizes.{written_size, part_size}
 
@@ -207,3 +207,9 @@ bytes_on items now new read e n =
     let a = bytes_append items (read ∷ []) in
     let b : bytes_of (items ++ read ∷ []) ≡ bytes_of items + read.size = omega (arith, a) in
     ap bytes_of n ∙ b ∙ ap (λ (z : List Read). bytes_of z + read.size) e
+
+-- an item is wanted where none is held
+pub wanted : (items : List Read) → (length items ≡ 0) ⊎ Wants items → Wants items
+wanted [] h = record { short = omega arith; going = refl }
+wanted (read ∷ items) (inl e) = absurd (omega (arith, e))
+wanted (read ∷ items) (inr h) = h

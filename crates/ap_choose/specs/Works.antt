@@ -1,6 +1,5 @@
 -- The choosing of readings at work.
 use Rattle.std.specs.Prelude.{◌≡◌, ◌≤◌, ℕ, nat_lt, Bool, true, false, ◌||◌, List, [], ◌∷◌, ◌++◌, length, slice_index_or, if◌then◌else◌}
-use Rattle.std.proofs.Common.{arith, refl}
 use Rattle.ap_stream.specs.Limits.{span_max}
 use Rattle.ap_stream.specs.Steps.{bytes_of}
 use Rattle.ap_stream.specs.Told.{Told}
@@ -55,11 +54,7 @@ pub record IsFirstPlace (items : List Read) (place : ℕ) : Type 0 where
   pub is : first ≡ slice_index_or items 0 first
   pub place_is : place ≡ first.place
 
--- a handler that holds nothing wants an item
+-- an item is wanted: the held ones are within the limit, and their sentence isn't over
 pub record Wants (items : List Read) : Type 0 where
   pub short : bytes_of items ≤ span_max
   pub going : is_over items ≡ false
-
-pub none_wants : (items : List Read) → length items ≡ 0 → Wants items
-none_wants [] e = record { short = omega arith; going = refl }
-none_wants (read ∷ items) e = absurd (omega (arith, e))

@@ -1,7 +1,7 @@
-ghost use Rattle.std.specs.Prelude.{◌≡◌, ℕ, List, [], false, None, IfOk};
+ghost use Rattle.std.specs.Prelude.{◌≡◌, ℕ, List, [], false, None, IfOk, refl};
 ghost use Rattle.ap_stream.specs.Steps.{bytes_of};
 ghost use Rattle.ap_stream.specs.Told.{Ending};
-ghost use Rattle.ap_stream.specs.Rest.{rest_of, held_of, rest_at_fault, rest_at_cut, rest_pending_first};
+ghost use Rattle.ap_stream.specs.Rest.{rest_of, reads_of, held_of};
 ghost use Rattle.ap_choose.specs.Sentences.{chosen_text};
 ghost use Rattle.ap_choose.specs.Works.{choose_work};
 
@@ -82,9 +82,9 @@ impl Stage for Choose {
         self.stage.pending()
     }
 
-    ghost at_fault = { λ s f x e h. rest_at_fault choose_work s f x e h };
-
-    ghost at_cut = { λ s x. rest_at_cut choose_work s x };
-
-    ghost pending_first = { λ s x e. rest_pending_first choose_work s x e };
+    ghost rest_is = { λ s x. record {
+      stop = (reads_of s x).stop;
+      made = choose_work s.handler (reads_of s x).items;
+      is = λ e. refl;
+    } };
 }

@@ -2,7 +2,7 @@ ghost use Rattle.std.specs.Prelude.{◌≡◌, ◌⊎◌, ◌<◌, ◌≤◌, �
 ghost use Rattle.ap_stream.specs.declared.TheConstants.{SPAN_MAX};
 ghost use Rattle.ap_stream.specs.Steps.{bytes_of};
 ghost use Rattle.ap_choose.specs.Sentences.{begins_unit, sentence_text, first_spelled};
-ghost use Rattle.ap_choose.specs.Works.{choose_work, span, is_over as over_test, step_length, none_wants, given_text};
+ghost use Rattle.ap_choose.specs.Works.{choose_work, span, is_over as over_test, step_length, given_text};
 
 use crate::chance::Hints;
 use crate::choosing::choose;
@@ -287,6 +287,4 @@ impl Handler for ChooseWork {
             },
         }
     }
-
-    ghost wants_first = { λ h e. none_wants h.items e };
 }

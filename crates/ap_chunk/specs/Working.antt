@@ -1,9 +1,6 @@
 -- The work of transfer, interchunk and postchunk: what is seen of it, and what is still to come of
 -- it.
-use Rattle.std.specs.Prelude.{◌≡◌, ◌≤◌, ℕ, Bool, true, List, [], ◌∷◌, ◌++◌, length, slice_index_or, Result, Ok, Err}
-use Rattle.std.proofs.Common.{arith}
-use Rattle.ap_stream.specs.Limits.{span_max}
-use Rattle.ap_stream.specs.Steps.{bytes_of}
+use Rattle.std.specs.Prelude.{◌≡◌, ℕ, Bool, true, List, [], ◌++◌, slice_index_or, Result, Ok, Err}
 use Rattle.ap_stream.specs.Told.{Told}
 use Rattle.ap_stream.specs.declared.item.Read.{Read}
 use Rattle.ap_rules.specs.declared.rules.Rules.{Rules}
@@ -54,8 +51,3 @@ pub record IsFirstPlace (reads : List Read) (place : ℕ) : Type 0 where
   pub first : Read
   pub is : first ≡ slice_index_or reads 0 first
   pub place_is : place ≡ first.place
-
--- what holds nothing is within the limit
-pub none_fits : (items : List Read) → length items ≡ 0 → bytes_of items ≤ span_max
-none_fits [] e = omega arith
-none_fits (read ∷ reads) e = absurd (omega arith)

@@ -4,7 +4,7 @@ ghost use Rattle.ap_stream.specs.Steps.{bytes_of};
 ghost use Rattle.ap_stream.specs.declared.item.Read.{Read};
 ghost use Rattle.ap_exec.specs.Starting.{start_of};
 ghost use Rattle.ap_chunk.specs.Stages.{span, dialect_of};
-ghost use Rattle.ap_chunk.specs.Working.{chunk_work, IsFirstStep, IsFirstPlace, none_fits};
+ghost use Rattle.ap_chunk.specs.Working.{chunk_work, IsFirstStep, IsFirstPlace};
 
 use crate::kept::Kept;
 use crate::search::Search;
@@ -231,6 +231,4 @@ impl Handler for ChunkWork {
             },
         }
     }
-
-    ghost wants_first = { λ h e. none_fits h.items e };
 }

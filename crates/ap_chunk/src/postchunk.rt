@@ -1,7 +1,7 @@
-ghost use Rattle.std.specs.Prelude.{◌≡◌, ℕ, List, [], false, None, IfOk};
+ghost use Rattle.std.specs.Prelude.{◌≡◌, ℕ, List, [], false, None, IfOk, refl};
 ghost use Rattle.ap_stream.specs.Steps.{bytes_of};
 ghost use Rattle.ap_stream.specs.Told.{Ending};
-ghost use Rattle.ap_stream.specs.Rest.{rest_of, held_of, rest_at_fault, rest_at_cut, rest_pending_first};
+ghost use Rattle.ap_stream.specs.Rest.{rest_of, reads_of, held_of};
 ghost use Rattle.ap_rules.specs.declared.rules.Form.TheVariants as form;
 ghost use Rattle.ap_chunk.specs.Rows.{TakesDecides};
 ghost use Rattle.ap_chunk.specs.Stages.{postchunked_text};
@@ -98,9 +98,9 @@ impl Stage for Postchunk {
         self.stage.pending()
     }
 
-    ghost at_fault = { λ s f x e h. rest_at_fault chunk_work s f x e h };
-
-    ghost at_cut = { λ s x. rest_at_cut chunk_work s x };
-
-    ghost pending_first = { λ s x e. rest_pending_first chunk_work s x e };
+    ghost rest_is = { λ s x. record {
+      stop = (reads_of s x).stop;
+      made = chunk_work s.handler (reads_of s x).items;
+      is = λ e. refl;
+    } };
 }

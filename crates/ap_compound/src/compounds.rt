@@ -1,7 +1,7 @@
-ghost use Rattle.std.specs.Prelude.{◌≡◌, ℕ, List, [], false, None, IfOk};
+ghost use Rattle.std.specs.Prelude.{◌≡◌, ℕ, List, [], false, None, IfOk, refl};
 ghost use Rattle.ap_stream.specs.Each.{held_size};
 ghost use Rattle.ap_stream.specs.Told.{Ending};
-ghost use Rattle.ap_stream.specs.Rest.{rest_of, held_of, rest_at_fault, rest_at_cut, rest_pending_first};
+ghost use Rattle.ap_stream.specs.Rest.{rest_of, reads_of, held_of};
 ghost use Rattle.ap_live.specs.Lexicon.{lexicon_of};
 ghost use Rattle.ap_compound.specs.Splits.{compound_readings};
 ghost use Rattle.ap_compound.specs.Works.{compounds_text, compounds_work};
@@ -122,9 +122,9 @@ impl Stage for Compounds {
         self.stage.pending()
     }
 
-    ghost at_fault = { λ s f x e h. rest_at_fault compounds_work s.seat f x e h };
-
-    ghost at_cut = { λ s x. rest_at_cut compounds_work s.seat x };
-
-    ghost pending_first = { λ s x e. rest_pending_first compounds_work s.seat x e };
+    ghost rest_is = { λ s x. record {
+      stop = (reads_of s.seat x).stop;
+      made = compounds_work s.seat.handler (reads_of s.seat x).items;
+      is = λ e. refl;
+    } };
 }

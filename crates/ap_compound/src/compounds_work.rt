@@ -1,5 +1,5 @@
 ghost use Rattle.std.specs.Prelude.{◌≡◌, length, false, None, IfOk};
-ghost use Rattle.ap_stream.specs.Each.{held_items, held_size, none_held};
+ghost use Rattle.ap_stream.specs.Each.{held_items, held_size};
 ghost use Rattle.ap_stream.specs.declared.dialect.Dialect.TheVariants.{Analysed};
 ghost use Rattle.ap_compound.specs.Works.{compounds_work};
 
@@ -83,6 +83,4 @@ impl Handler for CompoundsWork {
     fn turn(&mut self, into: &mut Bytes) -> Result<Turn, StageFault> {
         self.each.turn(into)
     }
-
-    ghost wants_first = { λ h e. none_held h.item e };
 }

@@ -1,4 +1,3 @@
--- Of the inside: no public contract stands on this file.
 -- Expressions can be told apart: each is kept as the list of steps that build it. Such a code holds
 -- the proof that the steps give the expression back.
 use Rattle.std.specs.Prelude.{◌≡◌, ◌⊎◌, ℕ, zero, suc, List, [], ◌∷◌, refl}

@@ -9,14 +9,14 @@ use Rattle.ap_stream.specs.Chars.{Part, NotChar, Char, char_at}
 use Rattle.ap_stream.proofs.CharLaws.{char_length}
 use Rattle.ap_stream.specs.Limits.{unit_max}
 use Rattle.ap_stream.specs.Reading.{counted}
-use Rattle.ap_stream.specs.Told.{Ending, Clean, silent, behind, ends_in}
+use Rattle.ap_stream.specs.Told.{Told, Ending, Clean, silent, behind, ends_in, rest_from}
 use Rattle.ap_stream.specs.declared.fault.StreamFault.{StreamFault}
 use Rattle.ap_stream.specs.declared.fault.StreamFault.TheVariants.{Malformed, Limit}
 use Rattle.ap_stream.specs.declared.fault.MalformedKind.TheVariants.{NotUtf8, Unfinished}
 use Rattle.ap_stream.specs.declared.fault.LimitKind.TheVariants.{ItemTooLong}
 use Rattle.ap_format.specs.Pieces.{Pieces, run_max, white_size}
 use Rattle.ap_format.proofs.PieceLaws.{run_max_is}
-use Rattle.ap_format.specs.Deformatted.{is_space, run_bytes, written, des_from, Uncut, Deformatting, des_rest, des_rest_from}
+use Rattle.ap_format.specs.Deformatted.{is_space, run_bytes, written, des_from, Uncut, Deformatting, des_rest}
 use Rattle.ap_format.specs.declared.cutter.Begun.TheVariants as begun
 use Rattle.ap_format.specs.Standing.{IsWhite, Stands, Stops, Cuts, Closes, kind_of_white}
 use Rattle.std.proofs.lemmas.Bool.{eqb-true, eqb-false}
@@ -280,22 +280,11 @@ module _ (now : Deformatting) (uncut : Uncut) (out : List ℕ) (from : ℕ) (end
     (fault : Option StreamFault)
     (view : record { uncut = uncut; pending = drop from out; ended = ended; fault = fault } ≡ now)
   where
-    gives : (f : Option StreamFault) (n : ℕ) (x : List ℕ) (e : Ending) →
-        behind (take n (drop from out))
-        (des_rest_from f (record {
-          uncut = uncut;
-          pending = drop n (drop from out);
-          ended = ended;
-          fault = f;
-        }) x e)
-        ≡ des_rest_from f (record {
-          uncut = uncut;
-          pending = drop from out;
-          ended = ended;
-          fault = f;
-        }) x e
-    gives None n x e = rw (← append_assoc, take-append-drop) refl
-    gives (Some f) n x e = rw take-append-drop refl
+    gives : (f stop : Option StreamFault) (made : Told) (n : ℕ) (e : Ending) →
+        behind (take n (drop from out)) (rest_from f (drop n (drop from out)) stop made e)
+        ≡ rest_from f (drop from out) stop made e
+    gives None stop made n e = rw (← append_assoc, take-append-drop) refl
+    gives (Some f) stop made n e = rw take-append-drop refl
 
     pub des_at_give : (n : ℕ) (x : List ℕ) (e : Ending) →
         behind (take n now.pending)
@@ -306,4 +295,4 @@ module _ (now : Deformatting) (uncut : Uncut) (out : List ℕ) (from : ℕ) (end
           fault = fault;
         }) x e)
         ≡ des_rest now x e
-    des_at_give n x e = rw (← view, ← drop-drop n from out) (gives fault n x e)
+    des_at_give n x e = rw (← view, ← drop-drop n from out) (gives fault _ _ n e)

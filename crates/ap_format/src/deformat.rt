@@ -1,6 +1,6 @@
-ghost use Rattle.std.specs.Prelude.{◌≡◌, ℕ, ◌<◌, List, [], length, true, false, None};
+ghost use Rattle.std.specs.Prelude.{◌≡◌, ℕ, ◌<◌, List, [], length, true, false, None, refl};
 ghost use Rattle.ap_stream.specs.Told.{Ending};
-ghost use Rattle.ap_format.specs.Deformatted.{des_text, des_rest, des_held, des_at_fault, des_at_cut, des_pending_first};
+ghost use Rattle.ap_format.specs.Deformatted.{des_text, des_rest, des_held, coming_pieces, made_of};
 
 use crate::cutter::{Cutter, cut_piece};
 use ap_stream::{Finish, Pipe, Stage, StageFault, StreamFault};
@@ -137,9 +137,9 @@ impl Stage for Destxt {
         self.out.as_slice().len() - self.from
     }
 
-    ghost at_fault = { des_at_fault };
-
-    ghost at_cut = { des_at_cut };
-
-    ghost pending_first = { des_pending_first };
+    ghost rest_is = { λ d x. record {
+      stop = (coming_pieces d x).stop;
+      made = made_of d x;
+      is = λ e. refl;
+    } };
 }

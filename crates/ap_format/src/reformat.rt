@@ -1,7 +1,7 @@
-ghost use Rattle.std.specs.Prelude.{◌≡◌, ℕ, ◌<◌, List, [], length, true, false, None};
+ghost use Rattle.std.specs.Prelude.{◌≡◌, ℕ, ◌<◌, List, [], length, true, false, None, refl};
 ghost use Rattle.ap_stream.specs.Each.{held_size};
 ghost use Rattle.ap_stream.specs.Told.{Ending};
-ghost use Rattle.ap_stream.specs.Rest.{rest_of, held_of, rest_at_fault, rest_at_cut, rest_pending_first};
+ghost use Rattle.ap_stream.specs.Rest.{rest_of, reads_of, held_of};
 ghost use Rattle.ap_format.specs.Reformatted.{ret_text, ret_work};
 
 use crate::reformatter::{Reformatter, give_piece};
@@ -142,9 +142,9 @@ impl Stage for Retxt {
         self.out.as_slice().len() - self.from
     }
 
-    ghost at_fault = { λ s f x e h. rest_at_fault ret_work s f x e h };
-
-    ghost at_cut = { λ s x. rest_at_cut ret_work s x };
-
-    ghost pending_first = { λ s x e. rest_pending_first ret_work s x e };
+    ghost rest_is = { λ s x. record {
+      stop = (reads_of s x).stop;
+      made = ret_work s.handler (reads_of s x).items;
+      is = λ e. refl;
+    } };
 }

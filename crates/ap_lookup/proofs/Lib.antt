@@ -8,5 +8,6 @@ pub mod PostSizes
 pub mod PostSteps
 pub mod PostTurns
 pub mod PostWritings
+pub mod PostCopies
 pub mod PostKept
 pub mod Exactly

@@ -9,6 +9,4 @@ pub mod Generating
 pub mod Works
 pub mod PostGenerating
 pub mod PostWorks
-pub mod PostCopies
 pub mod PostSearching
-pub mod PostMeasure

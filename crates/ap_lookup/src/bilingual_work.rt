@@ -1,5 +1,5 @@
 ghost use Rattle.std.specs.Prelude.{◌≡◌, length, false, None, IfOk};
-ghost use Rattle.ap_stream.specs.Each.{held_items, held_size, none_held, each_copies};
+ghost use Rattle.ap_stream.specs.Each.{held_items, held_size};
 ghost use Rattle.ap_stream.specs.declared.dialect.Dialect.TheVariants.{Lexical};
 ghost use Rattle.ap_lookup.specs.Works.{bilingual_work, bilingual_unit};
 ghost use Rattle.ap_live.specs.Lexicon.{lexicon_of};
@@ -71,18 +71,12 @@ impl Handler for BilingualWork {
     fn turn(&mut self, into: &mut Bytes) -> Result<Turn, StageFault> {
         self.each.turn(into)
     }
-
-    ghost wants_first = { λ h e. none_held h.item e };
 }
 
 impl Copies for BilingualWork {
     fn is_free(&self) -> bool {
         self.each.is_free()
     }
-
-    ghost copies = { λ h read xs none copied. each_copies
-        (bilingual_unit (lexicon_of h.writer.compiled h.writer.sensitive)
-        h.writer.sensitive) h.item read xs none copied };
 }
 
 impl ByUnit for BilingualWork {

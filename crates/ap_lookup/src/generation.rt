@@ -1,7 +1,7 @@
-ghost use Rattle.std.specs.Prelude.{◌≡◌, ℕ, List, [], false, None, IfOk};
+ghost use Rattle.std.specs.Prelude.{◌≡◌, ℕ, List, [], false, None, IfOk, refl};
 ghost use Rattle.ap_stream.specs.Each.{held_size};
 ghost use Rattle.ap_stream.specs.Told.{Ending};
-ghost use Rattle.ap_stream.specs.Rest.{rest_of, held_of, rest_at_fault, rest_at_cut, rest_pending_first};
+ghost use Rattle.ap_stream.specs.Rest.{rest_of, reads_of, held_of};
 ghost use Rattle.ap_symbol.specs.Alphabet.{has_letter};
 ghost use Rattle.ap_live.specs.Lexicon.{lexicon_of, IsLexiconOf};
 ghost use Rattle.ap_live.specs.Relations.{relation_of};
@@ -92,9 +92,9 @@ impl Stage for Generation {
         self.stage.pending()
     }
 
-    ghost at_fault = { λ s f x e h. rest_at_fault generation_work s f x e h };
-
-    ghost at_cut = { λ s x. rest_at_cut generation_work s x };
-
-    ghost pending_first = { λ s x e. rest_pending_first generation_work s x e };
+    ghost rest_is = { λ s x. record {
+      stop = (reads_of s x).stop;
+      made = generation_work s.handler (reads_of s x).items;
+      is = λ e. refl;
+    } };
 }

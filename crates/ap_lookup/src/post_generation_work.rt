@@ -4,8 +4,6 @@ ghost use Rattle.ap_stream.specs.Steps.{bytes_of};
 ghost use Rattle.ap_live.specs.Lexicon.{lexicon_of};
 ghost use Rattle.ap_lookup.specs.PostGenerating.{begins_alarm as begins_test, span, post_step};
 ghost use Rattle.ap_lookup.specs.PostWorks.{post_work, meant};
-ghost use Rattle.ap_lookup.specs.PostMeasure.{none_fits};
-ghost use Rattle.ap_lookup.specs.PostCopies.{post_copies};
 
 use crate::post_search::{Search, begins_alarm};
 use crate::post_writing::{Written, alarm_step};
@@ -286,15 +284,10 @@ impl Handler for PostGenerationWork {
             },
         }
     }
-
-    ghost wants_first = { λ h e. none_fits h.items e };
 }
 
 impl Copies for PostGenerationWork {
     fn is_free(&self) -> bool {
         self.held_count() == 0
     }
-
-    ghost copies = { λ h read xs none copied. post_copies (lexicon_of h.compiled h.sensitive)
-        h.sensitive h.items read xs none copied };
 }

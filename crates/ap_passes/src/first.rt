@@ -1,7 +1,7 @@
-ghost use Rattle.std.specs.Prelude.{◌≡◌, ℕ, List, [], length, false, None};
-ghost use Rattle.ap_stream.specs.Each.{held_items, held_size, none_held, each_copies};
+ghost use Rattle.std.specs.Prelude.{◌≡◌, ℕ, List, [], length, false, None, refl};
+ghost use Rattle.ap_stream.specs.Each.{held_items, held_size};
 ghost use Rattle.ap_stream.specs.Told.{Ending};
-ghost use Rattle.ap_stream.specs.Rest.{rest_of, held_of, rest_at_fault, rest_at_cut, rest_pending_first};
+ghost use Rattle.ap_stream.specs.Rest.{rest_of, reads_of, held_of};
 ghost use Rattle.ap_stream.specs.declared.dialect.Dialect.TheVariants.{Analysed};
 ghost use Rattle.ap_passes.specs.Passes.{first_reading, first_pass, first_work};
 
@@ -101,17 +101,12 @@ impl Handler for FirstWork {
     fn turn(&mut self, into: &mut Bytes) -> Result<Turn, StageFault> {
         self.each.turn(into)
     }
-
-    ghost wants_first = { λ h e. none_held h.item e };
 }
 
 impl Copies for FirstWork {
     fn is_free(&self) -> bool {
         self.each.is_free()
     }
-
-    ghost copies = { λ h read xs none copied.
-        each_copies first_reading h.item read xs none copied };
 }
 
 impl ByUnit for FirstWork {
@@ -184,9 +179,9 @@ impl Stage for First {
         self.stage.pending()
     }
 
-    ghost at_fault = { λ s f x e h. rest_at_fault first_work s f x e h };
-
-    ghost at_cut = { λ s x. rest_at_cut first_work s x };
-
-    ghost pending_first = { λ s x e. rest_pending_first first_work s x e };
+    ghost rest_is = { λ s x. record {
+      stop = (reads_of s x).stop;
+      made = first_work s.handler (reads_of s x).items;
+      is = λ e. refl;
+    } };
 }

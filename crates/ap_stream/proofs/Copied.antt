@@ -17,7 +17,7 @@ use Rattle.ap_stream.specs.declared.item.Item.TheVariants as item
 use Rattle.ap_stream.specs.declared.item.Read.{Read}
 use Rattle.ap_stream.specs.Blanks.{is_white, begins_blank}
 use Rattle.ap_stream.specs.Chars.{Char, char_at}
-use Rattle.ap_stream.specs.Copying.{is_common, IsCommon, is_copied, AreCopied, spelling, preceded, IsRun, IsWhite, GivesUnit, Gives}
+use Rattle.ap_stream.specs.Copying.{is_common, IsCommon, is_copied, AreCopied, AreCopying, spelling, preceded, IsRun, IsWhite, GivesUnit, Gives}
 use Rattle.ap_stream.specs.Stands.{stops_word, Looks, Always, blank_first}
 use Rattle.ap_stream.specs.Dialects.{is_refused, has_units}
 use Rattle.ap_stream.proofs.LimitedLaws.{limited_decided}
@@ -26,7 +26,8 @@ use Rattle.ap_stream.specs.Limits.{item_max, unit_max}
 use Rattle.ap_stream.proofs.LimitLaws.{item_max_is}
 use Rattle.ap_stream.specs.Reading.{Whole, limited, plain, Reads, reads, read_at, counted}
 use Rattle.ap_stream.proofs.ReadingLaws.{reads_whole}
-use Rattle.ap_stream.specs.Rest.{rest_of, worked, rest_pending_first}
+use Rattle.ap_stream.proofs.RestLaws.{seat_pending_first}
+use Rattle.ap_stream.specs.Rest.{rest_of, worked}
 use Rattle.ap_stream.specs.Seat.{Seat}
 use Rattle.ap_stream.specs.Spelling.{spelled}
 use Rattle.ap_stream.proofs.StandLaws.{begin_white, blank_ends}
@@ -288,8 +289,7 @@ run_on dialect bytes at n r s =
 
 -- what a handler that copies makes of a run
 module _ {H : Type 0} (count : H → ℕ) (work : H → List Read → Told)
-    (copies : (h : H) (read : Read) (xs : List Read) → count h ≡ 0 → is_copied read.item ≡ true →
-    work h (read ∷ xs) ≡ behind (spelled read.item) (work h xs)) where
+    (copies : AreCopying count work) where
   work_copied : (h : H) → count h ≡ 0 → (items xs : List Read) → AreCopied items →
       work h (items ++ xs) ≡ behind (spelling items) (work h xs)
   work_copied h none [] xs all = refl
@@ -380,7 +380,7 @@ module _ {H : Type 0} (work : H → List Read → Told) (old mid : Seat H) (piec
       sym (append_assoc (take used piece) (drop used piece) x)
       ∙ ap (λ (q : List ℕ). q ++ x) (take-append-drop used piece) in
       rw (← is, rest (drop used piece ++ x) e)
-      (rest_pending_first work mid (drop used piece ++ x) e)
+      (seat_pending_first work mid (drop used piece ++ x) e)
 
 pub cause_from : {T H : Type 0} (r : Result T StreamFault) (work : H → List Read → Told)
     (old mid : Seat H) (piece pending : List ℕ) → mid.fault ≡ None → ((x : List ℕ) (e : Ending) →

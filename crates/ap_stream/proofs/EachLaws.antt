@@ -11,7 +11,7 @@ use Rattle.ap_stream.specs.declared.item.Read.{Read}
 use Rattle.ap_stream.specs.Reading.{IsRead, read_at}
 use Rattle.ap_stream.specs.Spelling.{spelled}
 use Rattle.ap_stream.specs.Told.{behind}
-use Rattle.ap_stream.specs.Each.{each, item_text, is_over, is_worded, Single, held_items, held_size, none_held}
+use Rattle.ap_stream.specs.Each.{each, item_text, is_over, is_worded, Single, held_items, held_size}
 use Rattle.ap_stream.specs.Copying.{GivesUnit}
 use Rattle.ap_stream.specs.UnitBytes.{UnitOf}
 use Rattle.ap_stream.proofs.BareSpells.{bare_size}
@@ -99,6 +99,10 @@ past n h = grind (arith, nat_tests)
 pub unit_over : (given : List (List Symbol) → List ℕ) (words : List (List Symbol)) →
     unit_max < length (given words) → is_over given (item.Unit words) ≡ true
 unit_over given words h = past (length (given words)) h
+
+none_held : (held : Option Read) → length (held_items held) ≡ 0 → held ≡ None
+none_held None e = refl
+none_held (Some read) e = absurd (omega (arith, e))
 
 -- a unit that is taken by itself
 pub unit_gives : {W : Type 0} (given : W → List (List Symbol) → List ℕ) (now : Single W)

@@ -61,3 +61,4 @@ pub mod GoesOn
 pub mod ItemsGoOn
 pub mod FirstWrong
 pub mod FrontLaws
+pub mod RestLaws

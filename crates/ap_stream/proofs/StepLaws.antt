@@ -192,3 +192,10 @@ bytes_kept items slice from count bytes size is b s =
     let rest : bytes_of (drop count (drop from items)) ≡ bytes_of (drop (from + count) items) =
     ap bytes_of (drop-drop count from items) in
     (omega (arith, t, both, b), omega (arith, t, both, b, rest))
+
+-- a handler that holds nothing, or whose last turn wanted an item, is within the limit
+pub wanted_short : (items : List Read) → (length items ≡ 0) ⊎ (bytes_of items ≤ span_max) →
+    bytes_of items ≤ span_max
+wanted_short [] h = omega arith
+wanted_short (read ∷ items) (inl e) = absurd (omega (arith, e))
+wanted_short (read ∷ items) (inr h) = h

@@ -10,8 +10,8 @@ use Rattle.ap_stream.specs.Given.{Begun, Shows}
 use Rattle.ap_stream.specs.Reading.{reads, stopped}
 use Rattle.ap_stream.specs.declared.dialect.Dialect.{Dialect}
 use Rattle.ap_stream.specs.Seat.{Seat}
-use Rattle.ap_stream.specs.Told.{Told, Ending, behind, Begins}
-use Rattle.ap_stream.specs.Rest.{rest_of, rest_from, worked, measure, Sound}
+use Rattle.ap_stream.specs.Told.{Told, Ending, behind, Begins, rest_from}
+use Rattle.ap_stream.specs.Rest.{rest_of, worked, measure, Sound}
 
 module _ {H : Type 0} (is_finished : H → Bool) (held : H → ℕ) (dialect : H → Dialect) (work : H →
     List Read → Told) where
@@ -131,32 +131,12 @@ module _ {H : Type 0} (is_finished : H → Bool) (held : H → ℕ) (dialect : H
         ended = ended;
         fault = fault;
       } ≡ now) where
-    gives : (f : Option StreamFault) (n : ℕ) (x : List ℕ) (e : Ending) →
+    gives : (f stop : Option StreamFault) (made : Told) (n : ℕ) (e : Ending) →
         behind (take n (drop from out))
-        (rest_from f work (record {
-          handler = h;
-          dialect = reader.dialect;
-          begun =
-              reader.held;
-          place = reader.place;
-          pending = drop n (drop from out);
-          ended =
-              ended;
-          fault = f;
-        }) x e)
-        ≡ rest_from f work (record {
-          handler = h;
-          dialect = reader.dialect;
-          begun =
-              reader.held;
-          place = reader.place;
-          pending = drop from out;
-          ended =
-              ended;
-          fault = f;
-        }) x e
-    gives None n x e = rw (← append_assoc, take-append-drop) refl
-    gives (Some f) n x e = rw take-append-drop refl
+        (rest_from f (drop n (drop from out)) stop made e)
+        ≡ rest_from f (drop from out) stop made e
+    gives None stop made n e = rw (← append_assoc, take-append-drop) refl
+    gives (Some f) stop made n e = rw take-append-drop refl
 
     pub rest_at_give : (n : ℕ) (x : List ℕ) (e : Ending) →
         behind (take n now.pending)
@@ -172,7 +152,7 @@ module _ {H : Type 0} (is_finished : H → Bool) (held : H → ℕ) (dialect : H
               fault;
         }) x e)
         ≡ rest_of work now x e
-    rest_at_give n x e = rw (← view, ← drop-drop n from out) (gives fault n x e)
+    rest_at_give n x e = rw (← view, ← drop-drop n from out) (gives fault _ _ n e)
 
 pub begins_from_nil : (front whole : List ℕ) → front ≡ [] → Begins front whole
 begins_from_nil front whole nil = (whole, rw nil refl)

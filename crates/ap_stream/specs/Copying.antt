@@ -35,6 +35,11 @@ is_copied thing = false
 abbrev pub AreCopied : List Read → Type 0
 AreCopied items = AllByRecursion (λ read. is_copied read.item ≡ true) items
 
+-- where nothing is held, what tools copy gives itself
+abbrev pub AreCopying : {H : Type 0} → (H → ℕ) → (H → List Read → Told) → Type 0
+AreCopying count work = (h : _) (read : Read) (xs : List Read) → count h ≡ 0 →
+    is_copied read.item ≡ true → work h (read ∷ xs) ≡ behind (spelled read.item) (work h xs)
+
 -- the items as they are spelled
 abbrev pub spelling : List Read → List ℕ
 spelling items = flat_map (λ read. spelled read.item) items

@@ -1,12 +1,10 @@
 -- A tool that handles each item by itself: a unit gives a text, and every other item is copied as
 -- it is spelled.
-use Rattle.std.proofs.Common.{arith, refl, ◌≡◌}
-use Rattle.std.specs.Prelude.{ℕ, nat_lt, Bool, true, false, ◌&&◌, List, [], ◌∷◌, ◌++◌, length, Option, Some, None, if◌then◌else◌, ◌≡◌, ◌≤◌, ◌-◌, take, drop}
+use Rattle.std.specs.Prelude.{ℕ, nat_lt, Bool, true, false, ◌&&◌, List, [], ◌∷◌, length, Option, Some, None, if◌then◌else◌, ◌≡◌, ◌≤◌, ◌-◌, take, drop}
 use Rattle.std.specs.List.{AllByRecursion}
 use Rattle.ap_stream.specs.Types.{Symbol, Dialect, Limit, UnitTooLong}
 use Rattle.ap_stream.specs.Items.{Item, Read}
 use Rattle.ap_stream.specs.declared.kept_units.Entry.{Entry}
-use Rattle.ap_stream.specs.Copying.{is_copied}
 use Rattle.ap_stream.specs.Limits.{unit_max}
 use Rattle.ap_stream.specs.Spelling.{spelled}
 use Rattle.ap_stream.specs.Told.{Told, silent, behind, ends_in}
@@ -48,28 +46,6 @@ held_items (Some read) = read ∷ []
 abbrev pub held_size : Option Read → ℕ
 held_size None = 0
 held_size (Some read) = read.size
-
-pub none_held : (held : Option Read) → length (held_items held) ≡ 0 → held ≡ None
-none_held None e = refl
-none_held (Some read) e = absurd (omega (arith, e))
-
--- where nothing is held, what gives itself is copied
-copied_first : (given : List (List Symbol) → List ℕ) (thing : Item) (place size : ℕ)
-    (xs : List Read) → is_copied thing ≡ true →
-    each given ((record { item = thing; place = place; size = size }) ∷ xs)
-    ≡ behind (spelled thing) (each given xs)
-copied_first given (Item.Plain c) place size xs copied = refl
-copied_first given (Item.Blank bytes) place size xs copied = refl
-copied_first given (Item.Unit words) place size xs copied = absurd (cc)
-copied_first given (Item.Chunk c) place size xs copied = absurd (cc)
-
-pub each_copies : (given : List (List Symbol) → List ℕ) (held : Option Read) (read : Read)
-    (xs : List Read) → length (held_items held) ≡ 0 → is_copied read.item ≡ true →
-    each given (held_items held ++ (read ∷ xs))
-    ≡ behind (spelled read.item) (each given (held_items held ++ xs))
-each_copies given None read xs none copied =
-    copied_first given read.item read.place read.size xs copied
-each_copies given (Some held) read xs none copied = absurd (omega (arith, none))
 
 -- the bytes are a unit, and its words give this text, which is within the limit
 pub record IsGiven (dialect : Dialect) (given : List (List Symbol) → List ℕ) (key text : List ℕ) :

@@ -50,3 +50,21 @@ cut_told Cut told = record { text = told.text; fault = cut_option told.fault }
 -- one list begins another
 abbrev pub Begins : List ℕ → List ℕ → Type 0
 Begins front whole = (more : List ℕ) × (whole ≡ front ++ more)
+
+-- what is made of a text up to where it stops: its text, and the first fault, its own or the stop
+abbrev pub up_to : Option StreamFault → Told → Ending → Told
+up_to stop made ending =
+    record { text = made.text; fault = or_else made.fault (stop_at ending stop) }
+
+-- what is still to come: what is pending, and then the fault that was answered; where none was,
+-- what is made of the text that still comes, up to its stop
+abbrev pub rest_from : Option StreamFault → List ℕ → Option StreamFault → Told → Ending → Told
+rest_from (Some fault) pending stop made ending = ends_in pending fault
+rest_from None pending stop made ending = behind pending (up_to stop made ending)
+
+-- it is still to come of a stage that answered this fault, or none, and has these bytes pending
+pub record IsRest (fault : Option StreamFault) (pending : List ℕ) (rest : Ending → Told) : Type 0
+  where
+    pub stop : Option StreamFault
+    pub made : Told
+    pub is : (ending : Ending) → rest ending ≡ rest_from fault pending stop made ending

@@ -1,5 +1,4 @@
-ghost use Rattle.std.proofs.Common.{get_or};
-ghost use Rattle.std.specs.Prelude.{◌≡◌, ◌≢◌, ℕ, ◌+◌, ◌-◌, ◌<◌, ◌≤◌, List, [], ◌∷◌, drop, take, length, IfOk, false};
+ghost use Rattle.std.specs.Prelude.{◌≡◌, ◌≢◌, ℕ, ◌+◌, ◌-◌, ◌<◌, ◌≤◌, List, [], ◌∷◌, drop, take, length, IfOk, false, get_or};
 ghost use Rattle.ap_symbol.specs.declared.symbol.Symbol.{Symbol};
 ghost use Rattle.ap_stream.specs.declared.item.Chunk.{Chunk as ChunkIs};
 ghost use Rattle.ap_stream.specs.declared.item.Inner.{Inner as InnerIs};

@@ -3,7 +3,7 @@ ghost use Rattle.ap_stream.specs.declared.TheConstants.{UNIT_MAX};
 ghost use Rattle.ap_stream.specs.declared.dialect.Dialect.{Dialect};
 ghost use Rattle.ap_stream.specs.declared.item.Read.{Read};
 ghost use Rattle.ap_stream.specs.Blanks.{is_white as white_test};
-ghost use Rattle.ap_stream.specs.Copying.{is_common as common_test, is_copied, IsCommon, IsRun, GivesUnit, GaveUnit, Gives};
+ghost use Rattle.ap_stream.specs.Copying.{is_common as common_test, AreCopying, IsCommon, IsRun, GivesUnit, GaveUnit, Gives};
 ghost use Rattle.ap_stream.specs.Stands.{stops_word as stop_test};
 ghost use Rattle.ap_stream.specs.Spelling.{spelled};
 ghost use Rattle.ap_stream.specs.Told.{behind};
@@ -19,14 +19,11 @@ use ap_symbol::{Bytes, Memory};
 /// A handler that copies: where it holds nothing, blanks and the characters to which no tool gives
 /// a meaning give themselves.
 pub trait Copies: Handler {
-    /// Nothing is held. It may also be denied where it is so.
+    /// Nothing is held. It may also be denied where it is so. Whatever the answer, the handler
+    /// copies.
     fn is_free(&self) -> bool
-        ensures { result ≡ true → Self.count self.now ≡ 0 };
-
-    /// Where nothing is held, such an item is copied as it is spelled.
-    ghost copies: { (h : Self) (read : Read) (xs : List Read) → Self.count h ≡ 0 →
-        is_copied read.item ≡ true →
-        Self.work h (read ∷ xs) ≡ behind (spelled read.item) (Self.work h xs) };
+        ensures none { result ≡ true → Self.count self.now ≡ 0 }
+        ensures copies { AreCopying Self.count Self.work };
 }
 
 /// A handler that copies, and takes each unit by itself.
@@ -147,6 +144,7 @@ const UNIT_AT_ONCE: usize = 4096;
 /// Puts the bytes at the front that are copied into `given`, and answers how many.
 fn copy_run<H: Copies>(handler: &H, piece: &[u8], given: &mut Bytes) -> Result<usize, Memory>
     requires none { H.count handler.now ≡ 0 }
+    requires copies { AreCopying H.count H.work }
     requires empty { given.old ≡ [] }
     ensures most { IfOk result (λ n. n ≤ length piece.now) }
     ensures short { length given.new ≤ UNIT_MAX + 1 }
@@ -202,6 +200,7 @@ fn give_unit<H: ByUnit>(
 ) -> Result<usize, Memory>
     requires dialect { H.dialect handler.old ≡ dialect }
     requires none { H.count handler.old ≡ 0 }
+    requires copies { AreCopying H.count H.work }
     requires empty { given.old ≡ [] }
     ensures most { IfOk result (λ n. n ≤ length piece.now) }
     ensures short { IfOk result (λ n. 0 < n → length given.new ≤ UNIT_MAX + 1) }
@@ -234,6 +233,7 @@ pub(crate) fn give_first<H: ByUnit>(
 ) -> Result<usize, Memory>
     requires dialect { H.dialect handler.old ≡ dialect }
     requires none { H.count handler.old ≡ 0 }
+    requires copies { AreCopying H.count H.work }
     requires empty { given.old ≡ [] }
     ensures most { IfOk result (λ n. n ≤ length piece.now) }
     ensures short { IfOk result (λ n. 0 < n → length given.new ≤ UNIT_MAX + 1) }

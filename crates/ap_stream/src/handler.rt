@@ -44,15 +44,15 @@ pub trait Handler {
     /// No item comes any more.
     ghost finished: { Self → Bool };
 
-    /// Nothing is held, or the last turn wanted an item.
+    /// The last turn wanted an item.
     ghost wants: { Self → Type 0 };
 
-    /// Adds an item to those that are held. After a refusal, which means want of memory, the
-    /// handler isn't called again.
+    /// Adds an item to those that are held, where none is or the last turn wanted one. After a
+    /// refusal, which means want of memory, the handler isn't called again.
     fn push(&mut self, read: Read) -> Result<(), Memory>
         requires is_read { IsRead (dialect self.old) read }
         requires open { finished self.old ≡ false }
-        requires wanted { wants self.old }
+        requires wanted { (count self.old ≡ 0) ⊎ wants self.old }
         ensures work { OnOk result ((xs : List Read) → work self.old (read ∷ xs)
             ≡ work self.new xs) }
         ensures dialect { OnOk result (dialect self.new ≡ dialect self.old) }
@@ -92,9 +92,6 @@ pub trait Handler {
             work self.old xs ≡ ends_in [] f) }
         ensures never { IfErr result (λ f. (kind : MalformedKind) (place : ℕ) →
             f ≢ StreamFault.Malformed kind place) };
-
-    /// A handler that holds nothing takes an item.
-    ghost wants_first: { (h : Self) → count h ≡ 0 → wants h };
 }
 
 /// A handler that may be given several items with no turn between them.

@@ -1,5 +1,4 @@
 ghost use Rattle.std.specs.Prelude.{◌≡◌, ◌+◌, ◌≤◌, length, take, drop};
-ghost use Rattle.std.proofs.Common.{get_or};
 ghost use Rattle.ap_stream.specs.Chars.{char_at};
 ghost use Rattle.ap_stream.specs.Chunks.{wrong_front};
 ghost use Rattle.ap_stream.specs.Stands.{StoodIn, Tells, portion_effect, between, at_blank, Looks};

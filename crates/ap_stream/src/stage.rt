@@ -2,7 +2,7 @@ ghost use Rattle.std.specs.Prelude.{◌≡◌, ◌≢◌, ℕ, ◌+◌, ◌-◌,
 ghost use Rattle.ap_stream.specs.declared.fault.StreamFault.{StreamFault};
 ghost use Rattle.ap_stream.specs.declared.fault.MalformedKind.{MalformedKind};
 ghost use Rattle.ap_stream.specs.declared.TheConstants.{SPAN_MAX, UNIT_MAX};
-ghost use Rattle.ap_stream.specs.Told.{Told, Ending, Clean, Cut, silent, behind, ends_in, Begins, cut_told};
+ghost use Rattle.ap_stream.specs.Told.{Told, Ending, Clean, silent, behind, ends_in, Begins, IsRest};
 
 use crate::fault::StageFault;
 use crate::pipe::Pipe;
@@ -104,15 +104,8 @@ pub trait Stage {
         ensures bounded { (held self.now ≤ SPAN_MAX + UNIT_MAX + 2)
             × (length (pending self.now) ≤ SPAN_MAX + UNIT_MAX + 2) };
 
-    /// A stage that has answered a fault gives what is pending, and then that fault.
-    ghost at_fault: { (s : Self) (f : StreamFault) (x : List ℕ) (e : Ending) → fault s ≡ Some f →
-        rest s x e ≡ ends_in (pending s) f };
-
-    /// Where the text was cut, an unfinished item is no fault.
-    ghost at_cut: { (s : Self) (x : List ℕ) → cut_told Cut (rest s x Cut)
-        ≡ cut_told Cut (rest s x Clean) };
-
-    /// What is pending comes first.
-    ghost pending_first: { (s : Self) (x : List ℕ) (e : Ending) →
-        Begins (pending s) (rest s x e).text };
+    /// What is still to come is what is pending, and then the fault that was answered; where none
+    /// was, what is made of the text up to its stop. So what is pending comes first, and where the
+    /// text was cut, an unfinished item is no fault.
+    ghost rest_is: { (s : Self) (x : List ℕ) → IsRest (fault s) (pending s) (rest s x) };
 }

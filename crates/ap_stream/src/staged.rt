@@ -1,10 +1,10 @@
-ghost use Rattle.std.specs.Prelude.{◌≡◌, ◌≢◌, ℕ, ◌+◌, ◌-◌, ◌*◌, ◌<◌, ◌≤◌, List, [], ◌∷◌, ◌++◌, take, drop, length, Bool, true, false, Option, Some, None, IfOk, OnOk, IfErr, OnErr};
+ghost use Rattle.std.specs.Prelude.{◌≡◌, ◌≢◌, ℕ, ◌+◌, ◌-◌, ◌*◌, ◌<◌, ◌≤◌, List, [], ◌∷◌, ◌++◌, take, drop, length, Bool, true, false, Option, Some, None, IfOk, OnOk, IfErr, OnErr, refl};
 ghost use Rattle.ap_stream.specs.declared.fault.StreamFault.{StreamFault};
 ghost use Rattle.ap_stream.specs.declared.fault.MalformedKind.{MalformedKind};
 ghost use Rattle.ap_stream.specs.declared.TheConstants.{SPAN_MAX, UNIT_MAX};
-ghost use Rattle.ap_stream.specs.Told.{Told, Ending, Clean, Cut, silent, behind, ends_in, Begins};
-ghost use Rattle.ap_stream.specs.Rest.{rest_of, held_of, rest_at_fault, rest_at_cut, rest_pending_first, May, measure};
-ghost use Rattle.ap_stream.specs.Copying.{IsOpen, IsIdle};
+ghost use Rattle.ap_stream.specs.Told.{Told, Ending, Clean, silent, behind, ends_in, Begins};
+ghost use Rattle.ap_stream.specs.Rest.{rest_of, reads_of, held_of, May, measure};
+ghost use Rattle.ap_stream.specs.Copying.{IsOpen, IsIdle, AreCopying};
 ghost use Rattle.ap_stream.specs.Fronts.{IsFresh};
 
 use crate::copying::{ByUnit, Copies, copied_run, give_first};
@@ -256,7 +256,8 @@ impl<H: Handler + Drop> Staged<H> {
 impl<H: Copies + Drop> Staged<H> {
     /// Nothing is pending, begun or held, and more may come.
     fn is_free(&self) -> bool
-        ensures { result ≡ true → IsIdle H.finished H.count self.now }
+        ensures idle { result ≡ true → IsIdle H.finished H.count self.now }
+        ensures copies { result ≡ true → AreCopying H.count H.work }
     {
         self.fault.is_none()
             && !self.finished
@@ -343,7 +344,8 @@ impl<H: ByUnit + Drop> Staged<H> {
     /// Works on what stands at the front of the piece and gives a text by itself, however the text
     /// goes on. Answers how many bytes that was.
     fn advance(&mut self, piece: &[u8]) -> Result<usize, StageFault>
-        requires { IsOpen H.finished H.count self.old }
+        requires free { IsOpen H.finished H.count self.old }
+        requires copies { AreCopying H.count H.work }
         ensures count { IfOk result (λ n. n ≤ length piece.now) }
         ensures rest { IfOk result (λ n. (x : List ℕ) (e : Ending) →
             rest_of H.work self.old (take n piece.now ++ x) e ≡ rest_of H.work self.new x e) }
@@ -386,6 +388,7 @@ impl<H: ByUnit + Drop> Staged<H> {
     /// many bytes that was.
     fn go_over(&mut self, piece: &[u8]) -> Result<usize, StageFault>
         requires idle { IsIdle H.finished H.count self.old }
+        requires copies { AreCopying H.count H.work }
         requires open { self.old.ended ≡ false }
         ensures count { IfOk result (λ n. n ≤ length piece.now) }
         ensures rest { IfOk result (λ n. (x : List ℕ) (e : Ending) →
@@ -755,9 +758,9 @@ impl<H: Handler + Drop> Stage for Staged<H> {
         self.out.as_slice().len() - self.from
     }
 
-    ghost at_fault = { λ s f x e h. rest_at_fault H.work s f x e h };
-
-    ghost at_cut = { λ s x. rest_at_cut H.work s x };
-
-    ghost pending_first = { λ s x e. rest_pending_first H.work s x e };
+    ghost rest_is = { λ s x. record {
+      stop = (reads_of s x).stop;
+      made = H.work s.handler (reads_of s x).items;
+      is = λ e. refl;
+    } };
 }

@@ -1,6 +1,7 @@
-ghost use Rattle.std.specs.Prelude.{◌≡◌, ◌≤◌, ℕ, [], ◌∷◌, None, false, IfOk, length};
+ghost use Rattle.std.specs.Prelude.{◌≡◌, ◌≤◌, ℕ, [], ◌∷◌, None, false, IfOk, length, refl};
 ghost use Rattle.ap_pipe.specs.Fresh.{AllFresh};
-ghost use Rattle.ap_tool.specs.Copying.{copied_rest, copied_at_fault, copied_at_cut, copied_first};
+ghost use Rattle.ap_stream.specs.Told.{Clean, Cut};
+ghost use Rattle.ap_tool.specs.Copying.{copied_rest, copied_text};
 
 use ap_stream::{Finish, Pipe, ROOM_MAX, Stage, StageFault};
 use ap_symbol::Memory;
@@ -91,9 +92,9 @@ impl Stage for Copied {
         self.pipe.bytes().len()
     }
 
-    ghost at_fault = { copied_at_fault };
-
-    ghost at_cut = { copied_at_cut };
-
-    ghost pending_first = { copied_first };
+    ghost rest_is = { λ s x. record {
+      stop = None;
+      made = copied_text x;
+      is = elim [ Clean ↦ refl | Cut ↦ refl ];
+    } };
 }

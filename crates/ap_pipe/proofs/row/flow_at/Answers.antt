@@ -9,14 +9,14 @@ returns-in_err-step_at-2-clause-holds g c =
 pub loop-preserved : goal.loop-preserved
 loop-preserved g c = record {
   len = c.step_at-in-loop.ensures.len ∙ c.loop.invariant.len;
-  ran = rows.ran_on g.S.Stage g.met.S.Stage.at_fault g.met.S.Stage.at_cut c.args.closed _ _ _ true _
+  ran = rows.ran_on g.S.Stage g.met.S.Stage.rest_is c.args.closed _ _ _ true _
       c.loop.invariant.ran c.in_ok-step_at-2.ensures.ran;
   holds = λ room all. c.step_at-in-loop.ensures.holds room (c.loop.invariant.holds room all);
 }
 
 pub returns-then-not-branch-2-clause-ran : goal.returns-then-not-branch-2-clause-ran
 returns-then-not-branch-2-clause-ran g c =
-    rows.ran_on g.S.Stage g.met.S.Stage.at_fault g.met.S.Stage.at_cut c.args.closed _ _ _ true _
+    rows.ran_on g.S.Stage g.met.S.Stage.rest_is c.args.closed _ _ _ true _
     c.loop.invariant.ran c.in_ok-step_at-2.ensures.ran
 
 pub returns-then-not-branch-2-clause-holds : goal.returns-then-not-branch-2-clause-holds

@@ -11,7 +11,7 @@ loop-at-preserved g c =
     let len = c.loop-at.invariant.len in
     record {
       len = c.flow_at.ensures.len ∙ len;
-      flowing = moving.flowing_on g.S.Stage g.met.S.Stage.at_fault g.met.S.Stage.at_cut
+      flowing = moving.flowing_on g.S.Stage g.met.S.Stage.rest_is
           c.args.closed _ _ _ _ _ _ (omega (
             arith,
             c.loop-at-test.true,

@@ -6,7 +6,7 @@ use Rattle.ap_pipe.proofs.row.flows.Given as goal
 abbrev pub invariant-loop-at : goal.invariant-loop-at
 invariant-loop-at g l = record {
   len : length l.stations ≡ length l.fn.stations;
-  flowing : Flowing g.S.Stage g.met.S.Stage.at_fault g.met.S.Stage.at_cut l.closed l.fn.stations
+  flowing : Flowing g.S.Stage g.met.S.Stage.rest_is l.closed l.fn.stations
       l.stations l.at l.went;
   holds : (room : ℕ) → AllHold g.S.Stage room l.fn.stations → AllHold g.S.Stage room l.stations;
 }

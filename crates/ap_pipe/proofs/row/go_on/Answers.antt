@@ -10,7 +10,7 @@ pub returns-then-turned-clause-ran : goal.returns-then-turned-clause-ran
 returns-then-turned-clause-ran g c =
     let h = c.in_ok-turned.ensures in
     rw c.if-turned.true
-    (rows.ran_on g.S.Stage g.met.S.Stage.at_fault g.met.S.Stage.at_cut c.args.closed
+    (rows.ran_on g.S.Stage g.met.S.Stage.rest_is c.args.closed
     c.args.stations.now c.turns.new.stations c.flows.new.stations true c.in_ok-flowed.flowed
     (record { sound = h.sound; same = h.rest; order = rw c.if-turned.true at h.ranking })
     c.in_ok-flowed.ensures.ran)
@@ -18,7 +18,7 @@ returns-then-turned-clause-ran g c =
 pub returns-else-turned-clause-ran : goal.returns-else-turned-clause-ran
 returns-else-turned-clause-ran g c =
     let h = c.in_ok-turned.ensures in
-    rows.ran_on g.S.Stage g.met.S.Stage.at_fault g.met.S.Stage.at_cut c.args.closed
+    rows.ran_on g.S.Stage g.met.S.Stage.rest_is c.args.closed
     c.args.stations.now c.turns.new.stations c.flows.new.stations false c.in_ok-flowed.flowed
     (record { sound = h.sound; same = h.rest; order = rw c.if-turned.false at h.ranking })
     c.in_ok-flowed.ensures.ran

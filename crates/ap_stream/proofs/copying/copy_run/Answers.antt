@@ -17,5 +17,5 @@ returns-clause-gives g c = λ some.
     let runs : IsRun dialect (take count piece) =
     rw same at (c.copied_run-count.ensures.run dialect) in
     rw (c.in_ok-extend.ensures.ok, c.requires.empty)
-    (run_gives g.H.Handler.count g.H.Handler.work g.met.H.Copies.copies dialect c.args.handler.now
+    (run_gives g.H.Handler.count g.H.Handler.work c.requires.copies dialect c.args.handler.now
     c.requires.none (take count piece) runs)

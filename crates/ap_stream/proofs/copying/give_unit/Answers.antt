@@ -28,7 +28,7 @@ returns-clause-gives g c = λ some.
     let more : 0 < size = let z = c.if-size-eq0.false in omega (arith, z) in
     let made = rw back at (c.in_ok-size.ensures.wrote more) in
     rw (← whole, made.is, c.in_ok-extend.ensures.ok, c.requires.empty)
-    (front_gives g.H.Handler.count g.H.Handler.work g.met.H.Copies.copies c.args.dialect
+    (front_gives g.H.Handler.count g.H.Handler.work c.requires.copies c.args.dialect
     c.args.handler.now c.give_front.new.handler c.requires.none (take size (drop white piece))
     made.given made.words made.unit (omega (arith, all, s, second, n)) made.gives
     (take white piece) (rw front at c.white_size-white.ensures.white))

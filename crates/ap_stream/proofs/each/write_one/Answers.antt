@@ -1,4 +1,4 @@
-use Rattle.std.proofs.Common.{◌≡◌, ◌<◌, length}
+use Rattle.std.proofs.Common.{◌<◌, length}
 use Rattle.ap_stream.specs.Limits.{unit_max}
 use Rattle.ap_stream.specs.UnitBytes.{unit_words}
 use Rattle.ap_stream.proofs.EachLaws as laws

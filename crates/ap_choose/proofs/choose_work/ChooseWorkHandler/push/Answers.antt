@@ -5,13 +5,14 @@ use Rattle.ap_stream.specs.declared.item.Read.{Read}
 use Rattle.ap_stream.proofs.StepLaws.{all_pushed}
 use Rattle.std.specs.List.{AllByRecursion}
 use Rattle.ap_choose.specs.Works.{Choosing, IsHeld, is_over}
-use Rattle.ap_choose.proofs.Turns.{pushed, bytes_on}
+use Rattle.ap_choose.proofs.Turns.{pushed, bytes_on, wanted}
 use Rattle.ap_choose.proofs.choose_work.ChooseWorkHandler.push.Goals as goal
 
 pub invariant_of-self-2 : goal.invariant_of-self-2
 invariant_of-self-2 c =
     let new = c.in_ok-push.ensures.ok in
-    let going = ap (λ (h : Choosing). is_over h.items) c.self.view_is ∙ c.requires.wanted.going in (
+    let going = ap (λ (h : Choosing). is_over h.items) c.self.view_is
+    ∙ (wanted c.args.self.now.items c.requires.wanted).going in (
       c.self.invariant.0,
       subst (λ (q : List Read). AllByRecursion (IsRead Analysed) q) (sym new)
           (all_pushed (IsRead Analysed) c.self.inside.items c.args.read c.self.invariant.1

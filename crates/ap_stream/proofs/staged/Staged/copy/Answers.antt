@@ -9,7 +9,8 @@ pub returns-clause-rest : goal.returns-clause-rest
 returns-clause-rest g c = λ some.
     let piece : List ℕ = c.args.piece.now in
     let count : ℕ = c.copied_run-count.result in
-    let idle = c.is_free.ensures c.if-not-is_free.false in
+    let idle = c.is_free.ensures.idle c.if-not-is_free.false in
+    let copies = c.is_free.ensures.copies c.if-not-is_free.false in
     let place : c.args.self.now.place ≡ c.self.inside.reader.place =
     sym (ap (λ (s : Seat _). s.place) c.self.view_is) in
     let cut : length (take c.min-most.result piece) ≡ min c.min-most.result (length piece) =
@@ -21,9 +22,18 @@ returns-clause-rest g c = λ some.
     take-take count c.min-most.result piece (omega (arith, cut, most)) in
     let runs : IsRun c.args.self.now.dialect (take count piece) =
     rw same at (c.copied_run-count.ensures.run c.args.self.now.dialect) in
-    let gives = lemmas.run_gives g.H.Handler.count g.H.Handler.work g.met.H.Copies.copies
+    let gives = lemmas.run_gives g.H.Handler.count g.H.Handler.work copies
     c.args.self.now.dialect c.args.self.now.handler idle.free.none (take count piece) runs in
-    lemmas.rest_given g.H.Handler.count g.H.Handler.work g.met.H.Copies.copies c.args.self.now _
+    lemmas.rest_given g.H.Handler.count g.H.Handler.work copies c.args.self.now
+    (record {
+      handler = _;
+      dialect = _;
+      begun = _;
+      place = _;
+      pending = _;
+      ended = c.self.inside.ended;
+      fault = _;
+    })
     (take count piece) (take count piece)
     (subst (λ h. Gives g.H.Handler.work c.args.self.now.dialect c.args.self.now.handler h
     (take count piece) (take count piece)) (sym (ap (λ (s : Seat _). s.handler) c.self.view_is)) gives)

@@ -37,7 +37,17 @@ returns-clause-rest g c =
     (subst (λ h. GivesFront g.H.Handler.work (g.H.Handler.dialect c.self.inside.handler) h
     (take front.seen text) front.used k.given) handler k.gives) in
     rw count
-    (lemmas.rest_front g.H.Handler.work c.args.self.now _ piece text k.given c.min-most.result
+    (lemmas.rest_front g.H.Handler.work c.args.self.now
+    (record {
+      handler = _;
+      dialect = _;
+      begun = _;
+      place = _;
+      pending = _;
+      ended = c.self.inside.ended;
+      fault = _;
+    })
+    piece text k.given c.min-most.result
     front.used front.seen is over k.within k.most gives fresh.going fresh.empty
     (rw (← place) c.stand.ensures.counts) going (c.stand.ensures.dialect ∙ dialect)
     (c.give_known-known.ensures.same ∙ handler) k.is
