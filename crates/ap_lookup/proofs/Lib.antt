@@ -3,6 +3,7 @@ pub mod LongTexts
 pub mod Prefixes
 pub mod SuperblanksKept
 pub mod Matches
+pub mod Agreements
 pub mod PostSearches
 pub mod PostSizes
 pub mod PostSteps

@@ -1,8 +1,9 @@
 -- The search at the front of held items: one symbol more, back to the longest match, and what it
 -- finds.
-use Rattle.std.specs.Prelude.{◌≡◌, ◌⊎◌, ℕ, suc, zero, ◌<◌, ◌≤◌, Bool, true, false, List, [], ◌∷◌, ◌++◌, length, take, Some, None}
+use Rattle.std.specs.Prelude.{◌≡◌, ◌⊎◌, ℕ, suc, ◌<◌, ◌≤◌, Bool, true, false, List, [], ◌∷◌, ◌++◌, length, take, drop, Some, None}
 use Rattle.std.proofs.Common.{refl, ap, sym, ◌∙◌, subst, arith, get_or, inl, inr}
-use Rattle.std.proofs.lemmas.List.{length-take, length-append, take-take}
+use Rattle.std.proofs.lemmas.Bool.{cases_lt}
+use Rattle.std.proofs.lemmas.List.{length-take, length-append, take-take, take_all}
 use Rattle.ap_symbol.specs.declared.symbol.Symbol.{Symbol}
 use Rattle.ap_fst.specs.Sections.{Parts}
 use Rattle.ap_stream.specs.declared.item.Read.{Read}
@@ -10,15 +11,15 @@ use Rattle.ap_stream.proofs.ItemFronts.{front_short, front_more, front_stops, Is
 use Rattle.ap_live.specs.Greatest.{greatest}
 use Rattle.ap_live.specs.Lexicon.{Lexicon, IsCoherent, lexicon_of, viable_in}
 use Rattle.ap_live.specs.SectionLives.{AreLive}
-use Rattle.ap_live.specs.declared.live_sections.LiveSections.{LiveSections}
 use Rattle.ap_live.proofs.AnyWords.{viable_front}
-use Rattle.ap_live.proofs.Greatest.{greatest_within}
+use Rattle.ap_live.proofs.Greatest.{greatest_within, greatest_above, greatest_is}
 use Rattle.ap_lookup.specs.Matching.{is_match, fitting}
 use Rattle.ap_lookup.specs.PostGenerating.{symbol_of, symbols}
-use Rattle.ap_lookup.specs.PostSearching.{IsBegun, IsSearch, IsEnd, IsFound}
+use Rattle.ap_lookup.specs.PostSearching.{IsBegun, AreVain, IsAgreement, IsSearch, IsBack, IsEnd, IsFound}
 use Rattle.ap_lookup.specs.declared.post_search.Search.{Search}
 use Rattle.ap_lookup.specs.declared.post_search.Found.{Found}
-use Rattle.ap_lookup.proofs.Matches.{fitting_is, match_seen}
+use Rattle.ap_lookup.proofs.Agreements.{agreement_of, symbols_grow, agreement_more}
+use Rattle.ap_lookup.proofs.Matches.{match_front, fitting_is, match_seen}
 use Rattle.ap_lookup.proofs.PostSteps.{matched_is}
 
 -- what was seen is no more than there is
@@ -43,16 +44,28 @@ search_more p sensitive reads xs search is = record {
       (seen_items reads search.seen.items is.seen_are));
   lives_are = is.lives_are;
   begun = is.begun;
+  vain_within = let g = symbols_grow reads xs in let w = is.vain_within in omega (arith, g, w);
+  vain_are = λ n some le within.
+      let w = is.vain_within in
+      let low : n ≤ length (symbols reads) = omega (arith, w, le) in
+      let s = front_short symbol_of reads in
+      match_front (lexicon_of p sensitive) 0 (symbols (reads ++ xs)) (symbols reads) n
+      (front_more symbol_of reads xs n (omega (arith, s, low))) ∙ is.vain_are n some le low;
+  agreed = agreement_more reads xs search.agreement is.agreed;
 }
 
 -- the same symbols seen
 pub search_same : (p : Parts) (sensitive : Bool) (reads : List Read) (search new : Search) →
     IsSearch p sensitive reads search → new.seen.items ≡ search.seen.items →
-    AreLive p sensitive search.seen.items new.lives → IsSearch p sensitive reads new
-search_same p sensitive reads search new is e live = record {
+    AreLive p sensitive search.seen.items new.lives → new.vain ≡ search.vain → new.agreement
+    ≡ search.agreement → IsSearch p sensitive reads new
+search_same p sensitive reads search new is e live vain agreement = record {
   seen_are = rw e is.seen_are;
   lives_are = rw e live;
   begun = rw e is.begun;
+  vain_within = rw vain is.vain_within;
+  vain_are = rw vain is.vain_are;
+  agreed = rw agreement is.agreed;
 }
 
 -- at the next item
@@ -98,14 +111,18 @@ module _ (p : Parts) (sensitive : Bool) (reads : List Read) (search : Search)
 
     pub goes_on : (new : Search) → new.seen.items ≡ search.seen.items ++ x ∷ [] →
         AreLive p sensitive (search.seen.items ++ x ∷ []) new.lives →
-        viable_in p sensitive (search.seen.items ++ x ∷ []) ≡ true → IsSearch p sensitive reads new
-    goes_on new e live viable =
+        viable_in p sensitive (search.seen.items ++ x ∷ []) ≡ true → new.vain ≡ search.vain →
+        new.agreement ≡ search.agreement → IsSearch p sensitive reads new
+    goes_on new e live viable vain agreement =
         let l : length new.seen.items ≡ suc (length search.seen.items) =
         (let a = ap length e ∙ length-append search.seen.items (x ∷ []) in omega (arith, a)) in
         record {
           seen_are = e ∙ sym next_is ∙ ap (λ (k : ℕ). take k (symbols reads)) (sym l);
           lives_are = subst (λ (z : List Symbol). AreLive p sensitive z new.lives) (sym e) live;
           begun = inr (ap (viable_in p sensitive) e ∙ viable);
+          vain_within = rw vain is.vain_within;
+          vain_are = rw vain is.vain_are;
+          agreed = rw agreement is.agreed;
         }
 
 -- where no item is left
@@ -148,35 +165,120 @@ begun_less lexicon seen m whole le (inr t) =
     all_of [] = refl
     all_of (x ∷ xs) = ap (λ (z : List Symbol). x ∷ z) (all_of xs)
 
+-- what is in vain among the symbols seen is so among all
+vain_all : (lexicon : Lexicon) (symbols seen : List Symbol) (vain : ℕ) →
+    seen ≡ take (length seen) symbols → vain ≤ length seen → AreVain lexicon seen vain →
+    AreVain lexicon symbols vain
+vain_all lexicon symbols seen vain is fits none n some le within =
+    let low : n ≤ length seen = omega (arith, fits, le) in
+    sym (match_front lexicon 0 seen symbols n
+    (ap (take n) is ∙ take-take n (length seen) symbols low))
+    ∙ none n some le low
+
+-- where the longest match is 0, all is in vain
+none_matched : (lexicon : Lexicon) (seen : List Symbol) (m : ℕ) → m ≡ 0 →
+    m ≡ greatest (is_match lexicon 0 seen) (length seen) → AreVain lexicon seen (length seen)
+none_matched lexicon seen m zero_is value n some le within =
+    greatest_above (is_match lexicon 0 seen) (length seen) n (omega (arith, zero_is, value, some)) le
+
+-- what is in vain after the way back
+record IsVainIn (p : Parts) (sensitive : Bool) (reads : List Read) (vain : ℕ) : Type 0 where
+  within : vain ≤ length (symbols reads)
+  are : AreVain (lexicon_of p sensitive) (symbols reads) vain
+
 module _ (p : Parts) (sensitive : Bool) (reads : List Read) (search new : Search) (m : ℕ)
     (whole : IsCoherent (lexicon_of p sensitive)) (is : IsSearch p sensitive reads search)
-    (le : m ≤ length search.seen.items) (e : new.seen.items ≡ take m search.seen.items) where
-  pub back_is : new.seen.items ≡ take m (symbols reads)
-  back_is = e ∙ ap (take m) is.seen_are ∙ take-take m (length search.seen.items) (symbols reads) le
+    (value : m ≡ greatest (is_match (lexicon_of p sensitive) 0 search.seen.items)
+    (length search.seen.items)) (back : IsBack search new m) where
+  back_vain : IsVainIn p sensitive reads new.vain
+  back_vain = elim back.vain_is [
+    | inl same ↦ rw same (record { within = is.vain_within; are = is.vain_are })
+    | inr none ↦ rw none.1 (record {
+      within = seen_within reads search.seen.items is.seen_are;
+      are = vain_all (lexicon_of p sensitive) (symbols reads) search.seen.items
+          (length search.seen.items) is.seen_are (omega arith)
+          (none_matched (lexicon_of p sensitive) search.seen.items m none.0 value);
+    })
+  ]
+
+  back_is : new.seen.items ≡ take back.kept (symbols reads)
+  back_is = back.seen_are ∙ ap (take back.kept) is.seen_are
+      ∙ take-take back.kept (length search.seen.items) (symbols reads) back.within
+
+  pub match_is_seen : 0 < m → new.seen.items ≡ take m (symbols reads)
+  match_is_seen some =
+      back_is ∙ ap (λ (n : ℕ). take n (symbols reads)) (back.at_match some)
 
   pub search_back : AreLive p sensitive new.seen.items new.lives → IsSearch p sensitive reads new
   search_back live =
-      let l : length new.seen.items ≡ m =
-      (let a = ap length e ∙ length-take m search.seen.items in omega (arith, a, le)) in
+      let l : length new.seen.items ≡ back.kept =
+      (let a = ap length back.seen_are ∙ length-take back.kept search.seen.items in
+      let w = back.within in omega (arith, a, w)) in
       record {
         seen_are = back_is ∙ ap (λ (k : ℕ). take k (symbols reads)) (sym l);
         lives_are = live;
-        begun = subst (λ (z : List Symbol). IsBegun (lexicon_of p sensitive) z) (sym e)
-            (begun_less (lexicon_of p sensitive) search.seen.items m whole le is.begun);
+        begun = subst (λ (z : List Symbol). IsBegun (lexicon_of p sensitive) z)
+            (sym back.seen_are)
+            (begun_less (lexicon_of p sensitive) search.seen.items back.kept whole back.within
+            is.begun);
+        vain_within = back_vain.within;
+        vain_are = back_vain.are;
+        agreed = rw back.agreed is.agreed;
       }
 
--- the live sets are cut to the match
-pub lives_back : (p : Parts) (sensitive : Bool) (seen kept : List Symbol) (n : ℕ)
-    (lives new : LiveSections) →
-    ((p : Parts) (sensitive : Bool) (symbols : List Symbol) → AreLive p sensitive symbols lives →
-    AreLive p sensitive (take n symbols) new)
-    → AreLive p sensitive kept lives → (0 < n → AreLive p sensitive (take n seen) lives) →
-    AreLive p sensitive (take n seen) new
-lives_back p sensitive seen kept zero lives new cut live some = cut p sensitive kept live
-lives_back p sensitive seen kept (suc n) lives new cut live some =
-    subst (λ (z : List Symbol). AreLive p sensitive z new)
-    (take-take (suc n) (suc n) seen (omega arith))
-    (cut p sensitive (take (suc n) seen) (some (omega arith)))
+-- where all is in vain there is no match
+pub all_vain : (lexicon : Lexicon) (seen : List Symbol) (vain : ℕ) → AreVain lexicon seen vain →
+    length seen ≤ vain → greatest (is_match lexicon 0 seen) (length seen) ≡ 0
+all_vain lexicon seen vain none le =
+    greatest_is (is_match lexicon 0 seen) (length seen) 0 (omega arith) (inl refl)
+    (λ n some within. none n some (omega (arith, le, within)) within)
+
+-- Where items are let go, and those behind agree.
+
+-- the first of the symbols seen are the first of other ones
+cut_seen : (a b seen : List Symbol) (n : ℕ) → seen ≡ take (length seen) a → take n b ≡ take n a →
+    take n seen ≡ take (length (take n seen)) b
+cut_seen a b seen n is same = elim (cases_lt (length seen) n) [
+  | inl all ↦
+      let e : take n seen ≡ seen = take_all n seen (omega arith) in
+      let k : take (length seen) b ≡ take (length seen) a =
+      sym (take-take (length seen) n b (omega arith)) ∙ ap (take (length seen)) same
+      ∙ take-take (length seen) n a (omega arith) in
+      rw e (is ∙ sym k)
+  | inr some ↦
+      let l : length (take n seen) ≡ n = (let t = length-take n seen in omega (arith, t, some)) in
+      ap (take n) is ∙ take-take n (length seen) a some ∙ sym same
+      ∙ ap (λ (k : ℕ). take k b) (sym l)
+]
+
+begun_cut : (lexicon : Lexicon) (seen : List Symbol) (n : ℕ) → IsCoherent lexicon →
+    IsBegun lexicon seen → IsBegun lexicon (take n seen)
+begun_cut lexicon seen n whole is = elim (cases_lt (length seen) n) [
+  | inl all ↦ let e : take n seen ≡ seen = take_all n seen (omega arith) in rw e is
+  | inr some ↦ begun_less lexicon seen n whole some is
+]
+
+pub search_left : (p : Parts) (sensitive : Bool) (reads : List Read) (search new : Search)
+    (by count : ℕ) → IsCoherent (lexicon_of p sensitive) → IsSearch p sensitive reads search →
+    IsAgreement reads (agreement_of by count) → new.seen.items ≡ take count search.seen.items →
+    AreLive p sensitive new.seen.items new.lives → new.vain ≤ search.vain → new.vain ≤ count →
+    IsAgreement (drop by reads) new.agreement → IsSearch p sensitive (drop by reads) new
+search_left p sensitive reads search new by count whole is agreed seen live less low left = record {
+  seen_are = rw seen (cut_seen (symbols reads) (symbols (drop by reads)) search.seen.items count
+      is.seen_are agreed.same);
+  lives_are = live;
+  begun = subst (λ (z : List Symbol). IsBegun (lexicon_of p sensitive) z) (sym seen)
+      (begun_cut (lexicon_of p sensitive) search.seen.items count whole is.begun);
+  vain_within = let w = agreed.within in omega (arith, w, low);
+  vain_are = λ n some le within.
+      let fits : n ≤ count = omega (arith, le, low) in
+      match_front (lexicon_of p sensitive) 0 (symbols (drop by reads)) (symbols reads) n
+      (sym (take-take n count (symbols (drop by reads)) fits) ∙ ap (take n) agreed.same
+      ∙ take-take n count (symbols reads) fits)
+      ∙ is.vain_are n some (omega (arith, le, less))
+      (let w = is.vain_within in omega (arith, le, less, w));
+  agreed = left;
+}
 
 -- what is found
 pub found_is : (lexicon : Lexicon) (reads : List Read) (seen : List Symbol) (m span : ℕ)
@@ -202,22 +304,28 @@ pub settled_by : (ends finished : Bool) (n count : ℕ) → (ends ≡ true → n
 settled_by ends finished n count more (inl e) = inl (more e)
 settled_by ends finished n count more (inr f) = inr f
 
--- nothing is seen
+-- nothing is seen, and nothing known
 pub none_seen : (p : Parts) (sensitive : Bool) (reads : List Read) (search : Search) →
-    search.seen.items ≡ [] → AreLive p sensitive [] search.lives → IsSearch p sensitive reads search
-none_seen p sensitive reads search none live = record {
+    search.seen.items ≡ [] → AreLive p sensitive [] search.lives → search.vain ≡ 0 →
+    IsAgreement reads search.agreement → IsSearch p sensitive reads search
+none_seen p sensitive reads search none live vain agreed = record {
   seen_are = none ∙ ap (λ (z : List Symbol). take (length z) (symbols reads)) (sym none);
   lives_are = subst (λ (z : List Symbol). AreLive p sensitive z search.lives) (sym none) live;
   begun = inl (ap length none);
+  vain_within = omega (arith, vain);
+  vain_are = λ n some le within. absurd (omega (arith, some, le, vain));
+  agreed = agreed;
 }
 
 no_symbol : (seen : List Symbol) → length seen ≡ 0 → seen ≡ []
 no_symbol [] e = refl
 no_symbol (x ∷ seen) e = absurd (omega arith)
 
-pub nothing_seen : (p : Parts) (sensitive : Bool) (old new : List Read) (search : Search) →
-    length search.seen.items ≡ 0 → IsSearch p sensitive old search → IsSearch p sensitive new search
-nothing_seen p sensitive old new search none is =
-    let e = no_symbol search.seen.items none in
-    none_seen p sensitive new search e
-    (subst (λ (z : List Symbol). AreLive p sensitive z search.lives) e is.lives_are)
+pub nothing_seen : (p : Parts) (sensitive : Bool) (reads : List Read) (seen : List Symbol)
+    (search : Search) → length seen ≡ 0 → AreLive p sensitive seen search.lives →
+    search.seen.items ≡ seen → search.vain ≡ 0 → IsAgreement reads search.agreement →
+    IsSearch p sensitive reads search
+nothing_seen p sensitive reads seen search none live same vain agreed =
+    let e = no_symbol seen none in
+    none_seen p sensitive reads search (same ∙ e)
+    (subst (λ (z : List Symbol). AreLive p sensitive z search.lives) e live) vain agreed

@@ -51,6 +51,7 @@
 //!   `post_generated_text`: the same of whole texts.
 #![tactic(auto)]
 
+mod agreement;
 mod bilingual;
 mod bilingual_work;
 mod bilingual_writer;

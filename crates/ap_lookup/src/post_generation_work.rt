@@ -99,8 +99,9 @@ impl PostGenerationWork {
         ensures sensitive { self.new.sensitive ≡ self.old.sensitive }
         ensures finished { self.new.finished ≡ self.old.finished }
     {
+        self.search
+            .pass(&self.compiled, self.items.as_slice(), count);
         self.items.forget(count);
-        self.search.restart();
         self.text = text;
     }
 

@@ -1,10 +1,11 @@
-ghost use Rattle.std.specs.Prelude.{◌≡◌, ◌⊎◌, ◌+◌, ◌<◌, ◌≤◌, Bool, true, false, Ok, List, [], ◌∷◌, ◌++◌, None, length, take, OnOk, OnErr, IfOk, IfSome};
+ghost use Rattle.std.specs.Prelude.{◌≡◌, ◌⊎◌, ◌+◌, ◌<◌, ◌≤◌, Bool, true, false, Ok, List, [], ◌∷◌, ◌++◌, None, length, take, drop, OnOk, OnErr, IfOk, IfSome};
 ghost use Rattle.ap_live.specs.Greatest.{greatest};
 ghost use Rattle.ap_live.specs.Lexicon.{lexicon_of};
 ghost use Rattle.ap_live.specs.SectionLives.{AreLive};
 ghost use Rattle.ap_lookup.specs.Matching.{is_match, fitting};
 ghost use Rattle.ap_lookup.specs.PostGenerating.{is_alarm as alarm_test, symbol_of, symbols, begins_alarm as begins_test};
 
+use crate::agreement::Agreement;
 use crate::translation::{step_down, step_one};
 use ap_fst::Compiled;
 use ap_live::LiveSections;
@@ -21,13 +22,19 @@ pub(crate) struct Found {
 }
 
 /// A search for a match at the front of the held items. It goes on from where it stands when
-/// further items come.
+/// further items come, and where items are let go, with what is as true of those that are left.
 #[derive(Drop)]
 pub(crate) struct Search {
     pub(crate) lives: LiveSections,
     /// The symbols of the items that were looked at.
     pub(crate) seen: Vec<Symbol>,
+    /// Of the fronts of one symbol or more, up to so many, it is known that none is a match.
+    pub(crate) vain: usize,
+    pub(crate) agreement: Agreement,
 }
+
+/// So many symbols in vain are worth comparing items for, to keep what is known of them.
+const WORTH_KEEPING: usize = 16;
 
 fn is_alarm(character: Character) -> bool
     ensures { result ≡ alarm_test character }
@@ -36,7 +43,7 @@ fn is_alarm(character: Character) -> bool
 }
 
 /// The item as an input symbol.
-fn symbol_of_item(item: &Item) -> Option<Symbol>
+pub(crate) fn symbol_of_item(item: &Item) -> Option<Symbol>
     ensures { result ≡ symbol_of item.now }
 {
     match item {
@@ -78,7 +85,7 @@ fn is_open(ends: bool, finished: bool) -> bool
 impl Search {
     ghost use Rattle.ap_fst.specs.Sections.{Parts};
     ghost use Rattle.ap_stream.specs.declared.item.Read.{Read};
-    ghost use Rattle.ap_lookup.specs.PostSearching.{IsSearch, IsEnd, IsFound};
+    ghost use Rattle.ap_lookup.specs.PostSearching.{IsSearch, IsAgreement, AreVain, IsBack, IsEnd, IsFound};
 
     pub(crate) fn start(alloc: Global, compiled: &Compiled) -> Result<Search, Memory>
         ensures { IfOk result (λ search. (sensitive : Bool) →
@@ -87,6 +94,8 @@ impl Search {
         Ok(Search {
             lives: LiveSections::start(alloc, compiled)?,
             seen: Vec::new(alloc),
+            vain: 0,
+            agreement: Agreement::none(),
         })
     }
 
@@ -99,6 +108,41 @@ impl Search {
             self.lives.cut(0);
             self.seen.clear();
         }
+        self.vain = 0;
+        self.agreement = Agreement::none();
+    }
+
+    /// Keeps what is known of so many symbols, and no more.
+    fn cut(&mut self, len: usize)
+        ensures seen { self.new.seen.items ≡ take len self.old.seen.items }
+        ensures lives { (p : Parts) (sensitive : Bool) →
+            AreLive p sensitive self.old.seen.items self.old.lives →
+            AreLive p sensitive self.new.seen.items self.new.lives }
+        ensures vain { self.new.vain ≤ self.old.vain }
+        ensures within { self.new.vain ≤ len }
+    {
+        self.lives.cut(len);
+        self.seen.truncate(len);
+        if self.vain > len {
+            self.vain = len;
+        }
+    }
+
+    /// Goes to the items behind so many, which are let go, with what is known of them too.
+    pub(crate) fn pass(&mut self, compiled: &Compiled, reads: &[Read], count: usize)
+        requires agreed { IsAgreement reads.now self.old.agreement }
+        requires within { count ≤ length reads.now }
+        ensures { (sensitive : Bool) → IsSearch compiled.now sensitive reads.now self.old →
+            IsSearch compiled.now sensitive (drop count reads.now) self.new }
+    {
+        if self.vain < WORTH_KEEPING {
+            self.restart();
+            return;
+        }
+        let _ = compiled.alphabet();
+        let agreement = self.agreement.extend(reads, count, self.vain);
+        self.cut(agreement.count);
+        self.agreement = agreement.left();
     }
 
     /// Keeps the symbol behind which the live sets stand. After a refusal they stand before it.
@@ -106,6 +150,8 @@ impl Search {
         ensures seen { OnOk result (self.new.seen.items ≡ self.old.seen.items ++ symbol ∷ []) }
         ensures lives { OnOk result (self.new.lives ≡ self.old.lives) }
         ensures same { OnErr result (self.new.seen.items ≡ self.old.seen.items) }
+        ensures vain { self.new.vain ≡ self.old.vain }
+        ensures agreement { self.new.agreement ≡ self.old.agreement }
         ensures back { OnErr result ((p : Parts) (sensitive : Bool) →
             AreLive p sensitive (self.old.seen.items ++ symbol ∷ []) self.old.lives →
             AreLive p sensitive self.old.seen.items self.new.lives) }
@@ -169,32 +215,41 @@ impl Search {
         Ok(false)
     }
 
-    /// Goes back to the longest match, and answers its length, or 0.
+    /// Goes back to the longest match, as far as there may be one, and answers its length, or 0.
     fn step_back(&mut self, compiled: &Compiled, sensitive: bool) -> usize
-        requires { AreLive compiled.now sensitive self.old.seen.items self.old.lives }
+        requires lives { AreLive compiled.now sensitive self.old.seen.items self.old.lives }
+        requires vain { AreVain (lexicon_of compiled.now sensitive) self.old.seen.items
+            self.old.vain }
         ensures value { result ≡ greatest
             (is_match (lexicon_of compiled.now sensitive) 0 self.old.seen.items)
             (length self.old.seen.items) }
         ensures within { result ≤ length self.old.seen.items }
         ensures lives { AreLive compiled.now sensitive self.new.seen.items self.new.lives }
-        ensures seen { self.new.seen.items ≡ take result self.old.seen.items }
+        ensures back { IsBack self.old self.new result }
     {
         let from = self.seen.len();
+        if from <= self.vain {
+            return 0;
+        }
         let matched = step_down(
             compiled,
             sensitive,
             self.seen.as_slice(),
-            0,
+            self.vain + 1,
             from,
             &mut self.lives,
         );
-        self.lives.cut(matched);
+        if matched == 0 {
+            self.seen.truncate(self.vain);
+            self.vain = from;
+            return 0;
+        }
         self.seen.truncate(matched);
         matched
     }
 
     /// What stands at the front of the items, which is an alarm, and then the search stands at the
-    /// match; none where an item more is wanted.
+    /// match, where there is one; none where an item more is wanted.
     pub(crate) fn look(
         &mut self,
         compiled: &Compiled,
@@ -207,7 +262,7 @@ impl Search {
         ensures found { IfOk result
             (λ look. IfSome look (IsFound (lexicon_of compiled.now sensitive) reads.now finished)) }
         ensures at { IfOk result
-            (λ look. IfSome look (λ found. self.new.seen.items
+            (λ look. IfSome look (λ found. 0 < found.matched → self.new.seen.items
             ≡ take found.matched (symbols reads.now))) }
         ensures waits { result ≡ Ok None →
             (finished ≡ false) × (fitting (lexicon_of compiled.now sensitive) (symbols reads.now)

@@ -1,4 +1,4 @@
-ghost use Rattle.std.specs.Prelude.{◌≡◌, ◌++◌, ◌≤◌, [], length, drop, take, IsTrue, OnOk, IfOk};
+ghost use Rattle.std.specs.Prelude.{◌≡◌, ◌++◌, ◌<◌, ◌≤◌, [], length, drop, take, IsTrue, OnOk, IfOk};
 ghost use Rattle.ap_symbol.specs.Rendering.{symbol_bytes};
 ghost use Rattle.ap_symbol.specs.Words.{is_proper};
 ghost use Rattle.ap_live.specs.Lexicon.{lexicon_of};
@@ -184,8 +184,8 @@ fn write_match(
     write_least(alloc, words.as_slice(), reads, text)
 }
 
-/// The step at an alarm, by what the search found, at whose match the live sets stand. It is
-/// written into the text, which is empty.
+/// The step at an alarm, by what the search found; at its match, where there is one, the live sets
+/// stand. It is written into the text, which is empty.
 pub(crate) fn alarm_step(
     alloc: Global,
     compiled: &Compiled,
@@ -197,7 +197,7 @@ pub(crate) fn alarm_step(
     text: Bytes,
 ) -> Result<Written, Memory>
     requires lives { AreLive compiled.now sensitive seen.now lives.now }
-    requires seen { seen.now ≡ take found.matched (symbols items.now) }
+    requires seen { 0 < found.matched → seen.now ≡ take found.matched (symbols items.now) }
     requires matched { found.matched ≡ matched (lexicon_of compiled.now sensitive) items.now }
     requires span { found.span ≡ span (lexicon_of compiled.now sensitive) items.now }
     requires within { found.span ≤ length items.now }

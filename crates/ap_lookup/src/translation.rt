@@ -1,4 +1,4 @@
-ghost use Rattle.std.specs.Prelude.{◌≡◌, ℕ, ◌<◌, ◌≤◌, Bool, true, false, None, Ok, List, [], ◌∷◌, ◌++◌, length, take, IfOk, IfSome, OnOk, OnErr};
+ghost use Rattle.std.specs.Prelude.{◌≡◌, ℕ, ◌+◌, ◌-◌, ◌<◌, ◌≤◌, Bool, true, false, None, Ok, List, [], ◌∷◌, ◌++◌, length, take, IfOk, IfSome, OnOk, OnErr};
 ghost use Rattle.ap_symbol.specs.Alphabet.{has_letter};
 ghost use Rattle.ap_symbol.specs.declared.symbol.Symbol.{Symbol};
 ghost use Rattle.ap_live.specs.Greatest.{greatest};
@@ -110,6 +110,8 @@ pub(crate) fn step_down(
     ensures kept { (seen : List Symbol) × AreLive compiled.now sensitive seen lives.new }
     ensures lives { 0 < result →
         AreLive compiled.now sensitive (take result symbols.now) lives.new }
+    ensures none { result ≡ 0 → least ≤ from + 1 →
+        AreLive compiled.now sensitive (take (least - 1) symbols.now) lives.new }
 {
     let mut at = from;
     while at > 0 {

@@ -1,4 +1,4 @@
-use Rattle.std.proofs.Common.{◌-◌, true, false, List, arith, sym, ◌∙◌, subst}
+use Rattle.std.proofs.Common.{◌≡◌, ℕ, ◌-◌, true, false, List, take, arith, sym, ◌∙◌, subst}
 use Rattle.ap_symbol.specs.declared.symbol.Symbol.{Symbol}
 use Rattle.ap_live.specs.Lexicon.{lexicon_of}
 use Rattle.ap_live.specs.SectionLives.{AreLive}
@@ -23,6 +23,20 @@ returns-then-reads_any-clause-value c =
     (sym (c.reads_any.ensures c.args.sensitive _ c.loop-at.invariant.lives)
     ∙ c.if-reads_any.true)))
 
+pub returns-then-at-least-clause-none : goal.returns-then-at-least-clause-none
+returns-then-at-least-clause-none c = λ _ within.
+    let at : c.loop-at.at ≡ c.args.least - 1 =
+    (let low = c.loop-at.invariant.low within in omega (arith, low, c.if-at-least.true)) in
+    subst (λ (k : ℕ). AreLive c.args.compiled.now c.args.sensitive (take k c.args.symbols.now)
+    c.loop-at.lives) at c.loop-at.invariant.lives
+
+pub returns-clause-none : goal.returns-clause-none
+returns-clause-none c = λ _ within.
+    let at : c.loop-at.at ≡ c.args.least - 1 =
+    (let low = c.loop-at.invariant.low within in omega (arith, low, c.loop-at-test.false)) in
+    subst (λ (k : ℕ). AreLive c.args.compiled.now c.args.sensitive (take k c.args.symbols.now)
+    c.loop-at.lives) at c.loop-at.invariant.lives
+
 pub loop-at-preserved : goal.loop-at-preserved
 loop-at-preserved c = record {
   lives = subst (λ (symbols : List Symbol). AreLive c.args.compiled.now c.args.sensitive symbols
@@ -30,6 +44,7 @@ loop-at-preserved c = record {
       (omega arith)) (c.cut.ensures c.args.compiled.now c.args.sensitive _
       c.loop-at.invariant.lives);
   below = omega (arith, c.loop-at.invariant.below);
+  low = λ _. omega (arith, c.if-at-least.false, c.loop-at-test.true);
   is = c.loop-at.invariant.is
       ∙ greatest_down (is_match (lexicon_of c.args.compiled.now c.args.sensitive) c.args.least
       c.args.symbols.now) c.loop-at.at c.loop-at-test.true

@@ -1,7 +1,7 @@
 use Rattle.std.proofs.Common.{arith, ◌∙◌, ap, Ok, length}
 use Rattle.ap_live.specs.Lexicon.{lexicon_of}
 use Rattle.ap_live.proofs.Coherence.{coherent}
-use Rattle.ap_lookup.proofs.PostSearches.{end_is, search_back, back_is, found_is, settled_by}
+use Rattle.ap_lookup.proofs.PostSearches.{end_is, search_back, match_is_seen, found_is, settled_by}
 use Rattle.ap_lookup.proofs.post_search.Search.look.Goals as goal
 
 pub returns-then-is_open-clause-waits : goal.returns-then-is_open-clause-waits
@@ -19,8 +19,7 @@ returns-clause-search c =
     search_back c.args.compiled.now c.args.sensitive c.args.reads.now c.step_on.new.self
     c.step_back-matched.new.self c.step_back-matched.result
     (coherent c.args.compiled.now c.args.sensitive c.alphabet.ensures.sound)
-    c.in_ok-ends.ensures.search
-    c.step_back-matched.ensures.within c.step_back-matched.ensures.seen
+    c.in_ok-ends.ensures.search c.step_back-matched.ensures.value c.step_back-matched.ensures.back
     c.step_back-matched.ensures.lives
 
 pub returns-clause-found : goal.returns-clause-found
@@ -36,8 +35,7 @@ returns-clause-found c =
 
 pub returns-clause-at : goal.returns-clause-at
 returns-clause-at c =
-    back_is c.args.compiled.now c.args.sensitive c.args.reads.now c.step_on.new.self
+    match_is_seen c.args.compiled.now c.args.sensitive c.args.reads.now c.step_on.new.self
     c.step_back-matched.new.self c.step_back-matched.result
     (coherent c.args.compiled.now c.args.sensitive c.alphabet.ensures.sound)
-    c.in_ok-ends.ensures.search
-    c.step_back-matched.ensures.within c.step_back-matched.ensures.seen
+    c.in_ok-ends.ensures.search c.step_back-matched.ensures.value c.step_back-matched.ensures.back

@@ -6,7 +6,7 @@ pub returns-in_err-fits-in-Some-clause-search : goal.returns-in_err-fits-in-Some
 returns-in_err-fits-in-Some-clause-search c =
     search_same c.args.compiled.now c.args.sensitive c.args.reads.now c.args.self.now _
     c.requires.search refl (c.in_err-fits-in-Some.ensures.err c.args.self.now.seen.items
-    c.requires.search.lives_are)
+    c.requires.search.lives_are) refl refl
 
 pub returns-in-None-clause-ends : goal.returns-in-None-clause-ends
 returns-in-None-clause-ends c = λ _. (
@@ -33,6 +33,7 @@ returns-in_err-keep-in-Some-clause-search c =
     search_same c.args.compiled.now c.args.sensitive c.args.reads.now c.args.self.now _
     c.requires.search c.in_err-keep-in-Some.ensures.same
     (c.in_err-keep-in-Some.ensures.back c.args.compiled.now c.args.sensitive on.0)
+    c.in_err-keep-in-Some.ensures.vain c.in_err-keep-in-Some.ensures.agreement
 
 pub returns-in_ok-keep-in-Some-clause-search : goal.returns-in_ok-keep-in-Some-clause-search
 returns-in_ok-keep-in-Some-clause-search c =
@@ -42,4 +43,5 @@ returns-in_ok-keep-in-Some-clause-search c =
     c.requires.more c.len-at.result (omega (arith, c.len-at.ensures)) c.index-reads-at.result
     c.in-Some.symbol c.in-Some.ensures
     c.keep.new.self c.in_ok-keep-in-Some.ensures.seen
-    (rw c.in_ok-keep-in-Some.ensures.lives on.0) on.1
+    (rw c.in_ok-keep-in-Some.ensures.lives on.0) on.1 c.in_ok-keep-in-Some.ensures.vain
+    c.in_ok-keep-in-Some.ensures.agreement

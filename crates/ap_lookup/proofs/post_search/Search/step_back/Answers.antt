@@ -1,10 +1,9 @@
-use Rattle.ap_lookup.proofs.PostSearches.{lives_back}
+use Rattle.std.proofs.Common.{sym, arith}
+use Rattle.ap_live.specs.Lexicon.{lexicon_of}
+use Rattle.ap_lookup.proofs.PostSearches.{all_vain}
 use Rattle.ap_lookup.proofs.post_search.Search.step_back.Goals as goal
 
-pub returns-clause-lives : goal.returns-clause-lives
-returns-clause-lives c =
-    let kept = c.step_down-matched.ensures.kept in
-    let live = lives_back c.args.compiled.now c.args.sensitive c.as_slice.result.now kept.0
-    c.step_down-matched.result c.step_down-matched.new.lives c.cut.new.self c.cut.ensures kept.1
-    c.step_down-matched.ensures.lives in
-    rw (c.truncate.ensures.items, ← c.as_slice.ensures.value) live
+pub returns-then-from-self-clause-value : goal.returns-then-from-self-clause-value
+returns-then-from-self-clause-value c =
+    sym (all_vain (lexicon_of c.args.compiled.now c.args.sensitive) c.args.self.now.seen.items
+    c.args.self.now.vain c.requires.vain (omega (arith, c.len-from.ensures, c.if-from-self.true)))
