@@ -11,6 +11,7 @@ mod Walks
 mod Carried
 mod ChunkSteps
 mod Fronts
+pub mod Growing
 mod Turns
 mod UnitWords
 mod Firsts
